@@ -1,0 +1,49 @@
+use mathlib.Core.Path.{sym, ap, _∙_}
+use denote.Ref.{now}
+use native.Mathlib.Omega.{arith}
+use Rattle.bridge.proofs.Fits.{is-misfit, is-fit, rx-fits, tx-fits, tx-room}
+use Rattle.bridge.proofs.Steps.{frame-misfit, frame-large, frame-busy, frame-done}
+use borrow.Author.Needs.{needs}
+use Rattle.bridge.proofs.loop_frame.Statement.{statement}
+use Rattle.bridge.proofs.loop_frame.Tie as tie
+
+returns : tie.Need-returns
+returns c =
+    frame-misfit (c .before .before .before .before .before .args .s) (now (c .before .before .before .before .before .args .rx)) (now (c .before .before .before .before .before .args .tx)) (is-misfit (c .before .before .state-fits .ensures) (c .before .if1 .taken)) _ _ (c .refused .ensures)
+
+returns-2 : tie.Need-returns-2
+returns-2 c =
+    frame-large (c .before .before .before .before .before .before .args .s) (now (c .before .before .before .before .before .before .args .rx)) (now (c .before .before .before .before .before .before .args .tx)) (is-fit (c .before .before .before .state-fits .ensures) (c .before .before .if1 .left)) _ _ (c .before .if2 .taken) (c .refused2 .ensures)
+
+busy-requires : tie.Need-busy-requires
+busy-requires c κs =
+    tx-room (c .before .before .before .before .before .args .s) (now (c .before .before .before .before .before .args .rx)) (now (c .before .before .before .before .before .args .tx)) (is-fit (c .before .before .state-fits .ensures) (c .before .if1 .left))
+
+returns-3 : tie.Need-returns-3
+returns-3 c =
+    frame-busy (c .before .before .before .before .before .before .before .before .args .s) (now (c .before .before .before .before .before .before .before .before .args .rx)) (now (c .before .before .before .before .before .before .before .before .args .tx)) (is-fit (c .before .before .before .before .before .state-fits .ensures) (c .before .before .before .before .if1 .left)) _ _ (c .before .before .before .if2 .left) (sym (c .before .before .busy .ensures) ∙ c .before .if3 .taken) (c .refused3 .ensures)
+
+frame-taken-requires : tie.Need-frame-taken-requires
+frame-taken-requires c κs =
+    (rx-fits (c .before .before .before .before .before .before .before .before .args .s) (now (c .before .before .before .before .before .before .before .before .args .rx)) (now (c .before .before .before .before .before .before .before .before .args .tx)) (is-fit (c .before .before .before .before .before .state-fits .ensures) (c .before .before .before .before .if1 .left)), tx-fits (c .before .before .before .before .before .before .before .before .args .s) (now (c .before .before .before .before .before .before .before .before .args .rx)) (now (c .before .before .before .before .before .before .before .before .args .tx)) (is-fit (c .before .before .before .before .before .state-fits .ensures) (c .before .before .before .before .if1 .left)))
+
+returns-4 : tie.Need-returns-4
+returns-4 c =
+    frame-done (c .before .before .before .before .before .before .before .before .before .before .before .args .s) (now (c .before .before .before .before .before .before .before .before .before .before .before .args .rx)) (now (c .before .before .before .before .before .before .before .before .before .before .before .args .tx)) (is-fit (c .before .before .before .before .before .before .before .before .state-fits .ensures) (c .before .before .before .before .before .before .before .if1 .left)) _ _ _ (c .before .before .before .before .before .before .if2 .left) (sym (c .before .before .before .before .before .busy .ensures) ∙ c .before .before .before .before .if3 .left) (c .before .before .frame-taken .ensures)
+
+pub loop-frame-spec : {M : Type 1} → statement M
+loop-frame-spec =
+    tie.close
+    (tie.spec
+    (λ c κs. search needs)
+    (λ c κs. search needs)
+    returns
+    (λ c κs. search needs)
+    returns-2
+    (λ c. search needs)
+    busy-requires
+    (λ c κs. search needs)
+    returns-3
+    frame-taken-requires
+    (λ c. search needs)
+    returns-4)

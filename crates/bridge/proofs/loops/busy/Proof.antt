@@ -1,0 +1,13 @@
+use Rattle.bridge.specs.LoopToLine.{busy}
+use borrow.Author.Needs.{needs}
+use Rattle.bridge.proofs.loops.busy.Statement.{statement}
+use Rattle.bridge.proofs.loops.busy.Tie as tie
+
+returns : tie.Need-returns
+unfolding busy
+returns c = cc
+
+pub busy-spec : {M : Type 1} → statement M
+busy-spec =
+    tie.close
+    (tie.spec (λ c. search needs) (λ c κs. search needs) (λ c κs. search needs) returns)

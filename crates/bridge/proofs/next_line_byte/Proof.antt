@@ -1,0 +1,35 @@
+use denote.Ref.{now}
+use Rattle.bridge.proofs.Fits.{is-misfit, is-fit, tx-fits}
+use Rattle.bridge.proofs.Steps.{next-misfit, next-done}
+use borrow.Author.Needs.{needs}
+use Rattle.bridge.proofs.next_line_byte.Statement.{statement}
+use Rattle.bridge.proofs.next_line_byte.Tie as tie
+
+returns : tie.Need-returns
+returns c =
+    next-misfit (c .before .before .before .before .before .args .s) (now (c .before .before .before .before .before .args .rx)) (now (c .before .before .before .before .before .args .tx)) (is-misfit (c .before .before .state-fits .ensures) (c .before .if1 .taken)) _ (c .refused .ensures)
+
+next-out-requires : tie.Need-next-out-requires
+next-out-requires c κs =
+    tx-fits (c .before .before .before .before .args .s) (now (c .before .before .before .before .args .rx)) (now (c .before .before .before .before .args .tx)) (is-fit (c .before .state-fits .ensures) (c .if1 .left))
+
+gone-requires : tie.Need-gone-requires
+gone-requires c κs =
+    (tx-fits (c .before .before .before .before .before .before .args .s) (now (c .before .before .before .before .before .before .args .rx)) (now (c .before .before .before .before .before .before .args .tx)) (is-fit (c .before .before .before .state-fits .ensures) (c .before .before .if1 .left)), c .before .next-out .ensures)
+
+returns-2 : tie.Need-returns-2
+returns-2 c =
+    next-done (c .before .before .before .before .before .before .before .before .args .s) (now (c .before .before .before .before .before .before .before .before .args .rx)) (now (c .before .before .before .before .before .before .before .before .args .tx)) (is-fit (c .before .before .before .before .before .state-fits .ensures) (c .before .before .before .before .if1 .left)) _ _ _ _ (c .before .before .before .next-out .ensures) (c .before .before .out-answer .ensures) (c .before .gone .ensures) (c .settled .ensures)
+
+pub next-line-byte-spec : {M : Type 1} → statement M
+next-line-byte-spec =
+    tie.close
+    (tie.spec
+    (λ c κs. search needs)
+    (λ c κs. search needs)
+    returns
+    next-out-requires
+    (λ c κs. search needs)
+    gone-requires
+    (λ c κs. search needs)
+    returns-2)

@@ -1,0 +1,49 @@
+use mathlib.Core.Path.{sym, ap, _∙_}
+use denote.Ref.{now}
+use Rattle.bridge.proofs.Fits.{is-misfit, is-fit, rx-fits, tx-fits}
+use Rattle.bridge.proofs.Steps.{show-misfit, show-receive, show-transmit, show-neither}
+use borrow.Author.Needs.{needs}
+use Rattle.bridge.proofs.show.Statement.{statement}
+use Rattle.bridge.proofs.show.Tie as tie
+
+returns : tie.Need-returns
+returns c =
+    show-misfit (c .before .before .before .before .before .args .s) (now (c .before .before .before .before .before .args .rx)) (now (c .before .before .before .before .before .args .tx)) (is-misfit (c .before .before .state-fits .ensures) (c .before .if1 .taken)) _
+
+show-requires : tie.Need-show-requires
+show-requires c κs =
+    rx-fits (c .before .before .before .before .before .args .s) (now (c .before .before .before .before .before .args .rx)) (now (c .before .before .before .before .before .args .tx)) (is-fit (c .before .before .state-fits .ensures) (c .before .if1 .left)) .ring
+
+returns-2 : tie.Need-returns-2
+returns-2 c =
+    c .show .ensures .bytes ∙ show-receive (c .before .before .before .before .before .before .args .s) (now (c .before .before .before .before .before .before .args .rx)) (now (c .before .before .before .before .before .before .args .tx)) (is-fit (c .before .before .before .state-fits .ensures) (c .before .before .if1 .left)) _ (c .before .if2 .taken)
+
+show-requires-2 : tie.Need-show-requires-2
+show-requires-2 c κs =
+    tx-fits (c .before .before .before .before .before .before .args .s) (now (c .before .before .before .before .before .before .args .rx)) (now (c .before .before .before .before .before .before .args .tx)) (is-fit (c .before .before .before .state-fits .ensures) (c .before .before .if1 .left)) .ring
+
+returns-3 : tie.Need-returns-3
+returns-3 c =
+    c .show2 .ensures .bytes ∙ show-transmit (c .before .before .before .before .before .before .before .args .s) (now (c .before .before .before .before .before .before .before .args .rx)) (now (c .before .before .before .before .before .before .before .args .tx)) (is-fit (c .before .before .before .before .state-fits .ensures) (c .before .before .before .if1 .left)) _ (c .before .before .if2 .left) (c .before .if3 .taken)
+
+returns-4 : tie.Need-returns-4
+returns-4 c =
+    show-neither (c .before .before .before .before .before .before .before .args .s) (now (c .before .before .before .before .before .before .before .args .rx)) (now (c .before .before .before .before .before .before .before .args .tx)) (is-fit (c .before .before .before .before .state-fits .ensures) (c .before .before .before .if1 .left)) _ (c .before .before .if2 .left) (c .before .if3 .left)
+
+pub show-spec : {M : Type 1} → statement M
+show-spec =
+    tie.close
+    (tie.spec
+    (λ c κs. search needs)
+    (λ c. search needs)
+    (λ c. search needs)
+    (λ c. search needs)
+    returns
+    show-requires
+    returns-2
+    show-requires-2
+    returns-3
+    (λ c. search needs)
+    (λ c. search needs)
+    (λ c. search needs)
+    returns-4)

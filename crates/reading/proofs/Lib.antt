@@ -1,0 +1,9 @@
+pub mod Cuts
+pub mod Reading
+pub mod Kept
+pub mod Decided
+pub mod Firsts
+pub mod Lawful
+pub mod Sends
+pub mod Product
+pub mod Machine

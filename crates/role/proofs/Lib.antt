@@ -1,0 +1,5 @@
+pub mod Composed
+pub mod FitLaws
+pub mod OrderLaws
+pub mod CommandLaws
+pub mod ReadyLaws

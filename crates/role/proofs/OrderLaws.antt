@@ -1,0 +1,87 @@
+-- Which orders the paper's "32+n" and "64+n" are, and that 31 is nobody's address.
+-- Assumes nothing.
+use Prim.Native.Nat.{ℕ, _+_, _≤_}
+use native.Mathlib.Omega.{arith}
+use mathlib.Core.Path.{_≡_, refl, _∙_}
+use mathlib.Core.Bool.{Bool, _&&_, _||_, and-false, and-not-self}
+use lib.Dec.{eqb}
+use borrow.Author.Tests.{eqb-true}
+use Rattle.cases.proofs.Cases.{by-cond}
+use Rattle.role.specs.declared.Role.{Role}
+use Rattle.role.specs.declared.Order.{Order}
+use Rattle.role.specs.declared.Order.the-variants.{Unlisten, Listen, Untalk, Talk, Clear, Deselect, Enable, Disable, Local, Unassign, Nothing}
+use Rattle.role.specs.Orders.{ownAddress, numberOf, baseOf, listenOrder, talkOrder, otherOrder, orderOf}
+use Rattle.role.specs.Commands.{merelyAddressed}
+
+-- with home address 31 our address is the address field
+pub own-31 : (r : Role) → ownAddress 31 r ≡ r .address
+unfolding ownAddress
+own-31 r = by-cond (λ a. a ≡ r .address) (eqb (r .address) 31) 31 (r .address) (λ e. omega (arith, eqb-true (r .address) 31 e)) (λ e. refl)
+
+pub listen-number : (home : ℕ) (r : Role) (n : ℕ) → n ≤ 31 → orderOf home r (32 + n) ≡ listenOrder (ownAddress home r) n
+unfolding orderOf
+listen-number home r n h =
+    let m : numberOf (32 + n) ≡ n = omega arith in
+    let b : baseOf (32 + n) ≡ 32 = omega arith in
+    rw (b, m)
+
+pub talk-number : (home : ℕ) (r : Role) (n : ℕ) → n ≤ 31 → orderOf home r (64 + n) ≡ talkOrder (ownAddress home r) n
+unfolding orderOf
+talk-number home r n h =
+    let m : numberOf (64 + n) ≡ n = omega arith in
+    let b : baseOf (64 + n) ≡ 64 = omega arith in
+    rw (b, m)
+
+-- 63 ends listening and 95 ends talking, whatever the address
+pub order-63 : (home : ℕ) (r : Role) → orderOf home r 63 ≡ Unlisten
+unfolding orderOf listenOrder
+order-63 home r = refl
+
+pub order-95 : (home : ℕ) (r : Role) → orderOf home r 95 ≡ Untalk
+unfolding orderOf talkOrder
+order-95 home r = rw (and-false (eqb 31 (ownAddress home r)))
+
+-- the flags by which an order is judged are those before the command
+pub judged : (home : ℕ) (r : Role) (d : ℕ) → orderOf home (merelyAddressed r) d ≡ orderOf home r d
+unfolding orderOf ownAddress merelyAddressed
+judged home r d = refl
+
+-- an order that makes nobody talker or listener
+abbrev pub Silent : Order → Type 0
+Silent Unlisten = Unit {0}
+Silent Listen = ⊥
+Silent Untalk = Unit {0}
+Silent Talk = ⊥
+Silent Clear = Unit {0}
+Silent Deselect = Unit {0}
+Silent Enable = Unit {0}
+Silent Disable = Unit {0}
+Silent Local = Unit {0}
+Silent Unassign = Unit {0}
+Silent Nothing = Unit {0}
+
+listen-31 : (n : ℕ) → Silent (listenOrder 31 n)
+unfolding listenOrder
+listen-31 n = by-cond Silent (eqb n 31) _ _ (λ e. tt) (λ e. rw e tt)
+
+talk-31 : (n : ℕ) → Silent (talkOrder 31 n)
+unfolding talkOrder
+talk-31 n = rw (and-not-self (eqb n 31)) tt
+
+other-silent : (l : Bool) (d : ℕ) → Silent (otherOrder l d)
+unfolding otherOrder
+other-silent l d =
+    by-cond Silent (eqb d 20 || (eqb d 4 && l)) _ _ (λ e. tt) (λ e.
+    by-cond Silent (eqb d 144) _ _ (λ e. tt) (λ e.
+    by-cond Silent (eqb d 146) _ _ (λ e. tt) (λ e.
+    by-cond Silent (eqb d 147) _ _ (λ e. tt) (λ e.
+    by-cond Silent (eqb d 1 && l) _ _ (λ e. tt) (λ e.
+    by-cond Silent (eqb d 154) _ _ (λ e. tt) (λ e. tt))))))
+
+-- unassigned and with home address 31, no command makes a talker or listener
+pub unassigned-silent : (r : Role) (d : ℕ) → r .address ≡ 31 → Silent (orderOf 31 r d)
+unfolding orderOf
+unassigned-silent r d h =
+    let a : ownAddress 31 r ≡ 31 = own-31 r ∙ h in
+    by-cond Silent (eqb (baseOf d) 32) _ _ (λ e. rw a (listen-31 (numberOf d))) (λ e.
+    by-cond Silent (eqb (baseOf d) 64) _ _ (λ e. rw a (talk-31 (numberOf d))) (λ e. other-silent (r .listener) d))

@@ -1,0 +1,88 @@
+-- What is known of the byte and the role where a ready frame asks something, and what ready frames keep.
+-- Assumes nothing.
+use Prim.Native.Nat.{ℕ, _+_, _≤_}
+use native.Mathlib.Omega.{arith}
+use mathlib.Core.Path.{_≡_, refl}
+use mathlib.Core.Bool.{true, false, _&&_, and-eq-true-iff}
+use lib.Dec.{eqb, leb}
+use borrow.Author.Tests.{eqb-true, eq-eqb, le-leb, leb-true}
+use Rattle.cases.proofs.Cases.{by-cond}
+use Rattle.role.specs.declared.Role.{Role}
+use Rattle.role.specs.declared.Ready.{Ready}
+use Rattle.role.specs.declared.Ready.the-variants.{Pass, Address, Data, Status, Finish}
+use Rattle.role.specs.Parts.{withAddress}
+use Rattle.role.specs.Orders.{numberOf, baseOf}
+use Rattle.role.specs.ReadyFrames.{givesAddress, readyOf, assignedRole, afterReady}
+use Rattle.role.specs.Fit.{Apart, Fit}
+use Rattle.role.proofs.FitLaws.{fit-address}
+
+-- a byte, a talker phase, and no address taken
+pub record Asked (r : Role) (d b t : ℕ) : Type 0 where
+  pub byte : d ≡ b
+  pub phase : r .talker ≡ t
+  pub rest : afterReady r d ≡ r
+
+-- 128+n, n at most 30, when unassigned
+pub record Given (r : Role) (d : ℕ) : Type 0 where
+  pub byte : d ≡ 128 + numberOf d
+  pub small : numberOf d ≤ 30
+  pub free : r .address ≡ 31
+  pub taken : afterReady r d ≡ assignedRole r d
+
+-- what each answer tells
+abbrev pub Told : Role → ℕ → Ready → Type 0
+Told r d Pass = afterReady r d ≡ r
+Told r d Address = Given r d
+Told r d Data = Asked r d 96 1
+Told r d Status = Asked r d 97 1
+Told r d Finish = Asked r d 66 2
+
+asked : (r : Role) (d b t : ℕ) → afterReady r d ≡ r → (eqb d b && eqb (r .talker) t) ≡ true → Asked r d b t
+asked r d b t s e =
+    let k = and-eq-true-iff (eqb d b) (eqb (r .talker) t) .0 e in
+    record { byte = eqb-true d b (k .0); phase = eqb-true (r .talker) t (k .1); rest = s }
+
+given : (r : Role) (d : ℕ) → givesAddress r d ≡ true → Given r d
+unfolding afterReady
+given r d e =
+    let b = and-eq-true-iff (eqb (baseOf d) 128 && leb (numberOf d) 30) (eqb (r .address) 31) .0 e in
+    let n = and-eq-true-iff (eqb (baseOf d) 128) (leb (numberOf d) 30) .0 (b .0) in
+    record {
+      byte = omega (arith, eqb-true (baseOf d) 128 (n .0));
+      small = leb-true (numberOf d) 30 (n .1);
+      free = eqb-true (r .address) 31 (b .1);
+      taken = rw e;
+    }
+
+passed : (r : Role) (d : ℕ) → givesAddress r d ≡ false → afterReady r d ≡ r
+unfolding afterReady
+passed r d e = rw e
+
+pub told : (r : Role) (d : ℕ) → Told r d (readyOf r d)
+unfolding readyOf
+told r d =
+    by-cond (Told r d) (givesAddress r d) _ _ (given r d) (λ e.
+    let s = passed r d e in
+    by-cond (Told r d) (eqb d 96 && eqb (r .talker) 1) _ _ (asked r d 96 1 s) (λ e.
+    by-cond (Told r d) (eqb d 97 && eqb (r .talker) 1) _ _ (asked r d 97 1 s) (λ e.
+    by-cond (Told r d) (eqb d 66 && eqb (r .talker) 2) _ _ (asked r d 66 2 s) (λ e. s))))
+
+-- "we take n"
+pub address-taken : (r : Role) (n : ℕ) → r .address ≡ 31 → n ≤ 30 → afterReady r (128 + n) ≡ withAddress r n
+unfolding afterReady
+address-taken r n u h =
+    let m : numberOf (128 + n) ≡ n = omega arith in
+    let b : baseOf (128 + n) ≡ 128 = omega arith in
+    rw (b, m, le-leb n 30 h, eq-eqb _ _ u)
+
+-- ready frames keep a role fitting, and touch neither talker nor listener
+pub ready-apart : (r : Role) (d : ℕ) → Apart r → Apart (afterReady r d)
+unfolding afterReady
+ready-apart r d a = by-cond Apart (givesAddress r d) (assignedRole r d) r (λ e. a) (λ e. a)
+
+pub assigned-fit : (r : Role) (d : ℕ) → Fit r → Fit (assignedRole r d)
+assigned-fit r d f = fit-address r (numberOf d) (omega arith) f
+
+pub ready-fit : (r : Role) (d : ℕ) → Fit r → Fit (afterReady r d)
+unfolding afterReady
+ready-fit r d f = by-cond Fit (givesAddress r d) (assignedRole r d) r (λ e. assigned-fit r d f) (λ e. f)

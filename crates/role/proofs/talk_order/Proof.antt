@@ -1,0 +1,13 @@
+-- `role::talk_order` meets its contract: each way out rewrites the definition with the tests that led there.
+use Rattle.cases.proofs.Cases.{cases}
+use Rattle.role.specs.Orders.{talkOrder}
+use Rattle.role.proofs.talk_order.Statement.{statement}
+use Rattle.role.proofs.talk_order.Tie as tie
+
+pub talk-order-spec : {M : Type 1} → statement M
+unfolding talkOrder
+talk-order-spec =
+    tie.close
+    (tie.spec
+    (λ c. search cases)
+    (λ c. search cases))

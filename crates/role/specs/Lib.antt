@@ -1,0 +1,5 @@
+pub mod Parts
+pub mod Orders
+pub mod Commands
+pub mod ReadyFrames
+pub mod Fit

@@ -1,0 +1,53 @@
+-- The parts of a role on the loop: the address, the talker phase, and the flags listener, remote enabled and remote.
+use Prim.Native.Nat.{ℕ}
+use mathlib.Core.Bool.{Bool, false}
+use lib.Dec.{eqb, leb}
+use Rattle.role.specs.declared.Role.{Role}
+
+-- the address field of a device that is "unassigned"
+abbrev pub none : ℕ
+none = 31
+
+-- the talker phases: no talker, "addressed, not active", "active with data", and active with the status byte
+abbrev pub idle : ℕ
+idle = 0
+
+abbrev pub addressed : ℕ
+addressed = 1
+
+abbrev pub activeData : ℕ
+activeData = 2
+
+abbrev pub activeStatus : ℕ
+activeStatus = 3
+
+abbrev pub isUnassigned : Role → Bool
+isUnassigned r = eqb (r .address) none
+
+-- talker in any phase
+abbrev pub isTalker : Role → Bool
+isTalker r = leb addressed (r .talker)
+
+-- "an active talker"
+abbrev pub isActive : Role → Bool
+isActive r = leb activeData (r .talker)
+
+-- "Start: address 31, unassigned."
+abbrev pub startRole : Role
+startRole = record { address = none; talker = idle; listener = false; enabled = false; remote = false }
+
+-- a role with one part changed
+abbrev pub withAddress : Role → ℕ → Role
+withAddress r a = record { address = a; talker = r .talker; listener = r .listener; enabled = r .enabled; remote = r .remote }
+
+abbrev pub withTalker : Role → ℕ → Role
+withTalker r t = record { address = r .address; talker = t; listener = r .listener; enabled = r .enabled; remote = r .remote }
+
+abbrev pub withListener : Role → Bool → Role
+withListener r l = record { address = r .address; talker = r .talker; listener = l; enabled = r .enabled; remote = r .remote }
+
+abbrev pub withEnabled : Role → Bool → Role
+withEnabled r e = record { address = r .address; talker = r .talker; listener = r .listener; enabled = e; remote = r .remote }
+
+abbrev pub withRemote : Role → Bool → Role
+withRemote r m = record { address = r .address; talker = r .talker; listener = r .listener; enabled = r .enabled; remote = m }

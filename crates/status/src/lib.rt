@@ -1,0 +1,78 @@
+// The status byte, and the conditions that begin a service request.
+ghost use mathlib.Core.Path.{_≡_};
+ghost use mathlib.Core.Bool.{cond};
+ghost use Prim.Native.Nat.{_≤_};
+ghost use Rattle.status.specs.Status.{statusByte, both, begins, acknowledged};
+
+// The seven conditions that can ask for service: which of them hold, or which are enabled.
+pub struct Conditions {
+    pub txempty: bool,
+    pub txroom: bool,
+    pub rxsome: bool,
+    pub rxfull: bool,
+    pub brk: bool,
+    pub overrun: bool,
+    pub key: bool,
+}
+
+// The three things that happen and are told until a status byte has told them.
+pub struct Events {
+    pub brk: bool,
+    pub overrun: bool,
+    pub key: bool,
+}
+
+// The value v where t holds, and 0 where not.
+fn worth(t: bool, v: u8) -> u8
+    ensures { λ r. ⌜ (r ≡ cond t v 0) × (r ≤ v) ⌝ }
+{
+    if t { v } else { 0 }
+}
+
+// The status byte that shows these conditions and whether service is requested.
+pub fn status_byte(c: Conditions, requested: bool) -> u8
+    ensures { λ r. ⌜ r ≡ statusByte c requested ⌝ }
+{
+    let low = worth(c.txempty, 1) + worth(c.txroom, 2) + worth(c.rxsome, 4) + worth(c.rxfull, 8);
+    let high = worth(c.brk, 16) + worth(c.overrun, 32) + worth(requested, 64) + worth(c.key, 128);
+    low + high
+}
+
+// The conditions that are enabled and hold.
+pub fn enabled_and_holding(e: Conditions, c: Conditions) -> Conditions
+    ensures { λ r. ⌜ r ≡ both e c ⌝ }
+{
+    Conditions {
+        txempty: e.txempty & c.txempty,
+        txroom: e.txroom & c.txroom,
+        rxsome: e.rxsome & c.rxsome,
+        rxfull: e.rxfull & c.rxfull,
+        brk: e.brk & c.brk,
+        overrun: e.overrun & c.overrun,
+        key: e.key & c.key,
+    }
+}
+
+// Whether one of them has come to hold: each as it was before a call and as it is after it.
+pub fn request_begins(b: Conditions, a: Conditions) -> bool
+    ensures { λ r. ⌜ r ≡ begins b a ⌝ }
+{
+    (a.txempty & !b.txempty)
+        | (a.txroom & !b.txroom)
+        | (a.rxsome & !b.rxsome)
+        | (a.rxfull & !b.rxfull)
+        | (a.brk & !b.brk)
+        | (a.overrun & !b.overrun)
+        | (a.key & !b.key)
+}
+
+// What is still to be told when the status byte d has come back unchanged.
+pub fn told(e: Events, again: Events, d: u8) -> Events
+    ensures { λ r. ⌜ r ≡ acknowledged e again d ⌝ }
+{
+    Events {
+        brk: e.brk & !((d / 16 % 2 == 1) & !again.brk),
+        overrun: e.overrun & !((d / 32 % 2 == 1) & !again.overrun),
+        key: e.key & !((d / 128 % 2 == 1) & !again.key),
+    }
+}

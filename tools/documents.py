@@ -1,0 +1,75 @@
+"""Holds the documents to the repository.
+
+Usage: python3 tools/documents.py           fails where a document is not true of the repository
+       python3 tools/documents.py --sizes   prints the table of sizes of docs/CHECKS.md
+"""
+import glob
+import os
+import re
+import sys
+
+NAME = re.compile(r"`(crates/[^`\s]+)`,? `([^`]+)`")
+
+
+def crates():
+    for line in open("crates.txt", encoding="utf-8"):
+        line = line.split("#")[0].strip()
+        if line:
+            yield line.split(":")[0].strip()
+
+
+def code_lines(pattern, comment):
+    """Lines that are neither blank nor only a comment."""
+    count = 0
+    for path in glob.glob(pattern, recursive=True):
+        for line in open(path, encoding="utf-8"):
+            text = line.strip()
+            count += bool(text) and not text.startswith(comment)
+    return count
+
+
+def sizes():
+    rows = ["| Crate | Code | Specs | Proofs | Must-fail edits |", "|---|---|---|---|---|"]
+    total = [0, 0, 0, 0]
+    for name in crates():
+        at = os.path.join("crates", name)
+        row = [
+            code_lines(f"{at}/src/**/*.rt", "//"),
+            code_lines(f"{at}/specs/**/*.antt", "--"),
+            code_lines(f"{at}/proofs/**/*.antt", "--"),
+            len(glob.glob(f"{at}/must-fail/*.edit")),
+        ]
+        total = [a + b for a, b in zip(total, row)]
+        rows.append(f"| {name} | " + " | ".join(map(str, row)) + " |")
+    rows.append("| all | " + " | ".join(map(str, total)) + " |")
+    return "\n".join(rows)
+
+
+def missing_names(path):
+    """Names that a document gives as `file`, `name` and that do not stand in that file."""
+    wrong = []
+    for number, line in enumerate(open(path, encoding="utf-8"), 1):
+        for where, names in NAME.findall(line):
+            for name in re.split(r"\s*,\s*", names):
+                if not os.path.exists(where):
+                    wrong.append(f"{path}:{number}: no file {where}")
+                elif not re.search(r"(^|[^\w'-])" + re.escape(name) + r"([^\w'-]|$)", open(where, encoding="utf-8").read()):
+                    wrong.append(f"{path}:{number}: no {name} in {where}")
+    return wrong
+
+
+def main():
+    if "--sizes" in sys.argv:
+        print(sizes())
+        return 0
+    wrong = [] if sizes() in open("docs/CHECKS.md", encoding="utf-8").read() else ["docs/CHECKS.md: its table of sizes is not the repository's (python3 tools/documents.py --sizes)"]
+    documents = sorted(glob.glob("docs/**/*.md", recursive=True)) + ["README.md"]
+    for path in documents:
+        wrong += missing_names(path)
+    for line in wrong:
+        print(line)
+    print(f"{len(documents)} documents, {len(wrong)} faults")
+    return 1 if wrong else 0
+
+
+sys.exit(main())
