@@ -10,17 +10,18 @@ use Rattle.cases.specs.Refusals.{firstRefusal}
 use Rattle.registers.specs.declared.Registers.{Registers}
 use Rattle.registers.specs.Writing.{writeChecks, written}
 use Rattle.store.specs.Ring.{run}
-use Rattle.bridge.specs.declared.State.{State}
-use Rattle.bridge.specs.declared.Outcome.{Outcome}
-use Rattle.bridge.specs.declared.Answer.{Answer}
-use Rattle.bridge.specs.declared.Answer.the-variants as answer
-use Rattle.bridge.specs.declared.Out.{Out}
-use Rattle.bridge.specs.Answers.{Said, said, refused}
-use Rattle.bridge.specs.Sizes.{sizesObeyed, startState, fits}
-use Rattle.bridge.specs.LoopToLine.{busy}
-use Rattle.bridge.specs.HoldingOff.{lineState, lineBytes, Taken, nextOut, goneState}
-use Rattle.bridge.specs.Status.{settled, breakState, keyState}
-use Rattle.bridge.specs.Calls.{Call, create, reset, write, lineByte, lineBreak, key, nextLineByte, loopFrame, World, Did, world, did, checks, outcome, doneWith, refusedWith, settledBy, rxAfter, txAfter, accepted, refusedOr, step, shown, afterWrite, outAnswer, Created}
+use Rattle.state.specs.declared.State.{State}
+use Rattle.state.specs.declared.Outcome.{Outcome}
+use Rattle.state.specs.declared.Answer.{Answer}
+use Rattle.state.specs.declared.Answer.the-variants as answer
+use Rattle.state.specs.declared.Out.{Out}
+use Rattle.state.specs.Answers.{Said, said, refused}
+use Rattle.state.specs.Sizes.{sizesObeyed, startState, fits}
+use Rattle.loops.specs.LoopToLine.{busy}
+use Rattle.loops.specs.Frames.{frameSettled, Framed}
+use Rattle.line.specs.HoldingOff.{lineState, lineBytes, Taken, afterWrite, nextOut, goneState, outAnswer}
+use Rattle.state.specs.Status.{settled, breakState, keyState}
+use Rattle.bridge.specs.Calls.{Call, create, reset, write, lineByte, lineBreak, key, nextLineByte, loopFrame, World, Did, world, did, checks, outcome, doneWith, refusedWith, settledBy, rxAfter, txAfter, accepted, refusedOr, step, shown, Created}
 
 module _ (s : State) (rx tx : List ℕ) (e : fits s (length rx) (length tx) ≡ false) where
   pub reset-misfit : (o : Outcome) → o ≡ refusedWith s 2 → did o rx tx ≡ step reset (world s rx tx)
@@ -94,9 +95,9 @@ module _ (s : State) (rx tx : List ℕ) (e : fits s (length rx) (length tx) ≡ 
   unfolding step refusedOr checks said
   frame-busy o f h b q = rw (q, e, le-ltb 2047 f h, b)
 
-  pub frame-done : (o : Outcome) (f : ℕ) (tx′ : List ℕ) → f ≤ 2047 → busy s f ≡ false → did o rx tx′ ≡ accepted (loopFrame f) (world s rx tx) → did o rx tx′ ≡ step (loopFrame f) (world s rx tx)
-  unfolding step refusedOr checks
-  frame-done o f tx′ h b q = q ∙ rw (e, le-ltb 2047 f h, b)
+  pub frame-done : (o : Outcome) (f : ℕ) (tx′ : List ℕ) → f ≤ 2047 → busy s f ≡ false → Framed s rx tx f tx′ o → did o rx tx′ ≡ step (loopFrame f) (world s rx tx)
+  unfolding step refusedOr checks accepted outcome settledBy rxAfter txAfter frameSettled
+  frame-done o f tx′ h b q = rw (q .outcome, q .bytes, e, le-ltb 2047 f h, b)
 
   pub show-receive : (side : ℕ) → side ≡ 0 → run rx (s .rx) ≡ shown side (world s rx tx)
   unfolding shown

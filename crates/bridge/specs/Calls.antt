@@ -6,24 +6,18 @@ use mathlib.Core.List.{List, [], _∷_}
 use lib.Dec.{eqb, ltb}
 use lib.ListN.{length}
 use Rattle.cases.specs.Refusals.{Check, check, firstRefusal}
-use Rattle.frame.specs.Frame.{controlOf, isData}
-use Rattle.registers.specs.declared.Registers.{Registers}
 use Rattle.registers.specs.Writing.{writeChecks, written}
-use Rattle.role.specs.Parts.{isActive}
 use Rattle.store.specs.Ring.{run}
-use Rattle.bridge.specs.declared.State.{State}
-use Rattle.bridge.specs.declared.Outcome.{Outcome}
-use Rattle.bridge.specs.declared.Answer.{Answer}
-use Rattle.bridge.specs.declared.Answer.the-variants as answer
-use Rattle.bridge.specs.declared.Out.{Out}
-use Rattle.bridge.specs.declared.Out.the-variants as out
-use Rattle.bridge.specs.State.{withRegisters}
-use Rattle.bridge.specs.Answers.{Said, said, refused, part}
-use Rattle.bridge.specs.Sizes.{sizesObeyed, startState, fits}
-use Rattle.bridge.specs.LoopToLine.{busy, leftBytes}
-use Rattle.bridge.specs.HoldingOff.{lineState, lineBytes, setAfresh, nextOut, goneState}
-use Rattle.bridge.specs.Status.{settled, breakState, keyState}
-use Rattle.bridge.specs.Frames.{isClear, orderIn, frameTaken}
+use Rattle.state.specs.declared.State.{State}
+use Rattle.state.specs.declared.Outcome.{Outcome}
+use Rattle.state.specs.declared.Answer.{Answer}
+use Rattle.state.specs.declared.Answer.the-variants as answer
+use Rattle.state.specs.Answers.{Said, said, refused, part}
+use Rattle.state.specs.Sizes.{sizesObeyed, startState, fits}
+use Rattle.loops.specs.LoopToLine.{busy}
+use Rattle.line.specs.HoldingOff.{lineState, lineBytes, afterWrite, nextOut, goneState, outAnswer}
+use Rattle.state.specs.Status.{settled, breakState, keyState}
+use Rattle.loops.specs.Frames.{deviceClear, frameTaken, frameBytes}
 
 -- "Calls: create, reset, write a register, take a line byte, take a break, take a press of the MSRQ key, give the next line byte, take a
 -- loop frame, show a store."
@@ -75,16 +69,6 @@ checks (show side) w = []
 
 -- ---- what a call that is not refused does
 
--- "Writing R11" does more than change the register
-unfoldable pub afterWrite : State → ℕ → Registers → State
-afterWrite s n g = cond (eqb n 11) (setAfresh (withRegisters s g)) (withRegisters s g)
-
--- the answer for the byte that is next
-unfoldable pub outAnswer : Out → Answer
-outAnswer (out.Own b) = answer.Byte b
-outAnswer (out.Held b) = answer.Byte b
-outAnswer out.Nothing = answer.Nothing
-
 abbrev pub doneWith : State → Outcome
 doneWith s = record { state = s; answer = answer.Done }
 
@@ -101,10 +85,6 @@ outcome key w = doneWith (keyState (w .state))
 outcome nextLineByte w = record { state = goneState (w .state) (nextOut (w .state) (w .tx)); answer = outAnswer (nextOut (w .state) (w .tx)) }
 outcome (loopFrame f) w = frameTaken (w .state) (w .rx) f
 outcome (show side) w = doneWith (w .state)
-
--- "A device clear leaves no request."
-unfoldable pub deviceClear : State → ℕ → Bool
-deviceClear s f = eqb (controlOf f) 4 && isClear (orderIn s f)
 
 -- requests begin in one place for all calls: create has no state before it, and a device clear leaves none
 unfoldable pub settledBy : Call → State → State → State
@@ -130,13 +110,9 @@ rxAfter nextLineByte w = w .rx
 rxAfter (loopFrame f) w = w .rx
 rxAfter (show side) w = w .rx
 
--- a data frame that a listener stores
-unfoldable pub leavesBytes : State → ℕ → Bool
-leavesBytes s f = (isData f && not (isActive (s .role))) && s .role .listener
-
 -- the bytes of the transmit store after a call
 unfoldable pub txAfter : Call → World → List ℕ
-txAfter (loopFrame f) w = cond (leavesBytes (w .state) f) (leftBytes (w .state) (w .tx) f) (w .tx)
+txAfter (loopFrame f) w = frameBytes (w .state) (w .tx) f
 txAfter (create m) w = w .tx
 txAfter reset w = w .tx
 txAfter (write n v) w = w .tx

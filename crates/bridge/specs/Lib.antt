@@ -1,13 +1,6 @@
--- The paper as definitions, a file for each of its headings and in its order. `State` and `Answers` come first: the state's parts, and
--- what an answer is in the paper. Registers have their definitions in the crate registers, the reading rule in reading, the talker,
--- listener and remote flags in role, the bits of the status byte in status, and places in store.
-pub mod State
-pub mod Answers
-pub mod Sizes
-pub mod Counts
-pub mod LoopToLine
-pub mod HoldingOff
-pub mod Status
-pub mod Sending
-pub mod Frames
+-- The calls. The paper's other headings have their definitions below, in its order:
+-- "Sizes and refusals": Sizes of the crate state, and store; "Registers": the crate registers; "Frames": Frames of the crate loops,
+-- and the crates frame and role; "The reading rule": Steps of the crate reading; a send: Sending of loops, and the crate sending;
+-- "Loop to line": LoopToLine of loops; "Holding the line off": HoldingOff of the crate line; "Status byte": Status of state, and the
+-- crate status; the counts: Counts of state. What an answer is in the paper: Answers of state.
 pub mod Calls

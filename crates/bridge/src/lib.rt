@@ -1,84 +1,9 @@
 // The bridge: a software HP-IL/RS-232 interface. The state goes in by value and comes back; both stores are lent at every call.
 ghost use mathlib.Core.Path.{_≡_};
 ghost use Rattle.bridge.specs.Calls.{step, world, did, doneWith, refusedWith, shown, Created, reset, write, lineByte, lineBreak, key, nextLineByte, loopFrame};
-use registers::Registers;
-use role::Role;
-use status::Events;
-use store::Ring;
-
-mod fitting;
-mod lines;
-mod loops;
-mod requests;
-mod talk;
-
-// The recorded lengths of the stores, and the margin.
-pub struct Sizes {
-    pub rx: usize,
-    pub tx: usize,
-    pub margin: usize,
-}
-
-// The frame under way, its service bit off, and whether sending ends after it.
-pub struct Under {
-    pub frame: u16,
-    pub finishing: bool,
-}
-
-// Whether we hold the line off, whether the other end forbids our sending, and whether stop was the last of go and stop that we sent.
-pub struct Line {
-    pub holding: bool,
-    pub forbidden: bool,
-    pub stopped: bool,
-}
-
-// What happened and is to be told, what happened again since a status byte was sent, and whether service is requested.
-pub struct Notes {
-    pub seen: Events,
-    pub again: Events,
-    pub request: bool,
-}
-
-// Bytes stored in the receive store, bytes lost, and data frames sent from it.
-pub struct Counts {
-    pub stored: u32,
-    pub lost: u32,
-    pub sent: u32,
-}
-
-pub struct State {
-    pub sizes: Sizes,
-    pub regs: Registers,
-    pub role: Role,
-    pub under: Under,
-    pub rx: Ring,
-    pub tx: Ring,
-    pub line: Line,
-    pub notes: Notes,
-    pub counts: Counts,
-}
-
-// A call has nothing to hand out, has no line byte to give, gives a line byte, gives a frame, or is refused.
-pub enum Answer {
-    Done,
-    Nothing,
-    Byte(u8),
-    Frame(u16),
-    Refused(u8),
-}
-
-// The next line byte: our own go or stop, one held in the transmit store, or none.
-pub enum Out {
-    Own(u8),
-    Held(u8),
-    Nothing,
-}
-
-// What a call answers, and the state after it.
-pub struct Outcome {
-    pub state: State,
-    pub answer: Answer,
-}
+use state::Answer;
+use state::Outcome;
+use state::State;
 
 // The state as it was, and the refusal's number.
 fn refused(s: State, n: u8) -> Outcome
@@ -104,8 +29,8 @@ fn done(s: State) -> Outcome
 pub fn create(rx: &[u8], tx: &[u8], margin: usize) -> Outcome
     ensures { λ r. ⌜ Created margin (now (rx .entry)) (now (tx .entry)) r ⌝ }
 {
-    let s = fitting::start(margin, rx.len(), tx.len());
-    if fitting::sizes_obeyed(margin, rx.len(), tx.len()) {
+    let s = state::fitting::start(margin, rx.len(), tx.len());
+    if state::fitting::sizes_obeyed(margin, rx.len(), tx.len()) {
         done(s)
     } else {
         refused(s, 1)
@@ -116,18 +41,18 @@ pub fn create(rx: &[u8], tx: &[u8], margin: usize) -> Outcome
 pub fn reset(s: State, rx: &[u8], tx: &[u8]) -> Outcome
     ensures { λ r. ⌜ did r (now (rx .entry)) (now (tx .entry)) ≡ step reset (world s (now (rx .entry)) (now (tx .entry))) ⌝ }
 {
-    if !fitting::state_fits(s, rx.len(), tx.len()) {
+    if !state::fitting::state_fits(s, rx.len(), tx.len()) {
         return refused(s, 2);
     }
-    let t = fitting::start(s.sizes.margin, rx.len(), tx.len());
-    done(requests::settled(s, t))
+    let t = state::fitting::start(s.sizes.margin, rx.len(), tx.len());
+    done(state::requests::settled(s, t))
 }
 
 // Writes the register of this number.
 pub fn write_register(s: State, rx: &[u8], tx: &[u8], number: u32, value: u32) -> Outcome
     ensures { λ r. ⌜ did r (now (rx .entry)) (now (tx .entry)) ≡ step (write number value) (world s (now (rx .entry)) (now (tx .entry))) ⌝ }
 {
-    if !fitting::state_fits(s, rx.len(), tx.len()) {
+    if !state::fitting::state_fits(s, rx.len(), tx.len()) {
         return refused(s, 2);
     }
     let fault = registers::refused(s.regs, number, value);
@@ -135,55 +60,55 @@ pub fn write_register(s: State, rx: &[u8], tx: &[u8], number: u32, value: u32) -
         return refused(s, fault);
     }
     let g = registers::written(s.regs, number, value);
-    let t = lines::after_write(s, number, g);
-    done(requests::settled(s, t))
+    let t = line::after_write(s, number, g);
+    done(state::requests::settled(s, t))
 }
 
 // Takes a byte from the line.
 pub fn line_byte(s: State, rx: &mut [u8], tx: &[u8], b: u8) -> Outcome
     ensures { λ r. ⌜ did r (now (rx .exit)) (now (tx .entry)) ≡ step (lineByte b) (world s (now (rx .entry)) (now (tx .entry))) ⌝ }
 {
-    if !fitting::state_fits(s, rx.len(), tx.len()) {
+    if !state::fitting::state_fits(s, rx.len(), tx.len()) {
         return refused(s, 2);
     }
-    let t = lines::taken(s, rx, b);
-    done(requests::settled(s, t))
+    let t = line::taken(s, rx, b);
+    done(state::requests::settled(s, t))
 }
 
 // Takes a break on the line.
 pub fn take_break(s: State, rx: &mut [u8], tx: &[u8]) -> Outcome
     ensures { λ r. ⌜ did r (now (rx .exit)) (now (tx .entry)) ≡ step lineBreak (world s (now (rx .entry)) (now (tx .entry))) ⌝ }
 {
-    if !fitting::state_fits(s, rx.len(), tx.len()) {
+    if !state::fitting::state_fits(s, rx.len(), tx.len()) {
         return refused(s, 2);
     }
-    let t = requests::broken(s);
-    done(requests::settled(s, t))
+    let t = state::requests::broken(s);
+    done(state::requests::settled(s, t))
 }
 
 // Takes a press of the MSRQ key.
 pub fn take_key(s: State, rx: &[u8], tx: &[u8]) -> Outcome
     ensures { λ r. ⌜ did r (now (rx .entry)) (now (tx .entry)) ≡ step key (world s (now (rx .entry)) (now (tx .entry))) ⌝ }
 {
-    if !fitting::state_fits(s, rx.len(), tx.len()) {
+    if !state::fitting::state_fits(s, rx.len(), tx.len()) {
         return refused(s, 2);
     }
-    let t = requests::pressed(s);
-    done(requests::settled(s, t))
+    let t = state::requests::pressed(s);
+    done(state::requests::settled(s, t))
 }
 
 // Gives the next line byte.
 pub fn next_line_byte(s: State, rx: &[u8], tx: &[u8]) -> Outcome
     ensures { λ r. ⌜ did r (now (rx .entry)) (now (tx .entry)) ≡ step nextLineByte (world s (now (rx .entry)) (now (tx .entry))) ⌝ }
 {
-    if !fitting::state_fits(s, rx.len(), tx.len()) {
+    if !state::fitting::state_fits(s, rx.len(), tx.len()) {
         return refused(s, 2);
     }
-    let o = lines::next_out(s, tx);
-    let a = lines::out_answer(o);
-    let t = lines::gone(s, tx, o);
+    let o = line::next_out(s, tx);
+    let a = line::out_answer(o);
+    let t = line::gone(s, tx, o);
     Outcome {
-        state: requests::settled(s, t),
+        state: state::requests::settled(s, t),
         answer: a,
     }
 }
@@ -192,7 +117,7 @@ pub fn next_line_byte(s: State, rx: &[u8], tx: &[u8]) -> Outcome
 pub fn loop_frame(s: State, rx: &[u8], tx: &mut [u8], frame: u32) -> Outcome
     ensures { λ r. ⌜ did r (now (rx .entry)) (now (tx .exit)) ≡ step (loopFrame frame) (world s (now (rx .entry)) (now (tx .entry))) ⌝ }
 {
-    if !fitting::state_fits(s, rx.len(), tx.len()) {
+    if !state::fitting::state_fits(s, rx.len(), tx.len()) {
         return refused(s, 2);
     }
     if frame > 2047 {
@@ -209,7 +134,7 @@ pub fn loop_frame(s: State, rx: &[u8], tx: &mut [u8], frame: u32) -> Outcome
 pub fn show<'a>(s: State, rx: &'a [u8], tx: &'a [u8], side: u32) -> &'a [u8]
     ensures { λ o. ⌜ now o ≡ shown side (world s (now (rx .entry)) (now (tx .entry))) ⌝ }
 {
-    if !fitting::state_fits(s, rx.len(), tx.len()) {
+    if !state::fitting::state_fits(s, rx.len(), tx.len()) {
         return &rx[0..0];
     }
     if side == 0 {

@@ -1,5 +1,5 @@
 use denote.Ref.{now}
-use Rattle.bridge.proofs.Fits.{is-misfit, is-fit, rx-fits}
+use Rattle.state.proofs.Fits.{is-misfit, is-fit, rx-fits}
 use Rattle.bridge.proofs.Steps.{line-misfit, line-done}
 use borrow.Author.Needs.{needs}
 use Rattle.bridge.proofs.line_byte.Statement.{statement}

@@ -1,7 +1,7 @@
 use mathlib.Core.Path.{sym, ap, _∙_}
 use denote.Ref.{now}
 use native.Mathlib.Omega.{arith}
-use Rattle.bridge.proofs.Fits.{is-misfit, is-fit, rx-fits, tx-fits, tx-room}
+use Rattle.state.proofs.Fits.{is-misfit, is-fit, rx-fits, tx-fits, tx-room}
 use Rattle.bridge.proofs.Steps.{frame-misfit, frame-large, frame-busy, frame-done}
 use borrow.Author.Needs.{needs}
 use Rattle.bridge.proofs.loop_frame.Statement.{statement}

@@ -1,5 +1,5 @@
 use denote.Ref.{now}
-use Rattle.bridge.proofs.Fits.{is-misfit, is-fit, tx-fits}
+use Rattle.state.proofs.Fits.{is-misfit, is-fit, tx-fits}
 use Rattle.bridge.proofs.Steps.{next-misfit, next-done}
 use borrow.Author.Needs.{needs}
 use Rattle.bridge.proofs.next_line_byte.Statement.{statement}

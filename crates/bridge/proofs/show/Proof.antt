@@ -1,6 +1,6 @@
 use mathlib.Core.Path.{sym, ap, _∙_}
 use denote.Ref.{now}
-use Rattle.bridge.proofs.Fits.{is-misfit, is-fit, rx-fits, tx-fits}
+use Rattle.state.proofs.Fits.{is-misfit, is-fit, rx-fits, tx-fits}
 use Rattle.bridge.proofs.Steps.{show-misfit, show-receive, show-transmit, show-neither}
 use borrow.Author.Needs.{needs}
 use Rattle.bridge.proofs.show.Statement.{statement}

@@ -1,5 +1,5 @@
 use denote.Ref.{now}
-use Rattle.bridge.proofs.Fits.{is-misfit, is-fit}
+use Rattle.state.proofs.Fits.{is-misfit, is-fit}
 use Rattle.bridge.proofs.Steps.{key-misfit, key-done}
 use borrow.Author.Needs.{needs}
 use Rattle.bridge.proofs.take_key.Statement.{statement}

@@ -1,6 +1,6 @@
 use mathlib.Core.Path.{sym, ap, _∙_}
 use denote.Ref.{now}
-use Rattle.bridge.proofs.Fits.{is-misfit, is-fit, rx-room}
+use Rattle.state.proofs.Fits.{is-misfit, is-fit, rx-room}
 use Rattle.bridge.proofs.Steps.{write-misfit, write-refused, write-done}
 use Rattle.registers.proofs.Refusals.{accepted-written}
 use borrow.Author.Needs.{needs}

@@ -1,0 +1,119 @@
+-- Line bytes in and out, and register writes. Assumes nothing.
+use Prim.Native.Nat.{ℕ, _≤_, _<_, _-_}
+use native.Mathlib.Omega.{arith}
+use mathlib.Core.Path.{_≡_, refl, sym, ap, _∙_}
+use mathlib.Core.List.{List}
+use mathlib.Core.Bool.{Bool, true, false, cond, _&&_, _||_, not, false≢true}
+use lib.Dec.{eqb, leb}
+use lib.ListN.{length, getD}
+use borrow.Author.Tests.{eq-eqb, ne-eqb, eqb-false, leb-true, leb-false}
+use Rattle.registers.specs.declared.Registers.{Registers}
+use Rattle.registers.specs.Meanings.{protocolOn, go, stop}
+use Rattle.store.specs.declared.Ring.{Ring}
+use Rattle.store.specs.declared.Offered.{Offered}
+use Rattle.store.specs.Ring.{held, full, putRing, putBytes, dropRing}
+use Rattle.store.specs.Promises.{Put, Dropped}
+use Rattle.store.proofs.Laws.{put-full, put-size}
+use Rattle.state.specs.declared.State.{State}
+use Rattle.state.specs.declared.Out.{Out}
+use Rattle.state.specs.declared.Out.the-variants.{Own, Held, Nothing}
+use Rattle.state.specs.State.{withRegisters, withLine, withTx}
+use Rattle.state.specs.Sizes.{RxFits}
+use Rattle.line.specs.HoldingOff.{isFlow, flowed, free, storedWith, lostState, lineState, lineBytes, Taken, setAfresh, afterWrite, owed, nextOut, goneState}
+
+-- ---- a line byte
+
+module _ (s : State) (rx : List ℕ) (b : ℕ) where
+  pub taken-flow : (t : State) → isFlow (s .regs) b ≡ true → t ≡ flowed s b → Taken s rx b rx t
+  unfolding lineState lineBytes
+  taken-flow t e q = record { state = rw (q, e); bytes = rw e; size = refl }
+
+  module _ (rx′ : List ℕ) (o : Offered) (size : s .sizes .rx ≡ length rx) (e : isFlow (s .regs) b ≡ false) (p : Put rx (s .rx) b rx′ o) where
+    put-written : rx′ ≡ lineBytes s rx b
+    unfolding lineBytes
+    put-written = rw e (p .bytes)
+
+    pub taken-stored : (t : State) → o .stored ≡ true → t ≡ storedWith s (o .ring) → Taken s rx b rx′ t
+    unfolding lineState
+    taken-stored t h q =
+        let room : full (s .sizes .rx) (s .rx) ≡ false = ap (λ (n : ℕ). full n (s .rx)) size ∙ not-is (full (length rx) (s .rx)) (sym (p .stored) ∙ h) in
+        record { state = rw (e, room) (q ∙ ap (storedWith s) (p .ring ∙ ap (λ (n : ℕ). putRing n (s .rx)) (sym size))); bytes = put-written; size = p .size }
+      where
+        not-is : (x : Bool) → not x ≡ true → x ≡ false
+        not-is true h = sym h
+        not-is false h = refl
+
+    pub taken-lost : (t : State) → o .stored ≡ false → t ≡ lostState s → Taken s rx b rx′ t
+    unfolding lineState
+    taken-lost t h q =
+        let none : full (s .sizes .rx) (s .rx) ≡ true = ap (λ (n : ℕ). full n (s .rx)) size ∙ not-is (full (length rx) (s .rx)) (sym (p .stored) ∙ h) in
+        record { state = rw (e, none) q; bytes = put-written; size = p .size }
+      where
+        not-is : (x : Bool) → not x ≡ false → x ≡ true
+        not-is true h = refl
+        not-is false h = sym h
+
+-- ---- a register written
+
+module _ (s : State) (n : ℕ) (g : Registers) where
+  pub write-flow : (near on : Bool) → n ≡ 11 → near ≡ leb (free (withRegisters s g)) (s .sizes .margin) → on ≡ protocolOn g →
+      withLine (withRegisters s g) (record { holding = on && near; forbidden = false; stopped = s .line .stopped }) ≡ afterWrite s n g
+  unfolding afterWrite setAfresh
+  write-flow near on e p q = rw (eq-eqb n 11 e, p, q)
+
+  pub write-other : (n ≡ 11 → ⊥) → withRegisters s g ≡ afterWrite s n g
+  unfolding afterWrite
+  write-other d = rw (ne-eqb n 11 d)
+
+-- ---- a line byte out
+
+module _ (s : State) (tx : List ℕ) where
+  pub next-stop : owed (s .line) ≡ true → s .line .holding ≡ true → Own (s .regs .c05) ≡ nextOut s tx
+  unfolding nextOut
+  next-stop e h = rw (e, h)
+
+  pub next-go : owed (s .line) ≡ true → s .line .holding ≡ false → Own (s .regs .c04) ≡ nextOut s tx
+  unfolding nextOut
+  next-go e h = rw (e, h)
+
+  pub next-none : owed (s .line) ≡ false → (s .line .forbidden || eqb (s .tx .len) 0) ≡ true → Nothing ≡ nextOut s tx
+  unfolding nextOut
+  next-none e h = rw (e, h)
+
+  pub next-held : (b : ℕ) → owed (s .line) ≡ false → (s .line .forbidden || eqb (s .tx .len) 0) ≡ false → b ≡ getD (held tx (s .tx)) 0 0 → Held b ≡ nextOut s tx
+  unfolding nextOut
+  next-held b e h q = rw (e, h, q)
+
+  -- the transmit store holds something
+  pub some-held : (s .line .forbidden || eqb (s .tx .len) 0) ≡ false → 0 < s .tx .len
+  some-held h = go (s .line .forbidden) (eqb (s .tx .len) 0) refl h
+    where
+      go : (a t : Bool) → eqb (s .tx .len) 0 ≡ t → (a || t) ≡ false → 0 < s .tx .len
+      go true t e h = absurd (false≢true (sym h))
+      go false true e h = absurd (false≢true (sym h))
+      go false false e h = omega (arith, eqb-false (s .tx .len) 0 e)
+
+  pub gone-some : (b : ℕ) → Held b ≡ nextOut s tx → 1 ≤ s .tx .len
+  unfolding nextOut
+  gone-some b e = go (owed (s .line)) (s .line .forbidden || eqb (s .tx .len) 0) refl e
+    where
+      go : (w t : Bool) → (s .line .forbidden || eqb (s .tx .len) 0) ≡ t →
+          Held b ≡ cond w (Own (cond (s .line .holding) (stop (s .regs)) (s .regs .c04))) (cond t Nothing (Held (getD (held tx (s .tx)) 0 0))) → 1 ≤ s .tx .len
+      go true t h e = let z : _≡_ {A = ℕ} 0 1 = cc in absurd (omega arith)
+      go false true h e = let z : _≡_ {A = ℕ} 0 1 = cc in absurd (omega arith)
+      go false false h e = some-held h
+
+-- ---- a line byte gone
+
+module _ (s : State) (o : Out) where
+  pub gone-own : (b : ℕ) → o ≡ Own b → withLine s (record { holding = s .line .holding; forbidden = s .line .forbidden; stopped = s .line .holding }) ≡ goneState s o
+  unfolding goneState
+  gone-own b e = rw e
+
+  pub gone-held : (tx : List ℕ) (b : ℕ) (r : Ring) → o ≡ Held b → s .sizes .tx ≡ length tx → Dropped tx (s .tx) 1 r → withTx s r ≡ goneState s o
+  unfolding goneState
+  gone-held tx b r e size d = rw e (ap (withTx s) (d .ring ∙ ap (λ (n : ℕ). dropRing n (s .tx) 1) (sym size)))
+
+  pub gone-none : o ≡ Nothing → s ≡ goneState s o
+  unfolding goneState
+  gone-none e = rw e

@@ -1,0 +1,32 @@
+use mathlib.Core.Path.{sym, ap, _∙_}
+use Rattle.line.proofs.Parts.{taken-flow, taken-stored, taken-lost}
+use borrow.Author.Needs.{needs}
+use Rattle.line.proofs.taken.Statement.{statement}
+use Rattle.line.proofs.taken.Tie as tie
+
+returns : tie.Need-returns
+returns c =
+    taken-flow _ _ _ _ (sym (c .before .before .is-flow .ensures) ∙ c .before .if1 .taken) (c .permitted .ensures)
+
+returns-2 : tie.Need-returns-2
+returns-2 c =
+    taken-stored _ _ _ _ _ (c .before .before .before .before .before .before .before .before .before .before .pre .size) (sym (c .before .before .before .before .before .before .before .before .is-flow .ensures) ∙ c .before .before .before .before .before .before .before .if1 .left) (c .before .before .before .before .before .put .ensures) _ (c .before .if2 .taken) (c .stored .ensures)
+
+returns-3 : tie.Need-returns-3
+returns-3 c =
+    taken-lost _ _ _ _ _ (c .before .before .before .before .before .before .before .before .before .before .pre .size) (sym (c .before .before .before .before .before .before .before .before .is-flow .ensures) ∙ c .before .before .before .before .before .before .before .if1 .left) (c .before .before .before .before .before .put .ensures) _ (c .before .if2 .left) (c .lost .ensures)
+
+pub taken-spec : {M : Type 1} → statement M
+taken-spec =
+    tie.close
+    (tie.spec
+    (λ c κs. search needs)
+    (λ c κs. search needs)
+    returns
+    (λ c κs. search needs)
+    (λ c κs. search needs)
+    (λ c κs. search needs)
+    (λ c. search needs)
+    returns-2
+    (λ c. search needs)
+    returns-3)

@@ -1,0 +1,158 @@
+// The line side: bytes in, holding off, and bytes out.
+ghost use mathlib.Core.Path.{_≡_};
+ghost use Prim.Native.Nat.{_≤_};
+ghost use lib.Dec.{leb};
+ghost use Rattle.state.specs.Sizes.{RxFits, TxFits};
+ghost use Rattle.line.specs.HoldingOff.{isFlow, flowed, free, storedWith, lostState, Taken, resumed, afterWrite, nextOut, goneState, outAnswer};
+use state::Answer;
+use state::Out;
+use state::State;
+use registers::Registers;
+use store::Ring;
+
+// Whether a line byte is go or stop with the receiver protocol on.
+fn is_flow(g: Registers, b: u8) -> bool
+    ensures { λ r. ⌜ r ≡ isFlow g b ⌝ }
+{
+    registers::protocol_on(g) & ((b == g.c04) | (b == g.c05))
+}
+
+// Go permits our sending and stop forbids it.
+fn permitted(s: State, b: u8) -> State
+    ensures { λ r. ⌜ r ≡ flowed s b ⌝ }
+{
+    let mut t = s;
+    let forbidden = b == s.regs.c05;
+    t.line.forbidden = forbidden;
+    t
+}
+
+// Whether the margin or less is free in the receive store.
+fn scarce(s: State) -> bool
+    requires { ⌜ s .rx .len ≤ s .sizes .rx ⌝ }
+    ensures { λ r. ⌜ r ≡ leb (free s) (s .sizes .margin) ⌝ }
+{
+    s.sizes.rx - s.rx.len <= s.sizes.margin
+}
+
+// The state after a byte stored, with the ring that it left.
+fn stored(s: State, ring: Ring) -> State
+    requires { ⌜ ring .len ≤ s .sizes .rx ⌝ }
+    ensures { λ r. ⌜ r ≡ storedWith s ring ⌝ }
+{
+    let mut t = s;
+    t.rx = ring;
+    let count = std::num::wrapping_add_u32(s.counts.stored, 1);
+    t.counts.stored = count;
+    let near = scarce(t);
+    let holding = s.line.holding | (registers::protocol_on(s.regs) & near);
+    t.line.holding = holding;
+    t
+}
+
+// The state after a byte lost.
+fn lost(s: State) -> State
+    ensures { λ r. ⌜ r ≡ lostState s ⌝ }
+{
+    let mut t = s;
+    t.notes.seen.overrun = true;
+    t.notes.again.overrun = true;
+    let count = std::num::wrapping_add_u32(s.counts.lost, 1);
+    t.counts.lost = count;
+    t
+}
+
+// A line byte taken: go and stop are never stored, any other byte is stored or lost.
+pub fn taken(s: State, rx: &mut [u8], b: u8) -> State
+    requires { ⌜ RxFits s (now rx) ⌝ }
+    ensures { λ r. ⌜ Taken s (now (rx .entry)) b (now (rx .exit)) r ⌝ }
+{
+    if is_flow(s.regs, b) {
+        return permitted(s, b);
+    }
+    let o = store::put(rx, s.rx, b);
+    let ring = o.ring;
+    if o.stored { stored(s, ring) } else { lost(s) }
+}
+
+// A send that leaves twice the margin free or more ends holding off.
+pub fn resume(s: State) -> State
+    requires { ⌜ s .rx .len ≤ s .sizes .rx ⌝ }
+    requires { ⌜ s .sizes .margin ≤ 1024 ⌝ }
+    ensures { λ r. ⌜ r ≡ resumed s ⌝ }
+{
+    let mut t = s;
+    let free = s.sizes.rx - s.rx.len;
+    let enough = 2 * s.sizes.margin;
+    let holding = s.line.holding & !(enough <= free);
+    t.line.holding = holding;
+    t
+}
+
+// The state after a register write; writing R11 sets holding off afresh and lifts the other end's stop.
+pub fn after_write(s: State, n: u32, g: Registers) -> State
+    requires { ⌜ s .rx .len ≤ s .sizes .rx ⌝ }
+    ensures { λ r. ⌜ r ≡ afterWrite s n g ⌝ }
+{
+    let mut t = s;
+    t.regs = g;
+    if n == 11 {
+        let near = scarce(t);
+        let holding = registers::protocol_on(g) & near;
+        t.line.holding = holding;
+        t.line.forbidden = false;
+        return t;
+    }
+    t
+}
+
+// Which line byte is next; nothing changes.
+pub fn next_out(s: State, tx: &[u8]) -> Out
+    requires { ⌜ TxFits s (now tx) ⌝ }
+    ensures { λ r. ⌜ r ≡ nextOut s (now (tx .entry)) ⌝ }
+{
+    let holding = s.line.holding;
+    let stopped = s.line.stopped;
+    if (holding & !stopped) | (stopped & !holding) {
+        if holding {
+            return Out::Own(s.regs.c05);
+        } else {
+            return Out::Own(s.regs.c04);
+        }
+    }
+    if s.line.forbidden | (s.tx.len == 0) {
+        return Out::Nothing;
+    }
+    Out::Held(store::look(tx, s.tx, 0))
+}
+
+// The answer for that byte.
+pub fn out_answer(o: Out) -> Answer
+    ensures { λ r. ⌜ r ≡ outAnswer o ⌝ }
+{
+    match o {
+        Out::Own(b) => Answer::Byte(b),
+        Out::Held(b) => Answer::Byte(b),
+        Out::Nothing => Answer::Nothing,
+    }
+}
+
+// The state when that byte is gone.
+pub fn gone(s: State, tx: &[u8], o: Out) -> State
+    requires { ⌜ TxFits s (now tx) ⌝ }
+    requires { ⌜ o ≡ nextOut s (now tx) ⌝ }
+    ensures { λ r. ⌜ r ≡ goneState s o ⌝ }
+{
+    let mut t = s;
+    match o {
+        Out::Own(b) => {
+            t.line.stopped = s.line.holding;
+        }
+        Out::Held(b) => {
+            let left = store::drop_oldest(tx, s.tx, 1);
+            t.tx = left;
+        }
+        Out::Nothing => {}
+    }
+    t
+}

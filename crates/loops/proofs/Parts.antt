@@ -1,0 +1,135 @@
+-- Sending, commands, ready frames and returns. Assumes nothing.
+use Prim.Native.Nat.{ℕ, _≤_, _<_, _+_, _-_}
+use native.Mathlib.Omega.{arith}
+use mathlib.Core.Path.{_≡_, refl, sym, ap, subst, _∙_}
+use mathlib.Core.List.{List, [], _∷_}
+use mathlib.Core.Bool.{Bool, true, false, cond, _&&_}
+use lib.Dec.{eqb, leb}
+use lib.ListN.{length}
+use borrow.Author.Tests.{eq-eqb, ne-eqb, le-leb, lt-leb}
+use Rattle.cases.proofs.Cases.{cond-true, cond-false}
+use Rattle.frame.specs.Frame.{made, dataOf, isEnd, sameApart}
+use Rattle.registers.specs.declared.Registers.{Registers}
+use Rattle.registers.specs.Meanings.{endInserted}
+use Rattle.reading.specs.declared.Rule.{Rule}
+use Rattle.role.specs.declared.Role.{Role}
+use Rattle.role.specs.declared.Order.{Order}
+use Rattle.role.specs.declared.Ready.{Ready}
+use Rattle.role.specs.declared.Ready.the-variants.{Pass, Address, Data, Status, Finish}
+use Rattle.role.specs.Orders.{orderOf}
+use Rattle.role.specs.Commands.{obeyedRole}
+use Rattle.role.specs.ReadyFrames.{readyOf, assignedRole}
+use Rattle.role.proofs.ReadyLaws.{Told, told}
+use Rattle.sending.specs.declared.Given.{Given}
+use Rattle.sending.specs.declared.Given.the-variants.{Nothing, One}
+use Rattle.sending.specs.declared.Sending.{Sending}
+use Rattle.sending.specs.Sending.{Sends}
+use Rattle.state.specs.declared.State.{State}
+use Rattle.state.specs.declared.Outcome.{Outcome}
+use Rattle.state.specs.declared.Answer.the-variants.{Frame}
+use Rattle.state.specs.State.{withRole, withUnder, withRx, withCounts, noFrame}
+use Rattle.state.specs.Counts.{counted}
+use Rattle.loops.specs.LoopToLine.{leaves}
+use Rattle.line.specs.HoldingOff.{resumed}
+use Rattle.state.specs.Status.{settled, serviced, statusBack}
+use Rattle.loops.specs.Sending.{talking, ended, ruleOf, removedState, sendState, sendFrom, sendStatus}
+use Rattle.loops.specs.Frames.{isClear, orderIn, forgotten, cleared, obeyed, commandSettled, finishing, passed, readied, ready, returned}
+
+-- ---- what a frame adds
+
+module _ (g : Registers) (f : ℕ) (a b : Bool) (p : a ≡ isEnd f) (q : b ≡ endInserted g) where
+  pub adds-three : (a && b) ≡ true → leaves g f ≡ dataOf f ∷ g .c02 ∷ g .c03 ∷ []
+  unfolding leaves
+  adds-three e = rw (← p, ← q, e)
+
+  pub adds-one : (a && b) ≡ false → leaves g f ≡ dataOf f ∷ []
+  unfolding leaves
+  adds-one e = rw (← p, ← q, e)
+
+-- ---- commands
+
+module _ (s : State) (o : Order) (r : Role) (p : r ≡ obeyedRole (s .role) o) where
+  pub obey-active : 2 ≤ s .role .talker → withUnder (withRole s r) noFrame ≡ obeyed s o
+  unfolding obeyed forgotten
+  obey-active h = rw (p, le-leb 2 (s .role .talker) h)
+
+  pub obey-other : s .role .talker < 2 → withRole s r ≡ obeyed s o
+  unfolding obeyed forgotten
+  obey-other h = rw (p, lt-leb 2 (s .role .talker) h)
+
+module _ (s : State) (f d : ℕ) (o : Order) (t : State) (b : Bool) (hd : d ≡ dataOf f) (ho : o ≡ orderOf 31 (s .role) d) (ht : t ≡ obeyed s o) (hb : b ≡ isClear o) where
+  pub command-clears : (u : State) → b ≡ true → u ≡ cleared t → record { state = u; answer = Frame f } ≡ commandSettled s f
+  unfolding commandSettled
+  command-clears u e q = rw (q, ht, ← hd, ← ho, ← hb, e)
+
+  pub command-other : (u : State) → b ≡ false → u ≡ settled s t → record { state = u; answer = Frame f } ≡ commandSettled s f
+  unfolding commandSettled
+  command-other u e q = rw (q, ht, ← hd, ← ho, ← hb, e)
+
+-- ---- sends
+
+pub send-nothing : (before after : State) (g : Given) (o : Outcome) → g ≡ Nothing → o ≡ ended after 64 → o ≡ sendState before after g
+unfolding sendState
+send-nothing before after g o e q = rw e q
+
+pub send-frame : (before after : State) (g : Given) (f n out : ℕ) (t : State) → g ≡ One f → t ≡ talking after 2 f → n ≡ counted (after .counts .sent) → out ≡ serviced before f →
+    record { state = withCounts t (record { stored = t .counts .stored; lost = t .counts .lost; sent = n }); answer = Frame out } ≡ sendState before after g
+unfolding sendState talking
+send-frame before after g f n out t e p q r = rw (e, p, q, r)
+
+pub send-met : (s : State) (rx : List ℕ) (rule : Rule) (o : Sending) (u : State) (r : Outcome) → rule ≡ ruleOf (s .regs) → Sends rule rx (s .rx) o → u ≡ resumed (withRx s (o .ring)) →
+    r ≡ sendState s u (o .given) → r ≡ sendFrom s rx
+unfolding sendFrom removedState
+send-met s rx rule o u r e d p q = rw (q, p, d .ring, d .given, e)
+
+-- ---- ready frames
+
+module _ (s : State) (rx : List ℕ) (f d : ℕ) (k : Ready) (hd : d ≡ dataOf f) (hk : k ≡ readyOf (s .role) d) where
+  by-ready : (o : Outcome) (j : Ready) → k ≡ j → o ≡ readied s rx f j → o ≡ ready s rx f
+  unfolding ready
+  by-ready o j e q = q ∙ ap (readied s rx f) (sym e ∙ hk ∙ ap (readyOf (s .role)) hd)
+
+  pub ready-address : (r : Role) (x : ℕ) → k ≡ Address → r ≡ assignedRole (s .role) d → x ≡ made 5 (d + 1) → record { state = withRole s r; answer = Frame x } ≡ ready s rx f
+  unfolding readied
+  ready-address r x e p q = by-ready _ Address e (rw (p, q, hd))
+
+  pub ready-data : (o : Outcome) → k ≡ Data → o ≡ sendFrom s rx → o ≡ ready s rx f
+  unfolding readied
+  ready-data o e q = by-ready o Data e q
+
+  pub ready-status : (o : Outcome) → k ≡ Status → o ≡ sendStatus s → o ≡ ready s rx f
+  unfolding readied
+  ready-status o e q = by-ready o Status e q
+
+  pub ready-finish : (t : State) → k ≡ Finish → t ≡ finishing s → record { state = t; answer = Frame f } ≡ ready s rx f
+  unfolding readied
+  ready-finish t e q = by-ready (record { state = t; answer = Frame f }) Finish e (rw q)
+
+  pub ready-pass : k ≡ Pass → record { state = s; answer = Frame f } ≡ ready s rx f
+  unfolding readied
+  ready-pass e = by-ready (record { state = s; answer = Frame f }) Pass e refl
+
+  -- the next address fits in a byte
+  pub address-next : k ≡ Address → d + 1 < 256
+  address-next e = let g = subst (Told (s .role) d) (sym hk ∙ e) (told (s .role) d) in omega (arith, g .byte, g .small)
+
+-- ---- returns
+
+module _ (s : State) (rx : List ℕ) (f : ℕ) (o : Outcome) where
+  pub back-damaged : sameApart f (s .under .frame) ≡ false → o ≡ ended s 65 → o ≡ returned s rx f
+  unfolding returned
+  back-damaged e q = rw e q
+
+  module _ (e : sameApart f (s .under .frame) ≡ true) where
+    pub back-status : (d : ℕ) (t : State) → s .role .talker ≡ 3 → d ≡ dataOf (s .under .frame) → t ≡ statusBack s d → o ≡ ended t 64 → o ≡ returned s rx f
+    unfolding returned
+    back-status d t h p q r = rw (e, eq-eqb (s .role .talker) 3 h) (r ∙ ap (λ (x : State). ended x 64) (q ∙ ap (statusBack s) p))
+
+    module _ (h : s .role .talker ≡ 3 → ⊥) where
+      pub back-finishing : s .under .finishing ≡ true → o ≡ ended s 64 → o ≡ returned s rx f
+      unfolding returned
+      back-finishing k q = rw (e, ne-eqb (s .role .talker) 3 h) (q ∙ sym (cond-true (s .under .finishing) (ended s 64) (sendFrom s rx) k))
+
+      pub back-next : s .under .finishing ≡ false → o ≡ sendFrom s rx → o ≡ returned s rx f
+      unfolding returned
+      back-next k q = rw (e, ne-eqb (s .role .talker) 3 h) (q ∙ sym (cond-false (s .under .finishing) (ended s 64) (sendFrom s rx) k))

@@ -1,0 +1,3 @@
+pub mod LoopToLine
+pub mod Sending
+pub mod Frames

@@ -1,0 +1,34 @@
+-- "Loop to line".
+use Prim.Native.Nat.{ℕ, _-_}
+use mathlib.Core.Path.{_≡_}
+use mathlib.Core.Bool.{Bool, cond, _&&_}
+use mathlib.Core.List.{List, [], _∷_}
+use lib.Dec.{ltb}
+use lib.ListN.{length}
+use Rattle.frame.specs.Frame.{dataOf, isData, isEnd}
+use Rattle.registers.specs.declared.Registers.{Registers}
+use Rattle.registers.specs.Meanings.{endInserted}
+use Rattle.store.specs.Ring.{putsRing, putsBytes}
+use Rattle.state.specs.declared.State.{State}
+use Rattle.state.specs.State.{withTx}
+
+-- "A listener adds the byte; for an end byte with R10 bit 2 on, then C02 and C03."
+unfoldable pub leaves : Registers → ℕ → List ℕ
+leaves g f = cond (isEnd f && endInserted g) (dataOf f ∷ g .c02 ∷ g .c03 ∷ []) (dataOf f ∷ [])
+
+-- "busy: we are listener, the frame is data, the transmit store lacks room for what it adds"
+unfoldable pub busy : State → ℕ → Bool
+busy s f = (s .role .listener && isData f) && ltb (s .sizes .tx - s .tx .len) (length (leaves (s .regs) f))
+
+-- "All fit": the transmit store with what a data frame adds
+unfoldable pub leftState : State → ℕ → State
+leftState s f = withTx s (putsRing (s .sizes .tx) (s .tx) (leaves (s .regs) f))
+
+unfoldable pub leftBytes : State → List ℕ → ℕ → List ℕ
+leftBytes s tx f = putsBytes tx (s .tx) (leaves (s .regs) f)
+
+-- both, after a data frame
+pub record Left (s : State) (tx : List ℕ) (f : ℕ) (tx′ : List ℕ) (t : State) : Type 0 where
+  pub state : t ≡ leftState s f
+  pub bytes : tx′ ≡ leftBytes s tx f
+  pub size : length tx′ ≡ length tx

@@ -1,0 +1,241 @@
+// Frames taken from the loop, and what we send on it.
+ghost use mathlib.Core.Path.{_≡_};
+ghost use Prim.Native.Nat.{_≤_};
+ghost use lib.ListN.{length};
+ghost use Rattle.state.specs.Sizes.{RxFits, TxFits};
+ghost use Rattle.loops.specs.LoopToLine.{leaves, busy, Left};
+ghost use Rattle.loops.specs.Frames.{isClear, cleared, obeyed, commandSettled, finishing, ready, returned, Passed, outcomeSettled, Framed};
+use state::Answer;
+use state::Outcome;
+use state::State;
+use registers::Registers;
+use role::Order;
+use role::Ready;
+
+pub mod talk;
+
+// How many bytes a data frame adds to the transmit store.
+fn added(g: Registers, f: u16) -> usize
+    ensures { λ r. ⌜ r ≡ length (leaves g f) ⌝ }
+{
+    if frame::is_end(f) & registers::end_inserted(g) {
+        3
+    } else {
+        1
+    }
+}
+
+// Whether we are listener, the frame is data, and the transmit store lacks room for what it adds.
+pub fn busy(s: State, f: u16) -> bool
+    requires { ⌜ s .tx .len ≤ s .sizes .tx ⌝ }
+    ensures { λ r. ⌜ r ≡ busy s f ⌝ }
+{
+    let room = s.sizes.tx - s.tx.len;
+    (s.role.listener & frame::is_data(f)) & (room < added(s.regs, f))
+}
+
+// A listener stores the byte and, for an end byte, what ends a line.
+fn leave(s: State, tx: &mut [u8], f: u16) -> State
+    requires { ⌜ TxFits s (now tx) ⌝ }
+    ensures { λ r. ⌜ Left s (now (tx .entry)) f (now (tx .exit)) r ⌝ }
+{
+    let mut t = s;
+    let d = frame::data_byte(f);
+    let first = store::put(tx, s.tx, d);
+    let one = first.ring;
+    if frame::is_end(f) & registers::end_inserted(s.regs) {
+        let second = store::put(tx, one, s.regs.c02);
+        let two = second.ring;
+        let third = store::put(tx, two, s.regs.c03);
+        let three = third.ring;
+        t.tx = three;
+        return t;
+    }
+    t.tx = one;
+    t
+}
+
+// Whether an order is a device clear.
+fn is_clear(o: Order) -> bool
+    ensures { λ r. ⌜ r ≡ isClear o ⌝ }
+{
+    match o {
+        Order::Clear => true,
+        Order::Unlisten => false,
+        Order::Listen => false,
+        Order::Untalk => false,
+        Order::Talk => false,
+        Order::Deselect => false,
+        Order::Enable => false,
+        Order::Disable => false,
+        Order::Local => false,
+        Order::Unassign => false,
+        Order::Nothing => false,
+    }
+}
+
+// The state after a device clear.
+fn clear(s: State) -> State
+    ensures { λ r. ⌜ r ≡ cleared s ⌝ }
+{
+    let mut t = s;
+    let none = store::emptied();
+    let quiet = state::fitting::no_events();
+    t.rx = none;
+    t.tx = none;
+    t.line.holding = false;
+    t.line.forbidden = false;
+    state::requests::with_notes(t, quiet, quiet, false)
+}
+
+// The role after an order; an active talker forgets the frame under way.
+fn obey(s: State, o: Order) -> State
+    ensures { λ r. ⌜ r ≡ obeyed s o ⌝ }
+{
+    let mut t = s;
+    let r = role::obeyed(s.role, o);
+    t.role = r;
+    if s.role.talker >= 2 {
+        t.under.frame = 0;
+        t.under.finishing = false;
+        return t;
+    }
+    t
+}
+
+// A command goes on unchanged; a device clear leaves no request.
+fn command(s: State, f: u16) -> Outcome
+    ensures { λ r. ⌜ r ≡ commandSettled s f ⌝ }
+{
+    let o = role::order_of(31, s.role, frame::data_byte(f));
+    let t = obey(s, o);
+    if is_clear(o) {
+        return Outcome {
+            state: clear(t),
+            answer: Answer::Frame(f),
+        };
+    }
+    Outcome {
+        state: state::requests::settled(s, t),
+        answer: Answer::Frame(f),
+    }
+}
+
+// Sending ends after the frame under way.
+fn finish(s: State) -> State
+    ensures { λ r. ⌜ r ≡ finishing s ⌝ }
+{
+    let mut t = s;
+    t.under.finishing = true;
+    t
+}
+
+// A ready frame.
+fn readied(s: State, rx: &[u8], f: u16) -> Outcome
+    requires { ⌜ RxFits s (now rx) ⌝ }
+    ensures { λ r. ⌜ r ≡ ready s (now (rx .entry)) f ⌝ }
+{
+    let d = frame::data_byte(f);
+    let asked = role::ready_of(s.role, d);
+    match asked {
+        Ready::Address => {
+            let mut t = s;
+            let r = role::assigned(s.role, d);
+            t.role = r;
+            Outcome {
+                state: t,
+                answer: Answer::Frame(frame::make(5, d + 1)),
+            }
+        }
+        Ready::Data => talk::send_from(s, rx),
+        Ready::Status => talk::send_status(s),
+        Ready::Finish => Outcome {
+            state: finish(s),
+            answer: Answer::Frame(f),
+        },
+        Ready::Pass => Outcome {
+            state: s,
+            answer: Answer::Frame(f),
+        },
+    }
+}
+
+// The return of the frame under way.
+fn back(s: State, rx: &[u8], f: u16) -> Outcome
+    requires { ⌜ RxFits s (now rx) ⌝ }
+    ensures { λ r. ⌜ r ≡ returned s (now (rx .entry)) f ⌝ }
+{
+    let sent = s.under.frame;
+    if !frame::same_apart(f, sent) {
+        return talk::ended(s, 65);
+    }
+    if s.role.talker == 3 {
+        let told = state::requests::status_back(s, frame::data_byte(sent));
+        return talk::ended(told, 64);
+    }
+    if s.under.finishing {
+        return talk::ended(s, 64);
+    }
+    talk::send_from(s, rx)
+}
+
+// An outcome with the request that the call began.
+fn settle(s: State, o: Outcome) -> Outcome
+    ensures { λ r. ⌜ r ≡ outcomeSettled s o ⌝ }
+{
+    let after = o.state;
+    let answer = o.answer;
+    let t = state::requests::settled(s, after);
+    Outcome {
+        state: t,
+        answer: answer,
+    }
+}
+
+// A data frame that is no return passes, with the service bit if a request shows; a listener stores it.
+fn pass_data(s: State, tx: &mut [u8], f: u16) -> Outcome
+    requires { ⌜ TxFits s (now tx) ⌝ }
+    ensures { λ r. ⌜ Passed s (now (tx .entry)) f (now (tx .exit)) r ⌝ }
+{
+    let out = state::requests::serviced(s, f);
+    if s.role.listener {
+        let t = leave(s, tx, f);
+        return Outcome {
+            state: t,
+            answer: Answer::Frame(out),
+        };
+    }
+    Outcome {
+        state: s,
+        answer: Answer::Frame(out),
+    }
+}
+
+// A frame that is not refused.
+pub fn frame_taken(s: State, rx: &[u8], tx: &mut [u8], f: u16) -> Outcome
+    requires { ⌜ RxFits s (now rx) ⌝ }
+    requires { ⌜ TxFits s (now tx) ⌝ }
+    ensures { λ r. ⌜ Framed s (now (rx .entry)) (now (tx .entry)) f (now (tx .exit)) r ⌝ }
+{
+    if frame::is_data(f) {
+        if s.role.talker >= 2 {
+            return settle(s, back(s, rx, f));
+        }
+        return settle(s, pass_data(s, tx, f));
+    }
+    let control = frame::control(f);
+    if control == 4 {
+        return command(s, f);
+    }
+    if control == 5 {
+        return settle(s, readied(s, rx, f));
+    }
+    let out = state::requests::serviced(s, f);
+    settle(
+        s,
+        Outcome {
+            state: s,
+            answer: Answer::Frame(out),
+        },
+    )
+}

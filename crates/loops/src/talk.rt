@@ -1,0 +1,88 @@
+// Sending on the loop: from the receive store, the status byte, and how sending ends.
+ghost use mathlib.Core.Path.{_≡_};
+ghost use Rattle.state.specs.Sizes.{RxFits};
+ghost use Rattle.loops.specs.Sending.{talking, ended, ruleOf, sendState, sendFrom, sendStatus};
+use state::Answer;
+use state::Outcome;
+use state::State;
+use reading::Rule;
+use registers::Registers;
+use sending::Given;
+
+// The talker in another phase, with this frame under way.
+pub fn talking(s: State, phase: u8, f: u16) -> State
+    ensures { λ r. ⌜ r ≡ talking s phase f ⌝ }
+{
+    let mut t = s;
+    let r = role::with_talker(s.role, phase);
+    t.role = r;
+    t.under.frame = f;
+    t.under.finishing = false;
+    t
+}
+
+// The ready frame 5,d ends our sending.
+pub fn ended(s: State, d: u8) -> Outcome
+    ensures { λ r. ⌜ r ≡ ended s d ⌝ }
+{
+    Outcome {
+        state: talking(s, 1, 0),
+        answer: Answer::Frame(frame::make(5, d)),
+    }
+}
+
+// The rule of the moment.
+fn rule_of(g: Registers) -> Rule
+    ensures { λ r. ⌜ r ≡ ruleOf g ⌝ }
+{
+    Rule {
+        on: registers::end_detected(g),
+        c00: g.c00,
+        c01: g.c01,
+    }
+}
+
+// What is given is sent, or sending ends.
+fn send_state(before: State, after: State, given: Given) -> Outcome
+    ensures { λ r. ⌜ r ≡ sendState before after given ⌝ }
+{
+    match given {
+        Given::Nothing => ended(after, 64),
+        Given::One(f) => {
+            let mut t = talking(after, 2, f);
+            let count = std::num::wrapping_add_u32(after.counts.sent, 1);
+            t.counts.sent = count;
+            let out = state::requests::serviced(before, f);
+            Outcome {
+                state: t,
+                answer: Answer::Frame(out),
+            }
+        }
+    }
+}
+
+// A send from the receive store.
+pub fn send_from(s: State, rx: &[u8]) -> Outcome
+    requires { ⌜ RxFits s (now rx) ⌝ }
+    ensures { λ r. ⌜ r ≡ sendFrom s (now (rx .entry)) ⌝ }
+{
+    let o = sending::send_one(rule_of(s.regs), rx, s.rx);
+    let ring = o.ring;
+    let mut t = s;
+    t.rx = ring;
+    let after = line::resume(t);
+    let given = o.given;
+    send_state(s, after, given)
+}
+
+// The status byte is sent.
+pub fn send_status(s: State) -> Outcome
+    ensures { λ r. ⌜ r ≡ sendStatus s ⌝ }
+{
+    let f = frame::make(0, state::requests::status_of(s));
+    let out = state::requests::serviced(s, f);
+    Outcome {
+        state: talking(state::requests::status_sent(s), 3, f),
+        answer: Answer::Frame(out),
+    }
+}

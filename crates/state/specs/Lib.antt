@@ -1,0 +1,5 @@
+pub mod State
+pub mod Answers
+pub mod Sizes
+pub mod Counts
+pub mod Status
