@@ -4,10 +4,10 @@ ghost use Prim.Native.Nat.{_≤_};
 ghost use lib.Dec.{leb};
 ghost use Rattle.state.specs.Sizes.{RxFits, TxFits};
 ghost use Rattle.line.specs.HoldingOff.{isFlow, flowed, free, storedWith, lostState, Taken, resumed, afterWrite, nextOut, goneState, outAnswer};
+use registers::Registers;
 use state::Answer;
 use state::Out;
 use state::State;
-use registers::Registers;
 use store::Ring;
 
 // Whether a line byte is go or stop with the receiver protocol on.

@@ -5,12 +5,12 @@ ghost use lib.ListN.{length};
 ghost use Rattle.state.specs.Sizes.{RxFits, TxFits};
 ghost use Rattle.loops.specs.LoopToLine.{leaves, busy, Left};
 ghost use Rattle.loops.specs.Frames.{isClear, cleared, obeyed, commandSettled, finishing, ready, returned, Passed, outcomeSettled, Framed};
-use state::Answer;
-use state::Outcome;
-use state::State;
 use registers::Registers;
 use role::Order;
 use role::Ready;
+use state::Answer;
+use state::Outcome;
+use state::State;
 
 pub mod talk;
 

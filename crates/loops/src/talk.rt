@@ -2,12 +2,12 @@
 ghost use mathlib.Core.Path.{_≡_};
 ghost use Rattle.state.specs.Sizes.{RxFits};
 ghost use Rattle.loops.specs.Sending.{talking, ended, ruleOf, sendState, sendFrom, sendStatus};
-use state::Answer;
-use state::Outcome;
-use state::State;
 use reading::Rule;
 use registers::Registers;
 use sending::Given;
+use state::Answer;
+use state::Outcome;
+use state::State;
 
 // The talker in another phase, with this frame under way.
 pub fn talking(s: State, phase: u8, f: u16) -> State

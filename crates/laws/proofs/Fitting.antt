@@ -1,0 +1,363 @@
+-- Every call keeps a state that fits, and the lengths of both stores. Assumes nothing.
+use Prim.Native.Nat.{ℕ, _+_, _-_, _≤_, _<_}
+use native.Mathlib.Omega.{arith}
+use mathlib.Core.Path.{_≡_, refl, sym, ap, subst, _∙_}
+use mathlib.Core.Bool.{Bool, true, false, cond, _&&_, _||_, not}
+use mathlib.Core.List.{List}
+use lib.Dec.{eqb, leb, ltb}
+use lib.ListN.{length}
+use borrow.Author.Tests.{eqb-true, leb-true, not-true}
+use Rattle.cases.specs.Refusals.{firstRefusal}
+use Rattle.cases.proofs.Cases.{by-cond}
+use Rattle.frame.specs.Frame.{made, controlOf, dataOf, isData, sameApart}
+use Rattle.registers.specs.Writing.{writeChecks, written}
+use Rattle.registers.proofs.Fits.{fit-written}
+use Rattle.role.specs.declared.Order.{Order}
+use Rattle.role.specs.declared.Ready.{Ready}
+use Rattle.role.specs.declared.Ready.the-variants.{Pass, Address, Data, Status, Finish}
+use Rattle.role.specs.Parts.{activeStatus, isActive}
+use Rattle.role.specs.ReadyFrames.{readyOf}
+use Rattle.role.proofs.ReadyLaws.{Told, told}
+use Rattle.store.specs.declared.Ring.{Ring}
+use Rattle.store.specs.Ring as store-ring
+use Rattle.store.proofs.Laws as store-laws
+use Rattle.store.proofs.Several.{puts-fit, puts-size}
+use Rattle.sending.specs.declared.Given.{Given}
+use Rattle.sending.specs.declared.Given.the-variants.{Nothing, One}
+use Rattle.sending.specs.Sending.{givenOf, sendHeld, sentRing}
+use Rattle.reading.specs.Reading.{sentRest}
+use Rattle.state.specs.declared.State.{State}
+use Rattle.state.specs.declared.Outcome.{Outcome}
+use Rattle.state.specs.declared.Out.{Out}
+use Rattle.state.specs.declared.Out.the-variants as out
+use Rattle.state.specs.Answers.{Said, done, refused}
+use Rattle.state.specs.State.{withRegisters, withRx, withTx}
+use Rattle.state.specs.Sizes.{sizesObeyed, startState, fits}
+use Rattle.state.specs.Status.{settled, conditions, shows, statusOf, statusSent, statusBack, breakState, keyState}
+use Rattle.state.proofs.Fits.{Tests, tests, rx-fits, tx-fits}
+use Rattle.line.specs.HoldingOff.{isFlow, flowed, storedWith, storedState, lostState, lineState, lineBytes, resumed, setAfresh, afterWrite, nextOut, goneState}
+use Rattle.line.proofs.Parts.{gone-some}
+use Rattle.loops.specs.LoopToLine.{leaves, leftState, leftBytes}
+use Rattle.loops.specs.Sending.{ruleOf, talking, ended, removedState, sendState, sendFrom, sendStatus}
+use Rattle.loops.specs.Frames.{isClear, orderIn, cleared, obeyed, commandState, command, finishing, readied, ready, returned, dataPassed, identify, frameTaken, deviceClear, leavesBytes, frameBytes}
+use Rattle.bridge.specs.Calls.{Call, create, reset, write, lineByte, lineBreak, key, nextLineByte, loopFrame, show, World, Did, world, outcome, settledBy, rxAfter, txAfter, accepted, refusedOr, checks, step}
+use Rattle.laws.specs.Fitting.{AllBytes, Fits, SameStores, CallsKeepFit, CreateMakesFit, CallsKeepStores}
+use Rattle.laws.proofs.Small.{given-small, status-small}
+use Rattle.laws.proofs.States.{tested, start-fits, with-registers, with-rx, with-tx, with-under, talking-tests, obeyed-tests, cleared-tests, assigned-tests}
+
+-- ---- both stores keep their lengths
+
+line-size : (s : State) (rx : List ℕ) (b : ℕ) → length (lineBytes s rx b) ≡ length rx
+unfolding lineBytes
+line-size s rx b = by-cond (λ (x : List ℕ). length x ≡ length rx) (isFlow (s .regs) b) rx _ (λ _. refl) (λ _. store-laws.put-size rx (s .rx) b)
+
+frame-size : (s : State) (tx : List ℕ) (f : ℕ) → length (frameBytes s tx f) ≡ length tx
+unfolding frameBytes leftBytes
+frame-size s tx f = by-cond (λ (x : List ℕ). length x ≡ length tx) (leavesBytes s f) _ tx (λ _. puts-size tx (s .tx) (leaves (s .regs) f)) (λ _. refl)
+
+rx-size : (c : Call) (w : World) → length (rxAfter c w) ≡ length (w .rx)
+unfolding rxAfter
+rx-size (lineByte b) w = line-size (w .state) (w .rx) b
+rx-size (create m) w = refl
+rx-size reset w = refl
+rx-size (write n v) w = refl
+rx-size lineBreak w = refl
+rx-size key w = refl
+rx-size nextLineByte w = refl
+rx-size (loopFrame f) w = refl
+rx-size (show side) w = refl
+
+tx-size : (c : Call) (w : World) → length (txAfter c w) ≡ length (w .tx)
+unfolding txAfter
+tx-size (loopFrame f) w = frame-size (w .state) (w .tx) f
+tx-size (create m) w = refl
+tx-size reset w = refl
+tx-size (write n v) w = refl
+tx-size (lineByte b) w = refl
+tx-size lineBreak w = refl
+tx-size key w = refl
+tx-size nextLineByte w = refl
+tx-size (show side) w = refl
+
+-- ---- the state that each part leaves
+
+-- a state that fits these stores
+abbrev Good : List ℕ → List ℕ → State → Type 0
+Good rx tx s = fits s (length rx) (length tx) ≡ true
+
+module _ (rx tx : List ℕ) where
+  -- requests, what happened, the line's flags and the counts have no part in fitting
+  settled-good : (s q : State) → Good rx tx q → Good rx tx (settled s q)
+  unfolding fits settled
+  settled-good s q e = e
+
+  resumed-good : (q : State) → Good rx tx q → Good rx tx (resumed q)
+  unfolding fits resumed
+  resumed-good q e = e
+
+  afresh-good : (q : State) → Good rx tx q → Good rx tx (setAfresh q)
+  unfolding fits setAfresh
+  afresh-good q e = e
+
+  flowed-good : (q : State) (x : ℕ) → Good rx tx q → Good rx tx (flowed q x)
+  unfolding fits flowed
+  flowed-good q x e = e
+
+  lost-good : (q : State) → Good rx tx q → Good rx tx (lostState q)
+  unfolding fits lostState
+  lost-good q e = e
+
+  break-good : (q : State) → Good rx tx q → Good rx tx (breakState q)
+  unfolding fits breakState
+  break-good q e = e
+
+  key-good : (q : State) → Good rx tx q → Good rx tx (keyState q)
+  unfolding fits keyState
+  key-good q e = e
+
+  sent-good : (q : State) → Good rx tx q → Good rx tx (statusSent q)
+  unfolding fits statusSent
+  sent-good q e = e
+
+  back-good : (q : State) (d : ℕ) → Good rx tx q → Good rx tx (statusBack q d)
+  unfolding fits statusBack
+  back-good q d e = e
+
+  finishing-good : (q : State) → Good rx tx q → Good rx tx (finishing q)
+  unfolding fits finishing
+  finishing-good q e = e
+
+  module _ (s : State) (bytes : AllBytes rx) (e : fits s (length rx) (length tx) ≡ true) where
+    t : Tests s (length rx) (length tx)
+    t = tests s (length rx) (length tx) e
+
+    fits-with-rx : (r : Ring) → store-ring.Fit rx r → Good rx tx (withRx s r)
+    fits-with-rx r h = tested (withRx s r) (length rx) (length tx) (with-rx s (length rx) (length tx) t r (store-laws.fit-test rx r h))
+
+    fits-with-tx : (r : Ring) → store-ring.Fit tx r → Good rx tx (withTx s r)
+    fits-with-tx r h = tested (withTx s r) (length rx) (length tx) (with-tx s (length rx) (length tx) t r (store-laws.fit-test tx r h))
+
+    stored-good : Good rx tx (storedState s)
+    unfolding fits storedWith
+    stored-good =
+        fits-with-rx (store-ring.putRing (s .sizes .rx) (s .rx))
+        (subst (λ (n : ℕ). store-ring.Fit rx (store-ring.putRing n (s .rx))) (sym (t .rxSize)) put-ring)
+      where
+        put-ring : store-ring.Fit rx (store-ring.putRing (length rx) (s .rx))
+        put-ring =
+            let h : store-ring.Fit (store-ring.putBytes rx (s .rx) 0) (store-ring.putRing (length rx) (s .rx)) = store-laws.put-fit rx (s .rx) 0 (rx-fits s rx tx e .ring) in
+            let n : length (store-ring.putBytes rx (s .rx) 0) ≡ length rx = store-laws.put-size rx (s .rx) 0 in
+            record { oldest = omega (arith, n, h .oldest); len = omega (arith, n, h .len); small = omega (arith, n, h .small) }
+
+    line-good : (x : ℕ) → Good rx tx (lineState s x)
+    unfolding lineState
+    line-good x =
+        by-cond (Good rx tx) (isFlow (s .regs) x) _ _ (λ _. flowed-good s x e)
+        (λ _. by-cond (Good rx tx) (store-ring.full (s .sizes .rx) (s .rx)) _ _ (λ _. lost-good s e) (λ _. stored-good))
+
+    write-good : (n v : ℕ) → firstRefusal (writeChecks (s .regs) n v) ≡ 0 → Good rx tx (afterWrite s n (written (s .regs) n v))
+    unfolding afterWrite
+    write-good n v h = by-cond (Good rx tx) (eqb n 11) _ _ (λ _. afresh-good (withRegisters s (written (s .regs) n v)) changed) (λ _. changed)
+      where
+        changed : Good rx tx (withRegisters s (written (s .regs) n v))
+        changed = tested (withRegisters s (written (s .regs) n v)) (length rx) (length tx) (with-registers s (length rx) (length tx) t (written (s .regs) n v) (fit-written (s .regs) n v (t .regs) h))
+
+    gone-good : (o : Out) → o ≡ nextOut s tx → Good rx tx (goneState s o)
+    unfolding goneState
+    gone-good (out.Own x) h = kept
+      where
+        kept : Good rx tx (goneState s (out.Own x))
+        kept = unfold fits goneState in e
+    gone-good (out.Held x) h =
+        fits-with-tx (store-ring.dropRing (s .sizes .tx) (s .tx) 1)
+        (subst (λ (n : ℕ). store-ring.Fit tx (store-ring.dropRing n (s .tx) 1)) (sym (t .txSize)) (store-laws.drop-fit tx (s .tx) 1 (tx-fits s rx tx e .ring) (gone-some s tx x h)))
+    gone-good out.Nothing h = e
+
+    left-good : (f : ℕ) → Good rx tx (leftState s f)
+    unfolding leftState
+    left-good f =
+        fits-with-tx (store-ring.putsRing (s .sizes .tx) (s .tx) (leaves (s .regs) f))
+        (subst (λ (n : ℕ). store-ring.Fit tx (store-ring.putsRing n (s .tx) (leaves (s .regs) f))) (sym (t .txSize)) puts-ring)
+      where
+        puts-ring : store-ring.Fit tx (store-ring.putsRing (length tx) (s .tx) (leaves (s .regs) f))
+        puts-ring =
+            let l : List ℕ = leaves (s .regs) f in
+            let h : store-ring.Fit (store-ring.putsBytes tx (s .tx) l) (store-ring.putsRing (length tx) (s .tx) l) = puts-fit tx (s .tx) l (tx-fits s rx tx e .ring) in
+            let n : length (store-ring.putsBytes tx (s .tx) l) ≡ length tx = puts-size tx (s .tx) l in
+            record { oldest = omega (arith, n, h .oldest); len = omega (arith, n, h .len); small = omega (arith, n, h .small) }
+
+    command-good : (o : Order) → Good rx tx (commandState s o)
+    unfolding commandState
+    command-good o =
+        let q : Tests (obeyed s o) (length rx) (length tx) = obeyed-tests s (length rx) (length tx) t o in
+        by-cond (Good rx tx) (isClear o) _ _
+        (λ _. tested (cleared (obeyed s o)) (length rx) (length tx) (cleared-tests (obeyed s o) (length rx) (length tx) q))
+        (λ _. tested (obeyed s o) (length rx) (length tx) q)
+
+    removed-good : Good rx tx (removedState s rx)
+    unfolding removedState sentRing
+    removed-good =
+        resumed-good (withRx s (sentRing (ruleOf (s .regs)) rx (s .rx)))
+        (fits-with-rx (sentRing (ruleOf (s .regs)) rx (s .rx)) (store-laws.drop-fit rx (s .rx) _ (rx-fits s rx tx e .ring) (omega arith)))
+
+  -- a talker in another phase
+  talking-good : (q : State) (phase f : ℕ) → Good rx tx q → 1 ≤ q .role .talker → phase ≤ 3 → f < 1024 → Good rx tx (talking q phase f)
+  talking-good q phase f e h p k = tested (talking q phase f) (length rx) (length tx) (talking-tests q (length rx) (length tx) (tests q (length rx) (length tx) e) phase f h p k)
+
+  ended-good : (q : State) (d : ℕ) → Good rx tx q → 1 ≤ q .role .talker → Good rx tx (ended q d .state)
+  unfolding ended
+  ended-good q d e h = talking-good q 1 0 e h (omega arith) (omega arith)
+
+  counted-good : (q : State) (f : ℕ) (d : Given) (p : State) → Good rx tx q → 1 ≤ q .role .talker → ((g : ℕ) → d ≡ One g → g < 1024) → Good rx tx (sendState p q d .state)
+  unfolding sendState
+  counted-good q f Nothing p e h k = ended-good q 64 e h
+  counted-good q f (One g) p e h k = more
+    where
+      more : Good rx tx (sendState p q (One g) .state)
+      more = unfold fits sendState in talking-good q 2 g e h (omega arith) (k g refl)
+
+  module _ (s : State) (bytes : AllBytes rx) (e : fits s (length rx) (length tx) ≡ true) where
+    send-good : 1 ≤ s .role .talker → Good rx tx (sendFrom s rx .state)
+    unfolding sendFrom
+    send-good h =
+        counted-good (removedState s rx) 0 (givenOf (sendHeld (ruleOf (s .regs)) rx (s .rx))) s (removed-good s bytes e) talker
+        (λ g k. given-small (ruleOf (s .regs)) rx (s .rx) g (rx-fits s rx tx e .ring) bytes k)
+      where
+        talker : 1 ≤ removedState s rx .role .talker
+        talker = unfold removedState resumed in h
+
+    status-good : 1 ≤ s .role .talker → Good rx tx (sendStatus s .state)
+    unfolding sendStatus statusOf
+    status-good h = talking-good (statusSent s) 3 (made 0 (statusOf s)) (sent-good s e) talker (omega arith) (omega (arith, status-small (conditions s) (shows s)))
+      where
+        talker : 1 ≤ statusSent s .role .talker
+        talker = unfold statusSent in h
+
+    ready-good : (f : ℕ) → Good rx tx (ready s rx f .state)
+    unfolding ready
+    ready-good f = go (readyOf (s .role) (dataOf f)) (told (s .role) (dataOf f))
+      where
+        go : (k : Ready) → Told (s .role) (dataOf f) k → Good rx tx (readied s rx f k .state)
+        go Address h = unfold readied in tested _ (length rx) (length tx) (assigned-tests s (length rx) (length tx) (tests s (length rx) (length tx) e) (dataOf f))
+        go Data h = unfold readied in send-good (omega (arith, h .phase))
+        go Status h = unfold readied in status-good (omega (arith, h .phase))
+        go Finish h = unfold readied in finishing-good s e
+        go Pass h = unfold readied in e
+
+    returned-good : (f : ℕ) → 2 ≤ s .role .talker → Good rx tx (returned s rx f .state)
+    unfolding returned
+    returned-good f h =
+        by-cond G (sameApart f (s .under .frame)) _ _
+        (λ _. by-cond G (eqb (s .role .talker) activeStatus) _ _ (λ _. ended-good (statusBack s (dataOf (s .under .frame))) 64 (back-good s (dataOf (s .under .frame)) e) talker)
+        (λ _. by-cond G (s .under .finishing) _ _ (λ _. ended-good s 64 e (omega arith)) (λ _. send-good (omega arith))))
+        (λ _. ended-good s 65 e (omega arith))
+      where
+        G : Outcome → Type 0
+        G o = Good rx tx (o .state)
+
+        talker : 1 ≤ statusBack s (dataOf (s .under .frame)) .role .talker
+        talker = unfold statusBack in omega arith
+
+    passed-good : (f : ℕ) → Good rx tx (dataPassed s f .state)
+    unfolding dataPassed
+    passed-good f = by-cond (Good rx tx) (s .role .listener) _ _ (λ _. left-good s bytes e f) (λ _. e)
+
+    frame-good : (f : ℕ) → Good rx tx (frameTaken s rx f .state)
+    unfolding frameTaken
+    frame-good f =
+        by-cond G (isData f) _ _
+        (λ _. by-cond G (isActive (s .role)) _ _ (λ h. returned-good f (leb-true 2 (s .role .talker) h)) (λ _. passed-good f))
+        (λ _. by-cond G (eqb (controlOf f) 4) _ _ (λ _. commanded)
+        (λ _. by-cond G (eqb (controlOf f) 5) _ _ (λ _. ready-good f) (λ _. identified)))
+      where
+        G : Outcome → Type 0
+        G o = Good rx tx (o .state)
+
+        commanded : Good rx tx (command s f .state)
+        commanded = unfold command in command-good s bytes e (orderIn s f)
+
+        identified : Good rx tx (identify s f .state)
+        identified = unfold identify in e
+
+-- ---- every call
+
+-- the world of a call that is not refused, by its state
+by-state : (c : Call) (w : World) → Good (w .rx) (w .tx) (settledBy c (w .state) (outcome c w .state)) → Fits (accepted c w .world)
+unfolding accepted
+by-state c w e = rw (rx-size c w, tx-size c w) e
+
+-- a call is refused and leaves the world, or is accepted
+by-refusal : (c : Call) (w : World) → Fits w → (firstRefusal (checks c w) ≡ 0 → Good (w .rx) (w .tx) (settledBy c (w .state) (outcome c w .state))) →
+    Fits (refusedOr (firstRefusal (checks c w)) (accepted c w) w .world)
+unfolding refusedOr
+by-refusal c w e f =
+    by-cond (λ (d : Did). Fits (d .world)) (eqb (firstRefusal (checks c w)) 0) _ _
+    (λ h. by-state c w (f (eqb-true (firstRefusal (checks c w)) 0 h)))
+    (λ _. e)
+
+-- create is accepted exactly where the sizes are obeyed
+create-sizes : (m : ℕ) (w : World) → firstRefusal (checks (create m) w) ≡ 0 → sizesObeyed m (length (w .rx)) (length (w .tx)) ≡ true
+unfolding checks
+create-sizes m w = go (sizesObeyed m (length (w .rx)) (length (w .tx)))
+  where
+    go : (t : Bool) → _≡_ {A = ℕ} (cond (not t) 1 0) 0 → t ≡ true
+    go true h = refl
+    go false h = absurd (omega arith)
+
+create-good : (m : ℕ) (w : World) → firstRefusal (checks (create m) w) ≡ 0 → Good (w .rx) (w .tx) (settledBy (create m) (w .state) (outcome (create m) w .state))
+unfolding settledBy outcome
+create-good m w h = start-fits m (length (w .rx)) (length (w .tx)) (create-sizes m w h)
+
+reset-good : (w : World) → Fits w → Good (w .rx) (w .tx) (settledBy reset (w .state) (outcome reset w .state))
+unfolding settledBy outcome
+reset-good w e =
+    settled-good (w .rx) (w .tx) (w .state) _
+    (start-fits (w .state .sizes .margin) (length (w .rx)) (length (w .tx)) (tests (w .state) (length (w .rx)) (length (w .tx)) e .sizes))
+
+write-refusal : (n v : ℕ) (w : World) → Fits w → firstRefusal (checks (write n v) w) ≡ 0 → firstRefusal (writeChecks (w .state .regs) n v) ≡ 0
+unfolding checks
+write-refusal n v w e h = rw e at h
+
+pub calls-keep-fit : CallsKeepFit
+unfolding step
+calls-keep-fit (show side) w b e = e
+calls-keep-fit (create m) w b e = by-refusal (create m) w e (create-good m w)
+calls-keep-fit reset w b e = by-refusal reset w e (λ _. reset-good w e)
+calls-keep-fit (write n v) w b e = by-refusal (write n v) w e (λ h. unfold settledBy outcome in settled-good (w .rx) (w .tx) (w .state) _ (write-good (w .rx) (w .tx) (w .state) b e n v (write-refusal n v w e h)))
+calls-keep-fit (lineByte x) w b e = by-refusal (lineByte x) w e (λ _. unfold settledBy outcome in settled-good (w .rx) (w .tx) (w .state) _ (line-good (w .rx) (w .tx) (w .state) b e x))
+calls-keep-fit lineBreak w b e = by-refusal lineBreak w e (λ _. unfold settledBy outcome in settled-good (w .rx) (w .tx) (w .state) _ (break-good (w .rx) (w .tx) (w .state) e))
+calls-keep-fit key w b e = by-refusal key w e (λ _. unfold settledBy outcome in settled-good (w .rx) (w .tx) (w .state) _ (key-good (w .rx) (w .tx) (w .state) e))
+calls-keep-fit nextLineByte w b e = by-refusal nextLineByte w e (λ _. unfold settledBy outcome in settled-good (w .rx) (w .tx) (w .state) _ (gone-good (w .rx) (w .tx) (w .state) b e (nextOut (w .state) (w .tx)) refl))
+calls-keep-fit (loopFrame f) w b e =
+    by-refusal (loopFrame f) w e
+    (λ _. unfold settledBy outcome in
+    by-cond (Good (w .rx) (w .tx)) (deviceClear (w .state) f) _ _
+    (λ _. frame-good (w .rx) (w .tx) (w .state) b e f)
+    (λ _. settled-good (w .rx) (w .tx) (w .state) _ (frame-good (w .rx) (w .tx) (w .state) b e f)))
+
+pub create-makes-fit : CreateMakesFit
+unfolding step refusedOr
+create-makes-fit m w = go (firstRefusal (checks (create m) w)) refl
+  where
+    go : (n : ℕ) → firstRefusal (checks (create m) w) ≡ n →
+        cond (eqb n 0) (accepted (create m) w) (record { said = refused n; world = w }) .said ≡ done → Fits (cond (eqb n 0) (accepted (create m) w) (record { said = refused n; world = w }) .world)
+    go n h = by-cond (λ (d : Did). d .said ≡ done → Fits (d .world)) (eqb n 0) _ _ (λ z _. by-state (create m) w (create-good m w (h ∙ eqb-true n 0 z))) (λ _ z. let y : _≡_ {A = ℕ} 0 1 = cc in absurd (omega arith))
+
+kept : (c : Call) (w : World) → SameStores w (refusedOr (firstRefusal (checks c w)) (accepted c w) w .world)
+unfolding refusedOr accepted
+kept c w =
+    by-cond (λ (d : Did). SameStores w (d .world)) (eqb (firstRefusal (checks c w)) 0) _ _
+    (λ _. record { rx = rx-size c w; tx = tx-size c w })
+    (λ _. record { rx = refl; tx = refl })
+
+pub calls-keep-stores : CallsKeepStores
+unfolding step
+calls-keep-stores (show side) w = record { rx = refl; tx = refl }
+calls-keep-stores (create m) w = kept (create m) w
+calls-keep-stores reset w = kept reset w
+calls-keep-stores (write n v) w = kept (write n v) w
+calls-keep-stores (lineByte x) w = kept (lineByte x) w
+calls-keep-stores lineBreak w = kept lineBreak w
+calls-keep-stores key w = kept key w
+calls-keep-stores nextLineByte w = kept nextLineByte w
+calls-keep-stores (loopFrame f) w = kept (loopFrame f) w

@@ -1,0 +1,85 @@
+-- A frame sent from bytes is a data frame, and a status byte is a byte. Assumes nothing.
+use Prim.Native.Nat.{ℕ, _+_, _-_, _≤_, _<_}
+use native.Mathlib.Omega.{arith}
+use mathlib.Core.Path.{_≡_, refl, sym, ap, subst, _∙_}
+use mathlib.Core.Logic.{⊎-elim}
+use mathlib.Core.Bool.{Bool, true, false, cond}
+use mathlib.Core.List.{List}
+use lib.ListN.{length, getD, drop, List·getD-eq-default}
+use lib.Seq.{getD-drop}
+use Rattle.cases.proofs.Cases.{split}
+use Rattle.frame.specs.Frame.{made}
+use Rattle.store.specs.declared.Ring.{Ring}
+use Rattle.store.specs.Ring.{Fit, held, wrap}
+use Rattle.store.proofs.Laws.{held-at, held-length}
+use Rattle.status.specs.declared.Conditions.{Conditions}
+use Rattle.status.specs.Status.{statusByte}
+use Rattle.reading.specs.declared.Rule.{Rule}
+use Rattle.reading.specs.declared.Decision.{Decision}
+use Rattle.reading.specs.declared.Decision.the-variants.{Removed, End, Data, Wait}
+use Rattle.reading.specs.Reading.{Cut, wait, skip, give, Sent, none, one, send}
+use Rattle.reading.specs.Steps.{decision, carried, cut}
+use Rattle.reading.proofs.Cuts.{skip-oldest, by-cuts}
+use Rattle.reading.proofs.Reading.{send-at}
+use Rattle.reading.proofs.Lawful.{lawful}
+use Rattle.sending.specs.declared.Given.the-variants.{Nothing, One}
+use Rattle.sending.specs.Sending.{givenOf, sendHeld}
+use Rattle.laws.specs.Fitting.{AllBytes}
+
+-- what a store of bytes holds is bytes
+pub held-bytes : (s : List ℕ) (r : Ring) → Fit s r → AllBytes s → AllBytes (held s r)
+held-bytes s r f b k =
+    ⊎-elim
+    (λ l. subst (λ (n : ℕ). n < 256) (sym (held-at s r k f l)) (b (wrap (length s) (r .oldest + k))))
+    (λ g. subst (λ (n : ℕ). n < 256) (sym (List·getD-eq-default (held s r) 0 {n = k} (omega (arith, held-length s r f)))) (omega arith))
+    (split k (r .len))
+
+drop-bytes : (n : ℕ) (xs : List ℕ) → AllBytes xs → AllBytes (drop n xs)
+drop-bytes n xs b k = subst (λ (m : ℕ). m < 256) (sym (getD-drop n xs k 0)) (b (n + k))
+
+-- a cut's frame is a data frame
+abbrev SmallCut : Cut ℕ ℕ → Type 0
+SmallCut wait = Unit {0}
+SmallCut (skip r) = Unit {0}
+SmallCut (give f r) = f < 1024
+
+abbrev SmallSent : Sent ℕ ℕ → Type 0
+SmallSent (none r) = Unit {0}
+SmallSent (one f r) = f < 1024
+
+carried-small : (d : Decision) (xs : List ℕ) → AllBytes xs → SmallCut (carried d xs)
+carried-small Removed xs b = tt
+carried-small End xs b = omega (arith, b 0)
+carried-small Data xs b = omega (arith, b 0)
+carried-small Wait xs b = tt
+
+cut-small : (r : Rule) (xs : List ℕ) → AllBytes xs → SmallCut (cut r xs)
+unfolding cut
+cut-small r xs b = carried-small (decision r xs) xs b
+
+send-small : (r : Rule) (xs : List ℕ) → AllBytes xs → SmallSent (send (cut r) xs)
+send-small r =
+    by-cuts (cut r) (lawful r) (λ xs. AllBytes xs → SmallSent (send (cut r) xs))
+    (λ xs e b. subst SmallSent (sym (send-at (cut r) (lawful r) xs wait e)) tt)
+    (λ xs s e ih b. subst SmallSent (sym (send-at (cut r) (lawful r) xs (skip s) e)) (ih (subst AllBytes (sym (skip-oldest (cut r) (lawful r) xs s e .suffix)) (drop-bytes (length xs - length s) xs b))))
+    (λ xs f s e ih b. subst SmallSent (sym (send-at (cut r) (lawful r) xs (give f s) e)) (subst SmallCut e (cut-small r xs b)))
+
+-- the frame of a send
+pub given-small : (r : Rule) (s : List ℕ) (q : Ring) (f : ℕ) → Fit s q → AllBytes s → givenOf (sendHeld r s q) ≡ One f → f < 1024
+unfolding sendHeld
+given-small r s q f h b e = go (send (cut r) (held s q)) (send-small r (held s q) (held-bytes s q h b)) e
+  where
+    go : (x : Sent ℕ ℕ) → SmallSent x → givenOf x ≡ One f → f < 1024
+    go (none t) k e = let z : _≡_ {A = ℕ} 0 1 = cc in absurd (omega arith)
+    go (one g t) k e = let z : g ≡ f = cc in omega arith
+
+-- a status byte is a byte
+pub status-small : (c : Conditions) (q : Bool) → statusByte c q < 256
+unfolding statusByte
+status-small c q =
+    omega
+    (arith, most (c .txempty) 1, most (c .txroom) 2, most (c .rxsome) 4, most (c .rxfull) 8, most (c .brk) 16, most (c .overrun) 32, most q 64, most (c .key) 128)
+  where
+    most : (t : Bool) (v : ℕ) → cond t v 0 ≤ v
+    most true v = omega arith
+    most false v = omega arith

@@ -1,0 +1,70 @@
+-- "Proved examples: those marked P are proved together, a single statement over one table."
+use Prim.Native.Nat.{ℕ}
+use mathlib.Core.Path.{_≡_}
+use mathlib.Core.Bool.{true}
+use mathlib.Core.List.{List, [], _∷_, map}
+use Rattle.frame.specs.Frame.{controlOf, dataOf, made}
+use Rattle.reading.specs.declared.Rule.{Rule}
+use Rattle.reading.specs.Reading.{frames, left}
+use Rattle.reading.specs.Steps.{cut}
+use Rattle.state.specs.Answers.{Said, frame}
+use Rattle.state.specs.Sizes.{startState}
+use Rattle.bridge.specs.Calls.{Did, loopFrame, world, step}
+
+-- what is tried: bytes held, with C00, C01 and R10 bit 3 on; or a frame, control and data, taken by a bridge just created
+pub data Trial : Type 0 where
+  held : ℕ → ℕ → List ℕ → Trial
+  taken : ℕ → ℕ → Trial
+
+-- what comes of it: the frames, and the bytes that are left; or the answer, and the address
+pub data Result : Type 0 where
+  reads : List Said → List ℕ → Result
+  answers : Said → ℕ → Result
+
+-- an example: what is tried, and what the paper says comes of it
+pub record Example : Type 0 where
+  pub trial : Trial
+  pub wanted : Result
+
+abbrev rule : ℕ → ℕ → Rule
+rule c0 c1 = record { on = true; c00 = c0; c01 = c1 }
+
+abbrev written : ℕ → Said
+written f = frame (controlOf f) (dataOf f)
+
+-- a bridge just created, with margin 1 and the smallest stores
+abbrev taking : ℕ → ℕ → Did
+taking c d = step (loopFrame (made c d)) (world (startState 1 4 3) (0 ∷ 0 ∷ 0 ∷ 0 ∷ []) (0 ∷ 0 ∷ 0 ∷ []))
+
+unfoldable pub given : Trial → Result
+given (held c0 c1 xs) = reads (map written (frames (cut (rule c0 c1)) xs)) (left (cut (rule c0 c1)) xs)
+given (taken c d) = answers (taking c d .said) (taking c d .world .state .role .address)
+
+abbrev crlf : List ℕ → List Said → List ℕ → Example
+crlf xs fs rest = record { trial = held 13 10 xs; wanted = reads fs rest }
+
+-- "Pair 13, 10 unless said; R10 bit 3 on."
+unfoldable pub table : List Example
+table =
+    -- "no bytes; 50; 50 13: no frames"
+    crlf [] [] []
+    ∷ crlf (50 ∷ []) [] (50 ∷ [])
+    ∷ crlf (50 ∷ 13 ∷ []) [] (50 ∷ 13 ∷ [])
+    -- "50 46: 0,50"; "50 13 10: 2,50"; "13 10: no frames, nothing left"
+    ∷ crlf (50 ∷ 46 ∷ []) (frame 0 50 ∷ []) (46 ∷ [])
+    ∷ crlf (50 ∷ 13 ∷ 10 ∷ []) (frame 2 50 ∷ []) []
+    ∷ crlf (13 ∷ 10 ∷ []) [] []
+    -- "50 13 46: 0,50 and 0,13"; "13 13 10: 2,13"
+    ∷ crlf (50 ∷ 13 ∷ 46 ∷ []) (frame 0 50 ∷ frame 0 13 ∷ []) (46 ∷ [])
+    ∷ crlf (13 ∷ 13 ∷ 10 ∷ []) (frame 2 13 ∷ []) []
+    -- "50 13 10 13 10 46 13 10: 2,50 and 2,46"
+    ∷ crlf (50 ∷ 13 ∷ 10 ∷ 13 ∷ 10 ∷ 46 ∷ 13 ∷ 10 ∷ []) (frame 2 50 ∷ frame 2 46 ∷ []) []
+    -- "pair 10, 10; 50 10 10 10 46 53: 2,50, 0,10, 0,46"
+    ∷ record { trial = held 10 10 (50 ∷ 10 ∷ 10 ∷ 10 ∷ 46 ∷ 53 ∷ []); wanted = reads (frame 2 50 ∷ frame 0 10 ∷ frame 0 46 ∷ []) (53 ∷ []) }
+    -- "unassigned, 5,158 in: 5,159 out, address 30"
+    ∷ record { trial = taken 5 158; wanted = answers (frame 5 159) 30 }
+    ∷ []
+
+-- every example comes out as the paper says
+abbrev pub AllAsThePaperSays : Type 0
+AllAsThePaperSays = map (λ (x : Example). given (x .trial)) table ≡ map (λ (x : Example). x .wanted) table

@@ -1,0 +1,3 @@
+pub mod Fitting
+pub mod OneResult
+pub mod Examples
