@@ -8,7 +8,8 @@ import os
 import re
 import sys
 
-NAME = re.compile(r"`(crates/[^`\s]+)`,? `([^`]+)`")
+CODE = re.compile(r"`([^`]+)`")
+PLACE = re.compile(r"(crates|rust|include|tests|tools)/")
 
 
 def crates():
@@ -46,15 +47,19 @@ def sizes():
 
 
 def missing_names(path):
-    """Names that a document gives as `file`, `name` and that do not stand in that file."""
+    """Files that a document names and that are not there, and names that do not stand in the file named before them."""
     wrong = []
     for number, line in enumerate(open(path, encoding="utf-8"), 1):
-        for where, names in NAME.findall(line):
-            for name in re.split(r"\s*,\s*", names):
-                if not os.path.exists(where):
-                    wrong.append(f"{path}:{number}: no file {where}")
-                elif not re.search(r"(^|[^\w'-])" + re.escape(name) + r"([^\w'-]|$)", open(where, encoding="utf-8").read()):
-                    wrong.append(f"{path}:{number}: no {name} in {where}")
+        where = None
+        for word in CODE.findall(line):
+            if PLACE.match(word):
+                where = word if os.path.isfile(word) else None
+                if not os.path.exists(word):
+                    wrong.append(f"{path}:{number}: no file {word}")
+            elif where and path.endswith("PROMISES.md"):
+                text = open(where, encoding="utf-8").read()
+                if not re.search(r"(^|[^\w'-])" + re.escape(word) + r"([^\w'-]|$)", text):
+                    wrong.append(f"{path}:{number}: no {word} in {where}")
     return wrong
 
 

@@ -19,7 +19,8 @@ ERROR = re.compile(r"error:|it is not proved that")
 def first_error(text):
     lines = text.split("\n")
     for at, line in enumerate(lines):
-        if ERROR.search(line):
+        # "was not admitted" only follows from an earlier refusal
+        if ERROR.search(line) and "was not admitted" not in line:
             return "\n".join(lines[at : at + 3])
     return ""
 

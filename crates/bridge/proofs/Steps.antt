@@ -1,12 +1,12 @@
 -- From what the parts of a call gave to the promise of the call, on plain values. Assumes nothing.
 use Prim.Native.Nat.{ℕ, _<_, _≤_, _%_}
 use mathlib.Core.Path.{_≡_, refl, sym, ap, _∙_}
-use mathlib.Core.List.{List, []}
+use mathlib.Core.List.{List, [], _∷_}
 use mathlib.Core.Bool.{Bool, true, false, cond, not}
 use lib.Dec.{eqb, ltb}
 use lib.ListN.{length, take, drop}
 use borrow.Author.Tests.{eq-eqb, ne-eqb, lt-ltb, le-ltb}
-use Rattle.cases.specs.Refusals.{firstRefusal}
+use Rattle.cases.specs.Refusals.{Check, check, firstRefusal}
 use Rattle.registers.specs.declared.Registers.{Registers}
 use Rattle.registers.specs.Writing.{writeChecks, written}
 use Rattle.store.specs.Ring.{run}
@@ -21,83 +21,59 @@ use Rattle.loops.specs.LoopToLine.{busy}
 use Rattle.loops.specs.Frames.{frameSettled, Framed}
 use Rattle.line.specs.HoldingOff.{lineState, lineBytes, Taken, afterWrite, nextOut, goneState, outAnswer}
 use Rattle.state.specs.Status.{settled, breakState, keyState}
-use Rattle.bridge.specs.Calls.{Call, create, reset, write, lineByte, lineBreak, key, nextLineByte, loopFrame, World, Did, world, did, checks, outcome, doneWith, refusedWith, settledBy, rxAfter, txAfter, accepted, refusedOr, step, shown, Created}
+use Rattle.bridge.specs.Calls.{Call, create, reset, write, lineByte, lineBreak, key, nextLineByte, loopFrame, World, Did, world, did, checks, outcome, doneWith, refusedWith, settledBy, rxAfter, txAfter, accepted, refusedOr, misfit, step, shown, Created}
+
+-- a call that takes a state: the check for a misfit, and `more` after it
+abbrev Judged : Call → State → List ℕ → List ℕ → List Check → Type 0
+Judged c s rx tx more = step c (world s rx tx) ≡ refusedOr (firstRefusal (misfit (world s rx tx) ∷ more)) (accepted c (world s rx tx)) (world s rx tx)
+
+-- the checks of a loop frame after that
+abbrev pub frameChecks : State → ℕ → List Check
+frameChecks s f = check 3 (ltb 2047 f) ∷ check 4 (busy s f) ∷ []
 
 module _ (s : State) (rx tx : List ℕ) (e : fits s (length rx) (length tx) ≡ false) where
-  pub reset-misfit : (o : Outcome) → o ≡ refusedWith s 2 → did o rx tx ≡ step reset (world s rx tx)
-  unfolding step refusedOr checks said
-  reset-misfit o q = rw (q, e)
-
-  pub write-misfit : (o : Outcome) (n v : ℕ) → o ≡ refusedWith s 2 → did o rx tx ≡ step (write n v) (world s rx tx)
-  unfolding step refusedOr checks said
-  write-misfit o n v q = rw (q, e)
-
-  pub line-misfit : (o : Outcome) (b : ℕ) → o ≡ refusedWith s 2 → did o rx tx ≡ step (lineByte b) (world s rx tx)
-  unfolding step refusedOr checks said
-  line-misfit o b q = rw (q, e)
-
-  pub break-misfit : (o : Outcome) → o ≡ refusedWith s 2 → did o rx tx ≡ step lineBreak (world s rx tx)
-  unfolding step refusedOr checks said
-  break-misfit o q = rw (q, e)
-
-  pub key-misfit : (o : Outcome) → o ≡ refusedWith s 2 → did o rx tx ≡ step key (world s rx tx)
-  unfolding step refusedOr checks said
-  key-misfit o q = rw (q, e)
-
-  pub next-misfit : (o : Outcome) → o ≡ refusedWith s 2 → did o rx tx ≡ step nextLineByte (world s rx tx)
-  unfolding step refusedOr checks said
-  next-misfit o q = rw (q, e)
-
-  pub frame-misfit : (o : Outcome) (f : ℕ) → o ≡ refusedWith s 2 → did o rx tx ≡ step (loopFrame f) (world s rx tx)
-  unfolding step refusedOr checks said
-  frame-misfit o f q = rw (q, e)
+  -- a misfit is refused by every such call
+  pub misfit-met : (c : Call) (more : List Check) (o : Outcome) → Judged c s rx tx more → o ≡ refusedWith s 2 → did o rx tx ≡ step c (world s rx tx)
+  unfolding refusedOr said
+  misfit-met c more o d q = ap (λ (x : Outcome). did x rx tx) q ∙ sym (d ∙ rw e)
 
   pub show-misfit : (side : ℕ) → [] ≡ shown side (world s rx tx)
   unfolding shown
   show-misfit side = rw e
 
 module _ (s : State) (rx tx : List ℕ) (e : fits s (length rx) (length tx) ≡ true) where
-  pub reset-done : (o : Outcome) (t u : State) → t ≡ startState (s .sizes .margin) (length rx) (length tx) → u ≡ settled s t → o ≡ doneWith u → did o rx tx ≡ step reset (world s rx tx)
-  unfolding step refusedOr checks accepted outcome settledBy rxAfter txAfter
-  reset-done o t u a b q = rw (q, b, a, e)
+  -- a state that fits, and no refusal after that: what is accepted was done
+  pub fit-met : (c : Call) (more : List Check) (d : Did) → Judged c s rx tx more → firstRefusal more ≡ 0 → d ≡ accepted c (world s rx tx) → d ≡ step c (world s rx tx)
+  unfolding refusedOr
+  fit-met c more d j h q = q ∙ sym (j ∙ rw (e, h))
 
-  pub line-done : (o : Outcome) (b : ℕ) (rx′ : List ℕ) (t u : State) → Taken s rx b rx′ t → u ≡ settled s t → o ≡ doneWith u → did o rx′ tx ≡ step (lineByte b) (world s rx tx)
-  unfolding step refusedOr checks accepted outcome settledBy rxAfter txAfter
-  line-done o b rx′ t u a c q = rw (q, c, a .state, a .bytes, e)
+  -- a refusal after that
+  pub refused-met : (c : Call) (more : List Check) (n : ℕ) (o : Outcome) → Judged c s rx tx more → n ≡ firstRefusal more → (n ≡ 0 → ⊥) → o ≡ refusedWith s n → did o rx tx ≡ step c (world s rx tx)
+  unfolding refusedOr said
+  refused-met c more n o j h d q = ap (λ (x : Outcome). did x rx tx) q ∙ sym (j ∙ rw (e, ← h, ne-eqb n 0 d))
 
-  pub break-done : (o : Outcome) (t u : State) → t ≡ breakState s → u ≡ settled s t → o ≡ doneWith u → did o rx tx ≡ step lineBreak (world s rx tx)
-  unfolding step refusedOr checks accepted outcome settledBy rxAfter txAfter
-  break-done o t u a b q = rw (q, b, a, e)
-
-  pub key-done : (o : Outcome) (t u : State) → t ≡ keyState s → u ≡ settled s t → o ≡ doneWith u → did o rx tx ≡ step key (world s rx tx)
-  unfolding step refusedOr checks accepted outcome settledBy rxAfter txAfter
-  key-done o t u a b q = rw (q, b, a, e)
+  -- a call that has nothing to hand out
+  pub done-met : (c : Call) (more : List Check) (o : Outcome) (rx′ tx′ : List ℕ) (t u : State) → Judged c s rx tx more → firstRefusal more ≡ 0 →
+      doneWith t ≡ outcome c (world s rx tx) → settled s t ≡ settledBy c s t → rx′ ≡ rxAfter c (world s rx tx) → tx′ ≡ txAfter c (world s rx tx) →
+      u ≡ settled s t → o ≡ doneWith u → did o rx′ tx′ ≡ step c (world s rx tx)
+  unfolding accepted
+  done-met c more o rx′ tx′ t u j h a b x y z q =
+      fit-met c more (did o rx′ tx′) j h (rw (q, z, b, x, y, ← a))
 
   pub next-done : (x : Out) (a : Answer) (t u : State) → x ≡ nextOut s tx → a ≡ outAnswer x → t ≡ goneState s x → u ≡ settled s t →
       did (record { state = u; answer = a }) rx tx ≡ step nextLineByte (world s rx tx)
-  unfolding step refusedOr checks accepted outcome settledBy rxAfter txAfter
-  next-done x a t u p q r z = rw (z, r, q, p, e)
+  unfolding step checks accepted outcome settledBy rxAfter txAfter
+  next-done x a t u p q r z = fit-met nextLineByte [] (did (record { state = u; answer = a }) rx tx) refl refl (rw (z, r, q, p))
 
-  pub write-refused : (o : Outcome) (n v k : ℕ) → k ≡ firstRefusal (writeChecks (s .regs) n v) → (k ≡ 0 → ⊥) → o ≡ refusedWith s k → did o rx tx ≡ step (write n v) (world s rx tx)
-  unfolding step refusedOr checks said
-  write-refused o n v k a d q = rw (q, e, ← a, ne-eqb k 0 d)
+  pub frame-large : (f : ℕ) → 2047 < f → firstRefusal (frameChecks s f) ≡ 3
+  frame-large f h = rw (lt-ltb 2047 f h)
 
-  pub write-done : (o : Outcome) (n v k : ℕ) (g : Registers) (t u : State) → k ≡ firstRefusal (writeChecks (s .regs) n v) → k ≡ 0 → g ≡ written (s .regs) n v →
-      t ≡ afterWrite s n g → u ≡ settled s t → o ≡ doneWith u → did o rx tx ≡ step (write n v) (world s rx tx)
-  unfolding step refusedOr checks accepted outcome settledBy rxAfter txAfter
-  write-done o n v k g t u a z b c d q = rw (q, d, c, b, e, ← a, z)
-
-  pub frame-large : (o : Outcome) (f : ℕ) → 2047 < f → o ≡ refusedWith s 3 → did o rx tx ≡ step (loopFrame f) (world s rx tx)
-  unfolding step refusedOr checks said
-  frame-large o f h q = rw (q, e, lt-ltb 2047 f h)
-
-  pub frame-busy : (o : Outcome) (f : ℕ) → f ≤ 2047 → busy s f ≡ true → o ≡ refusedWith s 4 → did o rx tx ≡ step (loopFrame f) (world s rx tx)
-  unfolding step refusedOr checks said
-  frame-busy o f h b q = rw (q, e, le-ltb 2047 f h, b)
+  pub frame-busy : (f : ℕ) → f ≤ 2047 → busy s f ≡ true → firstRefusal (frameChecks s f) ≡ 4
+  frame-busy f h b = rw (le-ltb 2047 f h, b)
 
   pub frame-done : (o : Outcome) (f : ℕ) (tx′ : List ℕ) → f ≤ 2047 → busy s f ≡ false → Framed s rx tx f tx′ o → did o rx tx′ ≡ step (loopFrame f) (world s rx tx)
-  unfolding step refusedOr checks accepted outcome settledBy rxAfter txAfter frameSettled
-  frame-done o f tx′ h b q = rw (q .outcome, q .bytes, e, le-ltb 2047 f h, b)
+  unfolding step checks accepted outcome settledBy rxAfter txAfter frameSettled
+  frame-done o f tx′ h b q = fit-met (loopFrame f) (frameChecks s f) (did o rx tx′) refl (rw (le-ltb 2047 f h, b)) (rw (q .outcome, q .bytes))
 
   pub show-receive : (side : ℕ) → side ≡ 0 → run rx (s .rx) ≡ shown side (world s rx tx)
   unfolding shown

@@ -6,15 +6,17 @@ use Rattle.reading.specs.Steps.{cut}
 use Rattle.registers.specs.Table as registers-table
 use Rattle.registers.specs.Bits.{tooLarge, bitNotCarried, inRange}
 use Rattle.registers.specs.Fit.{values, allInRange, registersFit}
+use Rattle.registers.specs.Writing.{written}
 use Rattle.role.specs.ReadyFrames.{readyOf}
 use Rattle.store.specs.Ring.{fitTest}
 use Rattle.state.specs.Answers.{said}
 use Rattle.state.specs.Sizes.{sizesObeyed, startState, fits}
 use Rattle.state.specs.Status.{conditions, enabledBy, asking, settled, shows, serviced}
 use Rattle.loops.specs.LoopToLine.{leaves, busy}
+use Rattle.loops.specs.Sending.{ruleOf}
 use Rattle.loops.specs.Frames.{readied, ready, frameTaken, deviceClear, frameBytes, leavesBytes}
 use Rattle.bridge.specs.Calls.{checks, outcome, settledBy, rxAfter, txAfter, accepted, refusedOr, step}
 
 pub examples : AllAsThePaperSays
-unfolding given table inCuts byCuts cut registers-table.table registers-table.rowIn registers-table.carriedOf registers-table.startOf registers-table.startRegisters tooLarge bitNotCarried inRange values allInRange registersFit readyOf fitTest said sizesObeyed startState fits conditions enabledBy asking settled shows serviced leaves busy readied ready frameTaken deviceClear frameBytes leavesBytes checks outcome settledBy rxAfter txAfter accepted refusedOr step
+unfolding given table inCuts byCuts cut ruleOf written registers-table.table registers-table.rowIn registers-table.carriedOf registers-table.startOf registers-table.startRegisters tooLarge bitNotCarried inRange values allInRange registersFit readyOf fitTest said sizesObeyed startState fits conditions enabledBy asking settled shows serviced leaves busy readied ready frameTaken deviceClear frameBytes leavesBytes checks outcome settledBy rxAfter txAfter accepted refusedOr step
 examples = refl

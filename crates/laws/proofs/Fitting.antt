@@ -41,8 +41,8 @@ use Rattle.loops.specs.LoopToLine.{leaves, leftState, leftBytes}
 use Rattle.loops.specs.Sending.{ruleOf, talking, ended, removedState, sendState, sendFrom, sendStatus}
 use Rattle.loops.specs.Frames.{isClear, orderIn, cleared, obeyed, commandState, command, finishing, readied, ready, returned, dataPassed, identify, frameTaken, deviceClear, leavesBytes, frameBytes}
 use Rattle.bridge.specs.Calls.{Call, create, reset, write, lineByte, lineBreak, key, nextLineByte, loopFrame, show, World, Did, world, outcome, settledBy, rxAfter, txAfter, accepted, refusedOr, checks, step}
-use Rattle.laws.specs.Fitting.{AllBytes, Fits, SameStores, CallsKeepFit, CreateMakesFit, CallsKeepStores}
-use Rattle.laws.proofs.Small.{given-small, status-small}
+use Rattle.laws.specs.Fitting.{AllBytes, ByteCall, Fits, SameStores, CallsKeepFit, CreateMakesFit, CallsKeepStores, CallsKeepBytes}
+use Rattle.laws.proofs.Small.{put-bytes, given-small, status-small}
 use Rattle.laws.proofs.States.{tested, start-fits, with-registers, with-rx, with-tx, with-under, talking-tests, obeyed-tests, cleared-tests, assigned-tests}
 
 -- ---- both stores keep their lengths
@@ -361,3 +361,37 @@ calls-keep-stores lineBreak w = kept lineBreak w
 calls-keep-stores key w = kept key w
 calls-keep-stores nextLineByte w = kept nextLineByte w
 calls-keep-stores (loopFrame f) w = kept (loopFrame f) w
+
+-- ---- the receive store stays a store of bytes
+
+line-bytes : (s : State) (rx : List ℕ) (b : ℕ) → b < 256 → AllBytes rx → AllBytes (lineBytes s rx b)
+unfolding lineBytes
+line-bytes s rx b h k = by-cond AllBytes (isFlow (s .regs) b) _ _ (λ _. k) (λ _. put-bytes rx (s .rx) b h k)
+
+rx-bytes : (c : Call) (w : World) → ByteCall c → AllBytes (w .rx) → AllBytes (rxAfter c w)
+unfolding rxAfter
+rx-bytes (lineByte b) w h k = line-bytes (w .state) (w .rx) b h k
+rx-bytes (create m) w h k = k
+rx-bytes reset w h k = k
+rx-bytes (write n v) w h k = k
+rx-bytes lineBreak w h k = k
+rx-bytes key w h k = k
+rx-bytes nextLineByte w h k = k
+rx-bytes (loopFrame f) w h k = k
+rx-bytes (show side) w h k = k
+
+kept-bytes : (c : Call) (w : World) → ByteCall c → AllBytes (w .rx) → AllBytes (refusedOr (firstRefusal (checks c w)) (accepted c w) w .world .rx)
+unfolding refusedOr accepted
+kept-bytes c w h k = by-cond (λ (d : Did). AllBytes (d .world .rx)) (eqb (firstRefusal (checks c w)) 0) _ _ (λ _. rx-bytes c w h k) (λ _. k)
+
+pub calls-keep-bytes : CallsKeepBytes
+unfolding step
+calls-keep-bytes (show side) w h k = k
+calls-keep-bytes (create m) w h k = kept-bytes (create m) w h k
+calls-keep-bytes reset w h k = kept-bytes reset w h k
+calls-keep-bytes (write n v) w h k = kept-bytes (write n v) w h k
+calls-keep-bytes (lineByte b) w h k = kept-bytes (lineByte b) w h k
+calls-keep-bytes lineBreak w h k = kept-bytes lineBreak w h k
+calls-keep-bytes key w h k = kept-bytes key w h k
+calls-keep-bytes nextLineByte w h k = kept-bytes nextLineByte w h k
+calls-keep-bytes (loopFrame f) w h k = kept-bytes (loopFrame f) w h k

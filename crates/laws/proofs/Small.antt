@@ -1,16 +1,16 @@
 -- A frame sent from bytes is a data frame, and a status byte is a byte. Assumes nothing.
-use Prim.Native.Nat.{ℕ, _+_, _-_, _≤_, _<_}
+use Prim.Native.Nat.{ℕ, zero, suc, _+_, _-_, _≤_, _<_}
 use native.Mathlib.Omega.{arith}
 use mathlib.Core.Path.{_≡_, refl, sym, ap, subst, _∙_}
 use mathlib.Core.Logic.{⊎-elim}
 use mathlib.Core.Bool.{Bool, true, false, cond}
-use mathlib.Core.List.{List}
-use lib.ListN.{length, getD, drop, List·getD-eq-default}
+use mathlib.Core.List.{List, [], _∷_}
+use lib.ListN.{length, getD, drop, set, List·getD-eq-default}
 use lib.Seq.{getD-drop}
-use Rattle.cases.proofs.Cases.{split}
+use Rattle.cases.proofs.Cases.{split, by-cond}
 use Rattle.frame.specs.Frame.{made}
 use Rattle.store.specs.declared.Ring.{Ring}
-use Rattle.store.specs.Ring.{Fit, held, wrap}
+use Rattle.store.specs.Ring.{Fit, held, wrap, full, putBytes}
 use Rattle.store.proofs.Laws.{held-at, held-length}
 use Rattle.status.specs.declared.Conditions.{Conditions}
 use Rattle.status.specs.Status.{statusByte}
@@ -33,6 +33,18 @@ held-bytes s r f b k =
     (λ l. subst (λ (n : ℕ). n < 256) (sym (held-at s r k f l)) (b (wrap (length s) (r .oldest + k))))
     (λ g. subst (λ (n : ℕ). n < 256) (sym (List·getD-eq-default (held s r) 0 {n = k} (omega (arith, held-length s r f)))) (omega arith))
     (split k (r .len))
+
+-- a byte stored among bytes
+pub put-bytes : (s : List ℕ) (r : Ring) (b : ℕ) → b < 256 → AllBytes s → AllBytes (putBytes s r b)
+unfolding putBytes
+put-bytes s r b h k = by-cond AllBytes (full (length s) r) _ _ (λ _. k) (λ _ j. set-bytes s (wrap (length s) (r .oldest + r .len)) j k)
+  where
+    set-bytes : (xs : List ℕ) (at j : ℕ) → AllBytes xs → getD (set xs at b) j 0 < 256
+    set-bytes [] at j k = omega arith
+    set-bytes (x ∷ xs) zero zero k = h
+    set-bytes (x ∷ xs) zero (suc j) k = k (suc j)
+    set-bytes (x ∷ xs) (suc i) zero k = k 0
+    set-bytes (x ∷ xs) (suc i) (suc j) k = set-bytes xs i j (λ n. k (suc n))
 
 drop-bytes : (n : ℕ) (xs : List ℕ) → AllBytes xs → AllBytes (drop n xs)
 drop-bytes n xs b k = subst (λ (m : ℕ). m < 256) (sym (getD-drop n xs k 0)) (b (n + k))

@@ -1,12 +1,14 @@
--- "Proved examples: those marked P are proved together, a single statement over one table."
+-- "Proved examples": "Those marked P are proved together, a single statement over one table."
 use Prim.Native.Nat.{ℕ}
 use mathlib.Core.Path.{_≡_}
-use mathlib.Core.Bool.{true}
 use mathlib.Core.List.{List, [], _∷_, map}
 use Rattle.frame.specs.Frame.{controlOf, dataOf, made}
 use Rattle.reading.specs.declared.Rule.{Rule}
 use Rattle.reading.specs.Reading.{frames, left}
 use Rattle.reading.specs.Steps.{cut}
+use Rattle.registers.specs.Table.{startRegisters}
+use Rattle.registers.specs.Writing.{written}
+use Rattle.loops.specs.Sending.{ruleOf}
 use Rattle.state.specs.Answers.{Said, frame}
 use Rattle.state.specs.Sizes.{startState}
 use Rattle.bridge.specs.Calls.{Did, loopFrame, world, step}
@@ -26,18 +28,20 @@ pub record Example : Type 0 where
   pub trial : Trial
   pub wanted : Result
 
+-- the rule of a bridge just created, with R10 bit 3, C00 and C01 written
 abbrev rule : ℕ → ℕ → Rule
-rule c0 c1 = record { on = true; c00 = c0; c01 = c1 }
+rule c0 c1 = ruleOf (written (written (written startRegisters 10 8) 16 c0) 17 c1)
 
-abbrev written : ℕ → Said
-written f = frame (controlOf f) (dataOf f)
+-- a frame as the paper writes it
+abbrev shownAs : ℕ → Said
+shownAs f = frame (controlOf f) (dataOf f)
 
 -- a bridge just created, with margin 1 and the smallest stores
 abbrev taking : ℕ → ℕ → Did
 taking c d = step (loopFrame (made c d)) (world (startState 1 4 3) (0 ∷ 0 ∷ 0 ∷ 0 ∷ []) (0 ∷ 0 ∷ 0 ∷ []))
 
 unfoldable pub given : Trial → Result
-given (held c0 c1 xs) = reads (map written (frames (cut (rule c0 c1)) xs)) (left (cut (rule c0 c1)) xs)
+given (held c0 c1 xs) = reads (map shownAs (frames (cut (rule c0 c1)) xs)) (left (cut (rule c0 c1)) xs)
 given (taken c d) = answers (taking c d .said) (taking c d .world .state .role .address)
 
 abbrev crlf : List ℕ → List Said → List ℕ → Example

@@ -6,7 +6,7 @@ use mathlib.Core.List.{List}
 use lib.ListN.{length, getD}
 use Rattle.state.specs.Answers.{done}
 use Rattle.state.specs.Sizes.{fits}
-use Rattle.bridge.specs.Calls.{Call, create, World, step}
+use Rattle.bridge.specs.Calls.{Call, create, reset, write, lineByte, lineBreak, key, nextLineByte, loopFrame, show, World, step}
 
 -- a list of bytes: what a lent buffer of bytes holds
 abbrev pub AllBytes : List ℕ → Type 0
@@ -15,6 +15,22 @@ AllBytes xs = (k : ℕ) → getD xs k 0 < 256
 -- the state fits the stores
 abbrev pub Fits : World → Type 0
 Fits w = fits (w .state) (length (w .rx)) (length (w .tx)) ≡ true
+
+-- a byte from the line is a byte
+abbrev pub ByteCall : Call → Type 0
+ByteCall (lineByte b) = b < 256
+ByteCall (create m) = Unit {0}
+ByteCall reset = Unit {0}
+ByteCall (write n v) = Unit {0}
+ByteCall lineBreak = Unit {0}
+ByteCall key = Unit {0}
+ByteCall nextLineByte = Unit {0}
+ByteCall (loopFrame f) = Unit {0}
+ByteCall (show side) = Unit {0}
+
+-- the receive store stays a store of bytes
+abbrev pub CallsKeepBytes : Type 0
+CallsKeepBytes = (c : Call) (w : World) → ByteCall c → AllBytes (w .rx) → AllBytes (step c w .world .rx)
 
 -- the same stores: no call makes one longer or shorter
 pub record SameStores (before after : World) : Type 0 where

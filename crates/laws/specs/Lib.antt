@@ -1,3 +1,6 @@
 pub mod Fitting
 pub mod OneResult
+pub mod Answers
+pub mod Places
+pub mod Resuming
 pub mod Examples

@@ -30,7 +30,7 @@ passed s f = record { state = s; answer = Frame f }
 
 -- ---- commands
 
--- our home address on the loop: none while unassigned
+-- the address that an unassigned bridge answers to: 31, which makes no listener and no talker
 abbrev pub home : ℕ
 home = 31
 
@@ -62,7 +62,7 @@ isClear Nothing = false
 unfoldable pub obeyed : State → Order → State
 obeyed s o = withUnder (withRole s (obeyedRole (s .role) o)) (forgotten s)
 
--- "Commands go on unchanged."
+-- the state after an order
 unfoldable pub commandState : State → Order → State
 commandState s o = cond (isClear o) (cleared (obeyed s o)) (obeyed s o)
 
@@ -70,6 +70,7 @@ commandState s o = cond (isClear o) (cleared (obeyed s o)) (obeyed s o)
 abbrev pub orderIn : State → ℕ → Order
 orderIn s f = orderOf home (s .role) (dataOf f)
 
+-- "Commands go on unchanged."
 unfoldable pub command : State → ℕ → Outcome
 command s f = passed (commandState s (orderIn s f)) f
 

@@ -20,7 +20,7 @@ leaves g f = cond (isEnd f && endInserted g) (dataOf f ∷ g .c02 ∷ g .c03 ∷
 unfoldable pub busy : State → ℕ → Bool
 busy s f = (s .role .listener && isData f) && ltb (s .sizes .tx - s .tx .len) (length (leaves (s .regs) f))
 
--- "All fit": the transmit store with what a data frame adds
+-- the transmit store with what a data frame adds: "All fit, or refusal 4", which `busy` gives
 unfoldable pub leftState : State → ℕ → State
 leftState s f = withTx s (putsRing (s .sizes .tx) (s .tx) (leaves (s .regs) f))
 

@@ -14,7 +14,7 @@ pub struct Sizes {
     pub margin: usize,
 }
 
-// The frame under way, its service bit off, and whether sending ends after it.
+// The frame under way, which calls keep without its service bit, and whether sending ends after it.
 pub struct Under {
     pub frame: u16,
     pub finishing: bool,

@@ -33,11 +33,11 @@ emptyRing = record { oldest = 0; len = 0 }
 abbrev pub full : ℕ → Ring → Bool
 full cap r = leb cap (r .len)
 
--- "each later one to the place after the one before": one byte more, unless the store is full
+-- one byte more behind the newest, unless the store is full
 unfoldable pub putRing : ℕ → Ring → Ring
 putRing cap r = cond (full cap r) r (record { oldest = r .oldest; len = r .len + 1 })
 
--- the place behind the newest byte is written, unless the store is full, "and nothing else in a store is written"
+-- "each later one to the place after the one before, and nothing else in a store is written", unless the store is full
 unfoldable pub putBytes : List ℕ → Ring → ℕ → List ℕ
 putBytes s r b = cond (full (length s) r) s (set s (wrap (length s) (r .oldest + r .len)) b)
 
@@ -50,7 +50,7 @@ unfoldable pub putsBytes : List ℕ → Ring → List ℕ → List ℕ
 putsBytes s r [] = s
 putsBytes s r (b ∷ l) = putsBytes (putBytes s r b) (putRing (length s) r) l
 
--- without the n oldest bytes
+-- without the n oldest bytes; the place of the next byte stays, also where none is left
 unfoldable pub dropRing : ℕ → Ring → ℕ → Ring
 dropRing cap r n = record { oldest = wrap cap (r .oldest + n); len = r .len - n }
 

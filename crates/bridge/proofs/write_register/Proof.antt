@@ -1,27 +1,36 @@
-use mathlib.Core.Path.{sym, ap, _∙_}
+use mathlib.Core.Path.{refl, sym, ap, _∙_}
 use denote.Ref.{now}
 use Rattle.state.proofs.Fits.{is-misfit, is-fit, rx-room}
-use Rattle.bridge.proofs.Steps.{write-misfit, write-refused, write-done}
+use Rattle.line.specs.HoldingOff.{afterWrite}
+use Rattle.registers.specs.Writing.{writeChecks}
 use Rattle.registers.proofs.Refusals.{accepted-written}
+use Rattle.bridge.specs.Calls.{step, checks, outcome, settledBy, rxAfter, txAfter, doneWith, write}
+use Rattle.bridge.proofs.Steps.{misfit-met, refused-met, done-met}
 use borrow.Author.Needs.{needs}
 use Rattle.bridge.proofs.write_register.Statement.{statement}
 use Rattle.bridge.proofs.write_register.Tie as tie
 
 returns : tie.Need-returns
+unfolding step checks
 returns c =
-    write-misfit (c .before .before .before .before .before .args .s) (now (c .before .before .before .before .before .args .rx)) (now (c .before .before .before .before .before .args .tx)) (is-misfit (c .before .before .state-fits .ensures) (c .before .if1 .taken)) _ _ _ (c .refused .ensures)
+    misfit-met (c .before .before .before .before .before .args .s) (now (c .before .before .before .before .before .args .rx)) (now (c .before .before .before .before .before .args .tx)) (is-misfit (c .before .before .state-fits .ensures) (c .before .if1 .taken)) (write (c .before .before .before .before .before .args .number) (c .before .before .before .before .before .args .value)) (writeChecks (c .before .before .before .before .before .args .s .regs) (c .before .before .before .before .before .args .number) (c .before .before .before .before .before .args .value)) _ refl (c .refused .ensures)
 
 returns-2 : tie.Need-returns-2
+unfolding step checks outcome settledBy rxAfter txAfter
 returns-2 c =
-    write-refused (c .before .before .before .before .before .before .before .args .s) (now (c .before .before .before .before .before .before .before .args .rx)) (now (c .before .before .before .before .before .before .before .args .tx)) (is-fit (c .before .before .before .before .state-fits .ensures) (c .before .before .before .if1 .left)) _ _ _ _ (c .before .before .refused2 .ensures) (c .before .if2 .taken) (c .refused3 .ensures)
+    refused-met (c .before .before .before .before .before .before .before .args .s) (now (c .before .before .before .before .before .before .before .args .rx)) (now (c .before .before .before .before .before .before .before .args .tx)) (is-fit (c .before .before .before .before .state-fits .ensures) (c .before .before .before .if1 .left)) (write (c .before .before .before .before .before .before .before .args .number) (c .before .before .before .before .before .before .before .args .value)) (writeChecks (c .before .before .before .before .before .before .before .args .s .regs) (c .before .before .before .before .before .before .before .args .number) (c .before .before .before .before .before .before .before .args .value)) _ _ refl (c .before .before .refused2 .ensures) (c .before .if2 .taken) (c .refused3 .ensures)
 
 after-write-requires : tie.Need-after-write-requires
 after-write-requires c κs =
     rx-room (c .before .before .before .before .before .before .before .args .s) (now (c .before .before .before .before .before .before .before .args .rx)) (now (c .before .before .before .before .before .before .before .args .tx)) (is-fit (c .before .before .before .before .state-fits .ensures) (c .before .before .before .if1 .left))
 
 returns-3 : tie.Need-returns-3
+unfolding step checks outcome settledBy rxAfter txAfter
 returns-3 c =
-    write-done (c .before .before .before .before .before .before .before .before .before .before .args .s) (now (c .before .before .before .before .before .before .before .before .before .before .args .rx)) (now (c .before .before .before .before .before .before .before .before .before .before .args .tx)) (is-fit (c .before .before .before .before .before .before .before .state-fits .ensures) (c .before .before .before .before .before .before .if1 .left)) _ _ _ _ _ _ _ (c .before .before .before .before .before .refused2 .ensures) (c .before .before .before .before .if2 .left) (accepted-written _ _ _ _ (sym (c .before .before .before .before .before .refused2 .ensures) ∙ c .before .before .before .before .if2 .left) (c .before .before .before .written .ensures)) (c .before .before .after-write .ensures) (c .before .settled .ensures) (c .done .ensures)
+    let ok = sym (c .before .before .before .before .before .refused2 .ensures) ∙ c .before .before .before .before .if2 .left in
+    done-met (c .before .before .before .before .before .before .before .before .before .before .args .s) (now (c .before .before .before .before .before .before .before .before .before .before .args .rx)) (now (c .before .before .before .before .before .before .before .before .before .before .args .tx)) (is-fit (c .before .before .before .before .before .before .before .state-fits .ensures) (c .before .before .before .before .before .before .if1 .left)) (write (c .before .before .before .before .before .before .before .before .before .before .args .number) (c .before .before .before .before .before .before .before .before .before .before .args .value)) (writeChecks (c .before .before .before .before .before .before .before .before .before .before .args .s .regs) (c .before .before .before .before .before .before .before .before .before .before .args .number) (c .before .before .before .before .before .before .before .before .before .before .args .value)) _ _ _ _ _ refl ok
+    (ap doneWith (c .before .before .after-write .ensures ∙ ap (afterWrite (c .before .before .before .before .before .before .before .before .before .before .args .s) (c .before .before .before .before .before .before .before .before .before .before .args .number)) (accepted-written _ _ _ _ ok (c .before .before .before .written .ensures))))
+    refl refl refl (c .before .settled .ensures) (c .done .ensures)
 
 pub write-register-spec : {M : Type 1} → statement M
 write-register-spec =

@@ -1,0 +1,8 @@
+-- `Flags`, `Made` and `Over` serve the proofs of the functions, `ReadBack` and `Laws` are the laws of the block.
+pub mod Flags
+pub mod Made
+pub mod Over
+pub mod Same
+pub mod ReadBack
+pub mod Bytes
+pub mod Laws

@@ -1,0 +1,12 @@
+use borrow.Author.Needs.{needs}
+use Rattle.block.proofs.ring_at.Statement.{statement}
+use Rattle.block.proofs.ring_at.Tie as tie
+
+pub ring-at-spec : {M : Type 1} → statement M
+ring-at-spec =
+    tie.close
+    (tie.spec
+    (λ c κs. search needs)
+    (λ c. search needs)
+    (λ c κs. search needs)
+    (λ c. cc))

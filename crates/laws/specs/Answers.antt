@@ -1,0 +1,78 @@
+-- What a call can answer, and when it refuses.
+use Prim.Native.Nat.{ℕ}
+use mathlib.Core.Path.{_≡_}
+use mathlib.Core.Bool.{Bool, true, false}
+use Rattle.cases.specs.Refusals.{firstRefusal}
+use Rattle.state.specs.Answers.{Said, done, none, byte, frame, refused, part}
+use Rattle.bridge.specs.Calls.{Call, create, reset, write, lineByte, lineBreak, key, nextLineByte, loopFrame, show, World, Did, checks, step}
+
+-- a refusal
+abbrev pub isRefusal : Said → Bool
+isRefusal (refused n) = true
+isRefusal done = false
+isRefusal none = false
+isRefusal (byte b) = false
+isRefusal (frame k d) = false
+isRefusal (part xs) = false
+
+-- "A call that has nothing to hand out answers that it is done"
+abbrev pub doneOrRefused : Said → Bool
+doneOrRefused done = true
+doneOrRefused (refused n) = true
+doneOrRefused none = false
+doneOrRefused (byte b) = false
+doneOrRefused (frame k d) = false
+doneOrRefused (part xs) = false
+
+-- "with no line byte to give, the answer is none"
+abbrev pub byteOrRefused : Said → Bool
+byteOrRefused (byte b) = true
+byteOrRefused none = true
+byteOrRefused (refused n) = true
+byteOrRefused done = false
+byteOrRefused (frame k d) = false
+byteOrRefused (part xs) = false
+
+-- "Each frame taken gives exactly one frame out."
+abbrev pub frameOrRefused : Said → Bool
+frameOrRefused (frame k d) = true
+frameOrRefused (refused n) = true
+frameOrRefused done = false
+frameOrRefused none = false
+frameOrRefused (byte b) = false
+frameOrRefused (part xs) = false
+
+-- "Showing a store has no number: it returns .. a part"
+abbrev pub isPart : Said → Bool
+isPart (part xs) = true
+isPart done = false
+isPart none = false
+isPart (byte b) = false
+isPart (frame k d) = false
+isPart (refused n) = false
+
+-- the answers of each call
+abbrev pub canAnswer : Call → Said → Bool
+canAnswer (create m) x = doneOrRefused x
+canAnswer reset x = doneOrRefused x
+canAnswer (write n v) x = doneOrRefused x
+canAnswer (lineByte b) x = doneOrRefused x
+canAnswer lineBreak x = doneOrRefused x
+canAnswer key x = doneOrRefused x
+canAnswer nextLineByte x = byteOrRefused x
+canAnswer (loopFrame f) x = frameOrRefused x
+canAnswer (show side) x = isPart x
+
+abbrev pub CallsAnswerSo : Type 0
+CallsAnswerSo = (c : Call) (w : World) → canAnswer c (step c w .said) ≡ true
+
+-- what a call did, d, in the world w, where n is the number of the first of its checks that is given, 0 where none is
+pub record Refuses (d : Did) (n : ℕ) (w : World) : Type 0 where
+  -- "Given exactly when"
+  pub when : (m : ℕ) → d .said ≡ refused m → n ≡ m
+  pub given : (n ≡ 0 → ⊥) → d .said ≡ refused n
+  -- "Each returns its number alone; state and stores stay as they were"
+  pub leaves : isRefusal (d .said) ≡ true → d .world ≡ w
+
+abbrev pub RefusedExactly : Type 0
+RefusedExactly = (c : Call) (w : World) → Refuses (step c w) (firstRefusal (checks c w)) w

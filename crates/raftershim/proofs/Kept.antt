@@ -1,0 +1,216 @@
+-- What every call keeps: counts in 32 bits, numbers that fit their places, and a receive store of bytes. Assumes nothing.
+use Prim.Native.Nat.{ℕ, zero, suc, _+_, _%_, _<_}
+use native.Mathlib.Omega.{arith}
+use mathlib.Core.Path.{_≡_, refl, sym, ap, subst, _∙_}
+use mathlib.Core.Bool.{Bool, true, false, cond, not}
+use mathlib.Core.List.{List, [], _∷_}
+use lib.ListN.{length, getD, set}
+use lib.Dec.{eqb, ltb}
+use borrow.Author.Tests.{ltb-true}
+use Rattle.cases.specs.Refusals.{firstRefusal}
+use Rattle.cases.proofs.Cases.{by-cond}
+use Rattle.frame.specs.Frame.{controlOf, dataOf, isData, sameApart}
+use Rattle.registers.specs.Writing.{written}
+use Rattle.role.specs.declared.Order.{Order}
+use Rattle.role.specs.declared.Ready.{Ready}
+use Rattle.role.specs.declared.Ready.the-variants as asks
+use Rattle.role.specs.Parts.{isActive, activeStatus}
+use Rattle.role.specs.ReadyFrames.{readyOf}
+use Rattle.sending.specs.declared.Given.{Given}
+use Rattle.sending.specs.declared.Given.the-variants.{Nothing, One}
+use Rattle.sending.specs.Sending.{givenOf, sendHeld}
+use Rattle.store.specs.declared.Ring.{Ring}
+use Rattle.store.specs.Ring.{full, putBytes}
+use Rattle.state.specs.declared.State.{State}
+use Rattle.state.specs.declared.Outcome.{Outcome}
+use Rattle.state.specs.declared.Out.{Out}
+use Rattle.state.specs.declared.Out.the-variants as out
+use Rattle.state.specs.Counts.{counted}
+use Rattle.state.specs.Sizes.{sizesObeyed, startState, fits}
+use Rattle.state.specs.Status.{settled, statusBack, statusSent, breakState, keyState}
+use Rattle.line.specs.HoldingOff.{isFlow, flowed, storedWith, storedState, lostState, lineState, lineBytes, resumed, setAfresh, afterWrite, nextOut, goneState}
+use Rattle.loops.specs.LoopToLine.{leftState}
+use Rattle.loops.specs.Sending.{talking, ended, ruleOf, removedState, sendState, sendFrom, sendStatus}
+use Rattle.loops.specs.Frames.{cleared, isClear, obeyed, orderIn, commandState, command, finishing, readied, ready, returned, dataPassed, identify, frameTaken, deviceClear}
+use Rattle.laws.proofs.Fitting.{calls-keep-fit}
+use Rattle.block.specs.States.{Bytes, CountsRanged, Ranged}
+use Rattle.block.proofs.Laws.{fits-ranged, obeyed-ranged}
+use Rattle.bridge.specs.Calls.{Call, create, reset, write, lineByte, lineBreak, key, nextLineByte, loopFrame, show, World, Did, checks, outcome, settledBy, rxAfter, txAfter, accepted, refusedOr, step}
+use Rattle.raftershim.specs.Calls.{needsState}
+use Rattle.raftershim.specs.Runs.{isByteCall, Typed}
+use Rattle.raftershim.proofs.Closing.{misfit-step}
+
+-- ---- counts
+
+abbrev Counted : State → Type 0
+Counted s = CountsRanged (s .counts)
+
+abbrev Counts : Outcome → Type 0
+Counts o = CountsRanged (o .state .counts)
+
+counted-ranged : (n : ℕ) → counted n < 4294967296
+counted-ranged n = omega arith
+
+start-counts : (m rx tx : ℕ) → Counted (startState m rx tx)
+unfolding startState
+start-counts m rx tx = record { stored = omega arith; lost = omega arith; sent = omega arith }
+
+settled-counts : (s t : State) → Counted t → Counted (settled s t)
+unfolding settled
+settled-counts s t k = k
+
+write-counts : (s : State) (n v : ℕ) → Counted s → Counted (afterWrite s n (written (s .regs) n v))
+unfolding afterWrite setAfresh
+write-counts s n v k = by-cond Counted (eqb n 11) _ _ (λ e. k) (λ e. k)
+
+line-counts : (s : State) (b : ℕ) → Counted s → Counted (lineState s b)
+unfolding lineState flowed storedWith lostState
+line-counts s b k =
+    by-cond Counted (isFlow (s .regs) b) _ _
+    (λ e. k)
+    (λ e. by-cond Counted (full (s .sizes .rx) (s .rx)) _ _
+    (λ e. record { stored = k .stored; lost = counted-ranged (s .counts .lost); sent = k .sent })
+    (λ e. record { stored = counted-ranged (s .counts .stored); lost = k .lost; sent = k .sent }))
+
+gone-counts : (s : State) (o : Out) → Counted s → Counted (goneState s o)
+unfolding goneState
+gone-counts s (out.Own b) k = k
+gone-counts s (out.Held b) k = k
+gone-counts s out.Nothing k = k
+
+removed-counts : (s : State) (rx : List ℕ) → Counted s → Counted (removedState s rx)
+unfolding removedState resumed
+removed-counts s rx k = k
+
+send-counts : (s t : State) (g : Given) → Counted t → Counts (sendState s t g)
+unfolding sendState ended talking
+send-counts s t Nothing k = k
+send-counts s t (One f) k = record { stored = k .stored; lost = k .lost; sent = counted-ranged (t .counts .sent) }
+
+from-counts : (s : State) (rx : List ℕ) → Counted s → Counts (sendFrom s rx)
+unfolding sendFrom
+from-counts s rx k = send-counts s (removedState s rx) (givenOf (sendHeld (ruleOf (s .regs)) rx (s .rx))) (removed-counts s rx k)
+
+ready-counts : (s : State) (rx : List ℕ) (f : ℕ) (r : Ready) → Counted s → Counts (readied s rx f r)
+unfolding readied sendStatus talking statusSent finishing
+ready-counts s rx f asks.Address k = k
+ready-counts s rx f asks.Data k = from-counts s rx k
+ready-counts s rx f asks.Status k = k
+ready-counts s rx f asks.Finish k = k
+ready-counts s rx f asks.Pass k = k
+
+return-counts : (s : State) (rx : List ℕ) (f : ℕ) → Counted s → Counts (returned s rx f)
+unfolding returned ended talking statusBack
+return-counts s rx f k =
+    by-cond Counts (sameApart f (s .under .frame)) _ _
+    (λ e. by-cond Counts (eqb (s .role .talker) activeStatus) _ _
+    (λ e. k)
+    (λ e. by-cond Counts (s .under .finishing) _ _ (λ e. k) (λ e. from-counts s rx k)))
+    (λ e. k)
+
+command-counts : (s : State) (o : Order) → Counted s → Counted (commandState s o)
+unfolding commandState cleared obeyed
+command-counts s o k = by-cond Counted (isClear o) _ _ (λ e. k) (λ e. k)
+
+passed-counts : (s : State) (f : ℕ) → Counted s → Counts (dataPassed s f)
+unfolding dataPassed leftState
+passed-counts s f k = by-cond Counted (s .role .listener) _ _ (λ e. k) (λ e. k)
+
+frame-counts : (s : State) (rx : List ℕ) (f : ℕ) → Counted s → Counts (frameTaken s rx f)
+unfolding frameTaken command ready identify
+frame-counts s rx f k =
+    by-cond Counts (isData f) _ _
+    (λ e. by-cond Counts (isActive (s .role)) _ _ (λ e. return-counts s rx f k) (λ e. passed-counts s f k))
+    (λ e. by-cond Counts (eqb (controlOf f) 4) _ _
+    (λ e. command-counts s (orderIn s f) k)
+    (λ e. by-cond Counts (eqb (controlOf f) 5) _ _ (λ e. ready-counts s rx f (readyOf (s .role) (dataOf f)) k) (λ e. k)))
+
+accepted-counts : (c : Call) (w : World) → Counted (w .state) → CountsRanged (accepted c w .world .state .counts)
+unfolding accepted settledBy outcome breakState keyState
+accepted-counts (create m) w k = start-counts m (length (w .rx)) (length (w .tx))
+accepted-counts reset w k = settled-counts (w .state) _ (start-counts (w .state .sizes .margin) (length (w .rx)) (length (w .tx)))
+accepted-counts (write n v) w k = settled-counts (w .state) _ (write-counts (w .state) n v k)
+accepted-counts (lineByte b) w k = settled-counts (w .state) _ (line-counts (w .state) b k)
+accepted-counts lineBreak w k = settled-counts (w .state) (breakState (w .state)) k
+accepted-counts key w k = settled-counts (w .state) (keyState (w .state)) k
+accepted-counts nextLineByte w k = settled-counts (w .state) _ (gone-counts (w .state) (nextOut (w .state) (w .tx)) k)
+accepted-counts (loopFrame f) w k =
+    by-cond Counted (deviceClear (w .state) f) _ _
+    (λ e. frame-counts (w .state) (w .rx) f k)
+    (λ e. settled-counts (w .state) _ (frame-counts (w .state) (w .rx) f k))
+accepted-counts (show side) w k = k
+
+-- what holds of the world before a call and of an accepted call holds after the call
+after : (P : World → Type 0) (c : Call) (w : World) → P w → P (accepted c w .world) → P (step c w .world)
+unfolding step refusedOr
+after P (create m) w p q = by-cond (λ (d : Did). P (d .world)) (eqb (firstRefusal (checks (create m) w)) 0) _ _ (λ e. q) (λ e. p)
+after P reset w p q = by-cond (λ (d : Did). P (d .world)) (eqb (firstRefusal (checks reset w)) 0) _ _ (λ e. q) (λ e. p)
+after P (write n v) w p q = by-cond (λ (d : Did). P (d .world)) (eqb (firstRefusal (checks (write n v) w)) 0) _ _ (λ e. q) (λ e. p)
+after P (lineByte b) w p q = by-cond (λ (d : Did). P (d .world)) (eqb (firstRefusal (checks (lineByte b) w)) 0) _ _ (λ e. q) (λ e. p)
+after P lineBreak w p q = by-cond (λ (d : Did). P (d .world)) (eqb (firstRefusal (checks lineBreak w)) 0) _ _ (λ e. q) (λ e. p)
+after P key w p q = by-cond (λ (d : Did). P (d .world)) (eqb (firstRefusal (checks key w)) 0) _ _ (λ e. q) (λ e. p)
+after P nextLineByte w p q = by-cond (λ (d : Did). P (d .world)) (eqb (firstRefusal (checks nextLineByte w)) 0) _ _ (λ e. q) (λ e. p)
+after P (loopFrame f) w p q = by-cond (λ (d : Did). P (d .world)) (eqb (firstRefusal (checks (loopFrame f) w)) 0) _ _ (λ e. q) (λ e. p)
+after P (show side) w p q = p
+
+pub counts-kept : (c : Call) (w : World) → Counted (w .state) → Counted (step c w .world .state)
+counts-kept c w k = after (λ (x : World). Counted (x .state)) c w k (accepted-counts c w k)
+
+-- ---- the receive store
+
+set-bytes : (xs : List ℕ) (i b : ℕ) → b < 256 → Bytes xs → Bytes (set xs i b)
+set-bytes [] i b h k j = k j
+set-bytes (x ∷ xs) zero b h k zero = h
+set-bytes (x ∷ xs) zero b h k (suc j) = k (suc j)
+set-bytes (x ∷ xs) (suc i) b h k zero = k 0
+set-bytes (x ∷ xs) (suc i) b h k (suc j) = set-bytes xs i b h (λ n. k (suc n)) j
+
+put-bytes : (xs : List ℕ) (r : Ring) (b : ℕ) → b < 256 → Bytes xs → Bytes (putBytes xs r b)
+unfolding putBytes
+put-bytes xs r b h k = by-cond Bytes (full (length xs) r) _ _ (λ e. k) (λ e. set-bytes xs _ b h k)
+
+line-bytes : (s : State) (rx : List ℕ) (b : ℕ) → b < 256 → Bytes rx → Bytes (lineBytes s rx b)
+unfolding lineBytes
+line-bytes s rx b h k = by-cond Bytes (isFlow (s .regs) b) _ _ (λ e. k) (λ e. put-bytes rx (s .rx) b h k)
+
+accepted-bytes : (c : Call) (w : World) → isByteCall c ≡ true → Bytes (w .rx) → Bytes (accepted c w .world .rx)
+unfolding accepted rxAfter isByteCall
+accepted-bytes (lineByte b) w h k = line-bytes (w .state) (w .rx) b (ltb-true b 256 h) k
+accepted-bytes (create m) w h k = k
+accepted-bytes reset w h k = k
+accepted-bytes (write n v) w h k = k
+accepted-bytes lineBreak w h k = k
+accepted-bytes key w h k = k
+accepted-bytes nextLineByte w h k = k
+accepted-bytes (loopFrame f) w h k = k
+accepted-bytes (show side) w h k = k
+
+-- ---- all numbers
+
+-- a state that does not fit stays, unless create makes another
+misfit-ranged : (c : Call) (w : World) → fits (w .state) (length (w .rx)) (length (w .tx)) ≡ false → Ranged (w .state) → Ranged (step c w .world .state)
+unfolding step refusedOr checks accepted outcome settledBy rxAfter txAfter needsState
+misfit-ranged (create m) w e h = pick (sizesObeyed m (length (w .rx)) (length (w .tx))) refl
+  where
+    pick : (t : Bool) → sizesObeyed m (length (w .rx)) (length (w .tx)) ≡ t → Ranged (step (create m) w .world .state)
+    pick true q = rw q (obeyed-ranged m (length (w .rx)) (length (w .tx)) q)
+    pick false q = rw q h
+misfit-ranged (show side) w e h = h
+misfit-ranged reset w e h = rw (misfit-step reset w refl e) h
+misfit-ranged (write n v) w e h = rw (misfit-step (write n v) w refl e) h
+misfit-ranged (lineByte b) w e h = rw (misfit-step (lineByte b) w refl e) h
+misfit-ranged lineBreak w e h = rw (misfit-step lineBreak w refl e) h
+misfit-ranged key w e h = rw (misfit-step key w refl e) h
+misfit-ranged nextLineByte w e h = rw (misfit-step nextLineByte w refl e) h
+misfit-ranged (loopFrame f) w e h = rw (misfit-step (loopFrame f) w refl e) h
+
+pub typed-kept : (c : Call) (w : World) → isByteCall c ≡ true → Typed w → Typed (step c w .world)
+typed-kept c w b h =
+    record {
+      state = pick (fits (w .state) (length (w .rx)) (length (w .tx))) refl;
+      rx = after (λ (x : World). Bytes (x .rx)) c w (h .rx) (accepted-bytes c w b (h .rx));
+    }
+  where
+    pick : (t : Bool) → fits (w .state) (length (w .rx)) (length (w .tx)) ≡ t → Ranged (step c w .world .state)
+    pick true e = fits-ranged (step c w .world .state) (step c w .world .rx) (step c w .world .tx) (calls-keep-fit c w (h .rx) e) (counts-kept c w (h .state .counts))
+    pick false e = misfit-ranged c w e (h .state)

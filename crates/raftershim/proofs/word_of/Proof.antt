@@ -1,0 +1,25 @@
+use Rattle.raftershim.proofs.Closing.{done-word, none-word, byte-word, frame-word, refused-word}
+use borrow.Author.Needs.{needs}
+use Rattle.raftershim.proofs.word_of.Statement.{statement}
+use Rattle.raftershim.proofs.word_of.Tie as tie
+
+pub word-of-spec : {M : Type 1} → statement M
+word-of-spec =
+    tie.close
+    (tie.spec
+    (λ c. search needs)
+    (λ c. search needs)
+    (λ c. search needs)
+    (λ c κs. search needs)
+    (λ c. search needs)
+    (λ c. search needs)
+    (λ c κs. search needs)
+    (λ c. search needs)
+    (λ c. search needs)
+    (λ c κs. search needs)
+    (λ c. search needs)
+    (λ c. done-word _ (c .enum-told .given .1))
+    (λ c. none-word _ (c .enum-told2 .given .1))
+    (λ c. byte-word _ _ _ (c .wide8 .ensures .0) (c .before .before .a .given .1))
+    (λ c. frame-word _ _ _ (c .wide16 .ensures .0) (c .before .before .a2 .given .1))
+    (λ c. refused-word _ _ _ (c .wide82 .ensures .0) (c .before .before .a3 .given .1)))

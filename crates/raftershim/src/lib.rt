@@ -1,0 +1,196 @@
+// The bridge as C functions: a lent block that holds the state, two lent stores, and numbers. Each answers one number of 64 bits.
+ghost use mathlib.Core.Path.{_≡_};
+ghost use mathlib.Core.Bool.{false};
+ghost use Prim.Native.Nat.{_<_};
+ghost use lib.ListN.{length};
+ghost use Rattle.state.specs.Answers.{said};
+ghost use Rattle.block.specs.Packed.{blockLen};
+ghost use Rattle.bridge.specs.Calls.{create, reset, write, lineByte, lineBreak, key, nextLineByte, loopFrame, show};
+ghost use Rattle.raftershim.specs.Word.{ofKind, word, isRefusal, placeWord, startOf};
+ghost use Rattle.raftershim.specs.Calls.{lent, returned, blockAfter, cStep};
+use state::Answer;
+use state::Outcome;
+use state::State;
+
+fn wide8(x: u8) -> u64
+    ensures { λ r. ⌜ (r ≡ x) × (r < 256) ⌝ }
+{
+    x as u64
+}
+
+fn wide16(x: u16) -> u64
+    ensures { λ r. ⌜ (r ≡ x) × (r < 65536) ⌝ }
+{
+    x as u64
+}
+
+// The number that an answer is: its kind above 16 bits of value.
+fn word_of(a: Answer) -> u64
+    ensures { λ r. ⌜ r ≡ word (said a) ⌝ }
+{
+    match a {
+        Answer::Done => 0,
+        Answer::Nothing => 65536,
+        Answer::Byte(b) => 131072 + wide8(b),
+        Answer::Frame(f) => 196608 + wide16(f),
+        Answer::Refused(n) => 262144 + wide8(n),
+    }
+}
+
+// Whether an answer is a refusal.
+fn is_refusal(a: Answer) -> bool
+    ensures { λ r. ⌜ r ≡ isRefusal (said a) ⌝ }
+{
+    match a {
+        Answer::Done => false,
+        Answer::Nothing => false,
+        Answer::Byte(_) => false,
+        Answer::Frame(_) => false,
+        Answer::Refused(_) => true,
+    }
+}
+
+// Writes the state over the block, unless the call was refused, and gives the answer's number.
+fn finished(block: &mut [u8], o: Outcome) -> u64
+    requires { ⌜ (isRefusal (said (o .answer)) ≡ false → length (now block) ≡ blockLen) ⌝ }
+    ensures { λ r. ⌜ (r ≡ word (said (o .answer))) × (now (block .exit) ≡ blockAfter (now (block .entry)) (said (o .answer)) (o .state)) ⌝ }
+{
+    let a = o.answer;
+    let w = word_of(a);
+    if is_refusal(a) {
+        return w;
+    }
+    let s = o.state;
+    block::pack(block, s);
+    w
+}
+
+// The length of the block that every other call takes.
+#[no_mangle]
+pub extern "C" fn raftershim_block_len() -> usize
+    ensures { λ r. ⌜ r ≡ blockLen ⌝ }
+{
+    block::block_len()
+}
+
+// Makes a state for these stores in the block.
+#[no_mangle]
+pub extern "C" fn raftershim_create(block: &mut [u8], rx: &[u8], tx: &[u8], margin: u32) -> u64
+    ensures { λ r. ⌜ returned r (now (block .exit)) (now (rx .entry)) (now (tx .entry)) ≡ cStep (create margin) (lent (now (block .entry)) (now (rx .entry)) (now (tx .entry))) ⌝ }
+{
+    if block.len() != block::LENGTH {
+        return word_of(Answer::Refused(1));
+    }
+    let o = bridge::create(rx, tx, margin as usize);
+    finished(block, o)
+}
+
+// Resets the state.
+#[no_mangle]
+pub extern "C" fn raftershim_reset(block: &mut [u8], rx: &[u8], tx: &[u8]) -> u64
+    ensures { λ r. ⌜ returned r (now (block .exit)) (now (rx .entry)) (now (tx .entry)) ≡ cStep reset (lent (now (block .entry)) (now (rx .entry)) (now (tx .entry))) ⌝ }
+{
+    let s = block::meaning(block);
+    let o = bridge::reset(s, rx, tx);
+    finished(block, o)
+}
+
+// Writes a register.
+#[no_mangle]
+pub extern "C" fn raftershim_write_register(
+    block: &mut [u8],
+    rx: &[u8],
+    tx: &[u8],
+    number: u32,
+    value: u32,
+) -> u64
+    ensures { λ r. ⌜ returned r (now (block .exit)) (now (rx .entry)) (now (tx .entry)) ≡ cStep (write number value) (lent (now (block .entry)) (now (rx .entry)) (now (tx .entry))) ⌝ }
+{
+    let s = block::meaning(block);
+    let o = bridge::write_register(s, rx, tx, number, value);
+    finished(block, o)
+}
+
+// Takes a line byte.
+#[no_mangle]
+pub extern "C" fn raftershim_line_byte(block: &mut [u8], rx: &mut [u8], tx: &[u8], byte: u8) -> u64
+    ensures { λ r. ⌜ returned r (now (block .exit)) (now (rx .exit)) (now (tx .entry)) ≡ cStep (lineByte byte) (lent (now (block .entry)) (now (rx .entry)) (now (tx .entry))) ⌝ }
+{
+    let s = block::meaning(block);
+    let o = bridge::line_byte(s, rx, tx, byte);
+    finished(block, o)
+}
+
+// Takes a break on the line.
+#[no_mangle]
+pub extern "C" fn raftershim_break(block: &mut [u8], rx: &mut [u8], tx: &[u8]) -> u64
+    ensures { λ r. ⌜ returned r (now (block .exit)) (now (rx .exit)) (now (tx .entry)) ≡ cStep lineBreak (lent (now (block .entry)) (now (rx .entry)) (now (tx .entry))) ⌝ }
+{
+    let s = block::meaning(block);
+    let o = bridge::take_break(s, rx, tx);
+    finished(block, o)
+}
+
+// Takes a press of the MSRQ key.
+#[no_mangle]
+pub extern "C" fn raftershim_key(block: &mut [u8], rx: &[u8], tx: &[u8]) -> u64
+    ensures { λ r. ⌜ returned r (now (block .exit)) (now (rx .entry)) (now (tx .entry)) ≡ cStep key (lent (now (block .entry)) (now (rx .entry)) (now (tx .entry))) ⌝ }
+{
+    let s = block::meaning(block);
+    let o = bridge::take_key(s, rx, tx);
+    finished(block, o)
+}
+
+// Gives the next line byte.
+#[no_mangle]
+pub extern "C" fn raftershim_next_line_byte(block: &mut [u8], rx: &[u8], tx: &[u8]) -> u64
+    ensures { λ r. ⌜ returned r (now (block .exit)) (now (rx .entry)) (now (tx .entry)) ≡ cStep nextLineByte (lent (now (block .entry)) (now (rx .entry)) (now (tx .entry))) ⌝ }
+{
+    let s = block::meaning(block);
+    let o = bridge::next_line_byte(s, rx, tx);
+    finished(block, o)
+}
+
+// Takes a loop frame, and gives one.
+#[no_mangle]
+pub extern "C" fn raftershim_loop_frame(
+    block: &mut [u8],
+    rx: &[u8],
+    tx: &mut [u8],
+    frame: u32,
+) -> u64
+    ensures { λ r. ⌜ returned r (now (block .exit)) (now (rx .entry)) (now (tx .exit)) ≡ cStep (loopFrame frame) (lent (now (block .entry)) (now (rx .entry)) (now (tx .entry))) ⌝ }
+{
+    let s = block::meaning(block);
+    let o = bridge::loop_frame(s, rx, tx, frame);
+    finished(block, o)
+}
+
+// Where the oldest byte of a side's store is.
+fn start_of(s: State, side: u32) -> usize
+    ensures { λ r. ⌜ r ≡ startOf side s ⌝ }
+{
+    if side == 0 { s.rx.oldest } else { s.tx.oldest }
+}
+
+// The number of a part that starts here and is this long.
+fn place_word(start: usize, len: usize) -> u64
+    requires { ⌜ (start < 4294967296) × (len < 4294967296) ⌝ }
+    ensures { λ r. ⌜ r ≡ placeWord start len ⌝ }
+{
+    4294967296 * (start as u64) + len as u64
+}
+
+// Shows a store: where the longest unbroken run of bytes from the oldest one starts, and how long it is.
+#[no_mangle]
+pub extern "C" fn raftershim_show<'a>(block: &[u8], rx: &'a [u8], tx: &'a [u8], side: u32) -> u64
+    ensures { λ r. ⌜ returned r (now (block .entry)) (now (rx .entry)) (now (tx .entry)) ≡ cStep (show side) (lent (now (block .entry)) (now (rx .entry)) (now (tx .entry))) ⌝ }
+{
+    let s = block::meaning(block);
+    let part = bridge::show(s, rx, tx, side);
+    let len = part.len();
+    if len == 0 {
+        return 0;
+    }
+    place_word(start_of(s, side), len)
+}

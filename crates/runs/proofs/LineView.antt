@@ -1,0 +1,71 @@
+-- The kind of change of line bytes in and out, and of register writes. Assumes nothing.
+use Prim.Native.Nat.{ℕ, _≤_}
+use native.Mathlib.Omega.{arith}
+use mathlib.Core.Path.{_≡_, refl}
+use mathlib.Core.Bool.{Bool, true, false, cond, _||_}
+use lib.Dec.{eqb}
+use lib.ListN.{getD}
+use borrow.Author.Tests.{leb-true, leb-false}
+use Rattle.registers.specs.declared.Registers.{Registers}
+use Rattle.registers.specs.Meanings.{go, stop}
+use Rattle.registers.specs.Writing.{written}
+use Rattle.store.specs.Ring.{held, full, putBytes}
+use Rattle.store.proofs.Laws.{put-full}
+use Rattle.state.specs.declared.Out.{Out}
+use Rattle.state.specs.declared.Out.the-variants.{Own, Held, Nothing}
+use Rattle.state.specs.State.{withRegisters}
+use Rattle.state.specs.Answers.{said, done}
+use Rattle.state.proofs.Fits.{rx-fits}
+use Rattle.line.specs.HoldingOff.{isFlow, flowed, lostState, storedState, lineState, lineBytes, setAfresh, afterWrite, owed, nextOut, goneState, outAnswer}
+use Rattle.line.proofs.Parts.{some-held}
+use Rattle.bridge.specs.Calls.{write, lineByte, nextLineByte, World}
+use Rattle.runs.specs.Observers.{arrived, accepted, lost, sent, statusSent, statusBack, left, handedOut, restarts, writes, clears}
+use Rattle.runs.proofs.Shapes.{seen, heart, Fits, Shape, isStill, isWritten, isStored, isLost, isHanded}
+use Rattle.runs.proofs.Quiet.{quiet, quietly}
+
+-- ---- line bytes in
+
+module _ (w : World) (F : Fits w) (b : ℕ) where
+  pub line-shape : Shape w (seen (lineByte b) w done) (heart (lineState (w .state) b)) (lineBytes (w .state) (w .rx) b) (w .tx)
+  unfolding arrived accepted lost sent statusSent statusBack left handedOut restarts writes clears lineState lineBytes flowed lostState
+  line-shape = by-tests (isFlow (w .state .regs) b) (full (w .state .sizes .rx) (w .state .rx)) refl refl
+    where
+      by-tests : (t u : Bool) → isFlow (w .state .regs) b ≡ t → full (w .state .sizes .rx) (w .state .rx) ≡ u →
+          Shape w (seen (lineByte b) w done) (heart (cond t (flowed (w .state) b) (cond u (lostState (w .state)) (storedState (w .state)))))
+          (cond t (w .rx) (putBytes (w .rx) (w .state .rx) b)) (w .tx)
+      by-tests true true f e = simp (f, e) isStill
+      by-tests true false f e = simp (f, e) isStill
+      by-tests false true f e =
+          let h : w .state .sizes .rx ≤ w .state .rx .len = leb-true _ _ e in
+          simp (f, e, put-full (w .rx) (w .state .rx) b (omega (arith, rx-fits (w .state) (w .rx) (w .tx) F .size))) (isLost b h)
+      by-tests false false f e = simp (f, e) (isStored b F (leb-false _ _ e))
+
+-- ---- line bytes out
+
+module _ (w : World) (F : Fits w) where
+  pub next-shape : Shape w (seen nextLineByte w (said (outAnswer (nextOut (w .state) (w .tx))))) (heart (goneState (w .state) (nextOut (w .state) (w .tx)))) (w .rx) (w .tx)
+  unfolding arrived sent statusSent statusBack left handedOut restarts writes clears nextOut goneState outAnswer said
+  next-shape =
+      quietly nextLineByte w _ _ _ _ refl (by-tests (owed (w .state .line)) (w .state .line .forbidden || eqb (w .state .tx .len) 0) refl refl)
+    where
+      out : Bool → Bool → Out
+      out t u = cond t (Own (cond (w .state .line .holding) (stop (w .state .regs)) (go (w .state .regs)))) (cond u Nothing (Held (getD (held (w .tx) (w .state .tx)) 0 0)))
+
+      by-tests : (t u : Bool) → owed (w .state .line) ≡ t → (w .state .line .forbidden || eqb (w .state .tx .len) 0) ≡ u →
+          Shape w (quiet nextLineByte w (said (outAnswer (out t u)))) (heart (goneState (w .state) (out t u))) (w .rx) (w .tx)
+      by-tests true u o e = simp o isStill
+      by-tests false true o e = simp o isStill
+      by-tests false false o e = simp o (isHanded F (some-held (w .state) (w .tx) e))
+
+-- ---- register writes
+
+pub write-shape : (w : World) (n v : ℕ) → Shape w (seen (write n v) w done) (heart (afterWrite (w .state) n (written (w .state .regs) n v))) (w .rx) (w .tx)
+unfolding arrived sent statusSent statusBack left handedOut restarts writes clears afterWrite setAfresh
+write-shape w n v = quietly (write n v) w done _ _ _ refl (by-test (eqb n 11))
+  where
+    g : Registers
+    g = written (w .state .regs) n v
+
+    by-test : (t : Bool) → Shape w (quiet (write n v) w done) (heart (cond t (setAfresh (withRegisters (w .state) g)) (withRegisters (w .state) g))) (w .rx) (w .tx)
+    by-test true = isWritten g _
+    by-test false = isWritten g _

@@ -1,0 +1,66 @@
+-- A call in which no byte arrives. Assumes nothing.
+use Prim.Native.Nat.{ℕ}
+use mathlib.Core.Path.{_≡_, refl, sym, subst}
+use mathlib.Core.Bool.{Bool, true, false, cond}
+use mathlib.Core.List.{List, []}
+use Rattle.store.specs.Ring.{full}
+use Rattle.state.specs.Answers.{Said, said}
+use Rattle.bridge.specs.Calls.{Call, World, Did}
+use Rattle.runs.specs.Observers.{arrived, accepted, lost, sent, statusSent, statusBack, left, handedOut}
+use Rattle.runs.specs.Run.{changes, empties, begins}
+use Rattle.runs.proofs.Shapes.{Seen, seen, Heart, heart, Shape}
+
+-- what a call did has a shape
+abbrev pub Shaped : (w : World) → Call → Did → Type 0
+Shaped w c d = Shape w (seen c w (d .said)) (heart (d .world .state)) (d .world .rx) (d .world .tx)
+
+-- ---- nothing arrives
+
+same-either : (t : Bool) → _≡_ {A = List ℕ} (cond t [] []) []
+same-either true = refl
+same-either false = refl
+
+-- where no byte arrives, none is accepted and none is lost
+abbrev pub quiet : Call → World → Said → Seen
+quiet c w a =
+    record {
+      arrived = [];
+      accepted = [];
+      lost = [];
+      sent = sent c w a;
+      asked = statusSent c w a;
+      back = statusBack c w a;
+      left = left c w a;
+      handed = handedOut c w a;
+      changes = changes c w a;
+      empties = empties c w a;
+      begins = begins c w a;
+    }
+
+module _ (c : Call) (w : World) (a : Said) (e : arrived c w a ≡ []) where
+  none-accepted : accepted c w a ≡ []
+  unfolding accepted
+  none-accepted = rw e (same-either (full (w .state .sizes .rx) (w .state .rx)))
+
+  none-lost : lost c w a ≡ []
+  unfolding lost
+  none-lost = rw e (same-either (full (w .state .sizes .rx) (w .state .rx)))
+
+pub quietly : (c : Call) (w : World) (a : Said) (h : Heart) (rx tx : List ℕ) → arrived c w a ≡ [] → Shape w (quiet c w a) h rx tx → Shape w (seen c w a) h rx tx
+quietly c w a h rx tx e = subst (λ x. Shape w x h rx tx) same
+  where
+    same : quiet c w a ≡ seen c w a
+    same = λ i.
+        record {
+          arrived = sym e i;
+          accepted = sym (none-accepted c w a e) i;
+          lost = sym (none-lost c w a e) i;
+          sent = sent c w a;
+          asked = statusSent c w a;
+          back = statusBack c w a;
+          left = left c w a;
+          handed = handedOut c w a;
+          changes = changes c w a;
+          empties = empties c w a;
+          begins = begins c w a;
+        }

@@ -1,0 +1,108 @@
+-- "Both stores, and the state, then stay exactly as they were." "Each frame taken gives exactly one frame out." Assumes nothing.
+use Prim.Native.Nat.{ℕ}
+use mathlib.Core.Path.{_≡_, refl, sym, _∙_}
+use mathlib.Core.Bool.{true, false, false≢true}
+use mathlib.Core.List.{List}
+use lib.Dec.{eqb}
+use Rattle.cases.specs.Refusals.{firstRefusal}
+use Rattle.cases.proofs.Cases.{by-cond}
+use Rattle.frame.specs.Frame.{controlOf, isData, sameApart}
+use Rattle.role.specs.declared.Ready.{Ready}
+use Rattle.role.specs.declared.Ready.the-variants.{Pass, Address, Data, Status, Finish}
+use Rattle.role.specs.Parts.{isActive}
+use Rattle.role.specs.ReadyFrames.{readyOf}
+use Rattle.sending.specs.declared.Given.{Given}
+use Rattle.sending.specs.declared.Given.the-variants as given
+use Rattle.state.specs.declared.State.{State}
+use Rattle.state.specs.declared.Out.{Out}
+use Rattle.state.specs.declared.Out.the-variants as out
+use Rattle.state.specs.declared.Outcome.{Outcome}
+use Rattle.state.specs.Answers.{Said, said, done, none, byte, frame, refused, part}
+use Rattle.line.specs.HoldingOff.{nextOut, outAnswer}
+use Rattle.loops.specs.Sending.{sendState, sendFrom, sendStatus, ended}
+use Rattle.loops.specs.Frames.{command, readied, ready, returned, dataPassed, identify, frameTaken}
+use Rattle.bridge.specs.Calls.{create, reset, write, lineByte, lineBreak, key, nextLineByte, loopFrame, show, World, Did, checks, outcome, refusedOr, step}
+use Rattle.bridge.specs.Calls as calls
+use Rattle.runs.specs.Observers.{taken, isFrame}
+use Rattle.runs.specs.Run.{answer, after}
+use Rattle.runs.specs.Demands.{RefusedStays, OneFrameOut}
+
+-- a frame is answered
+abbrev Answers : Outcome → Type 0
+Answers o = isFrame (said (o .answer)) ≡ true
+
+send-answers : (before after : State) (g : Given) → Answers (sendState before after g)
+unfolding sendState ended said
+send-answers before after given.Nothing = refl
+send-answers before after (given.One f) = refl
+
+ready-answers : (s : State) (rx : List ℕ) (f : ℕ) (r : Ready) → Answers (readied s rx f r)
+unfolding readied sendFrom sendStatus said
+ready-answers s rx f Address = refl
+ready-answers s rx f Data = send-answers s _ _
+ready-answers s rx f Status = refl
+ready-answers s rx f Finish = refl
+ready-answers s rx f Pass = refl
+
+return-answers : (s : State) (rx : List ℕ) (f : ℕ) → Answers (returned s rx f)
+unfolding returned sendFrom ended said
+return-answers s rx f =
+    by-cond Answers (sameApart f (s .under .frame)) _ _
+    (λ _. by-cond Answers (eqb (s .role .talker) 3) _ _ (λ _. refl)
+    (λ _. by-cond Answers (s .under .finishing) _ _ (λ _. refl) (λ _. send-answers s _ _)))
+    (λ _. refl)
+
+frame-answers : (s : State) (rx : List ℕ) (f : ℕ) → Answers (frameTaken s rx f)
+unfolding frameTaken command ready identify dataPassed said
+frame-answers s rx f =
+    by-cond Answers (isData f) _ _
+    (λ _. by-cond Answers (isActive (s .role)) _ _ (λ _. return-answers s rx f) (λ _. refl))
+    (λ _. by-cond Answers (eqb (controlOf f) 4) _ _ (λ _. refl)
+    (λ _. by-cond Answers (eqb (controlOf f) 5) _ _ (λ _. ready-answers s rx f (readyOf (s .role) _)) (λ _. refl)))
+
+-- a frame is no refusal
+frame-taken : (a : Said) → isFrame a ≡ true → taken a ≡ true
+frame-taken done e = refl
+frame-taken none e = refl
+frame-taken (byte b) e = refl
+frame-taken (frame k d) e = refl
+frame-taken (refused n) e = e
+frame-taken (part l) e = refl
+
+out-taken : (o : Out) → taken (said (outAnswer o)) ≡ true
+unfolding outAnswer said
+out-taken (out.Own b) = refl
+out-taken (out.Held b) = refl
+out-taken out.Nothing = refl
+
+module _ (w : World) where
+  -- refused, and nothing is changed
+  abbrev Stays : Did → Type 0
+  Stays d = taken (d .said) ≡ false → d .world ≡ w
+
+  not-refused : (d : Did) → taken (d .said) ≡ true → Stays d
+  not-refused d e h = absurd (false≢true (sym h ∙ e))
+
+  stays-or : (n : ℕ) (d : Did) → taken (d .said) ≡ true → Stays (refusedOr n d w)
+  unfolding refusedOr
+  stays-or n d e = by-cond Stays (eqb n 0) d (record { said = refused n; world = w }) (λ _. not-refused d e) (λ _ _. refl)
+
+pub refused-stays : RefusedStays
+unfolding step calls.accepted outcome said
+refused-stays (create m) w = stays-or w _ _ refl
+refused-stays reset w = stays-or w _ _ refl
+refused-stays (write n v) w = stays-or w _ _ refl
+refused-stays (lineByte b) w = stays-or w _ _ refl
+refused-stays lineBreak w = stays-or w _ _ refl
+refused-stays key w = stays-or w _ _ refl
+refused-stays nextLineByte w = stays-or w _ _ (out-taken (nextOut (w .state) (w .tx)))
+refused-stays (loopFrame f) w = stays-or w _ _ (frame-taken (said (frameTaken (w .state) (w .rx) f .answer)) (frame-answers (w .state) (w .rx) f))
+refused-stays (show side) w = λ _. refl
+
+pub one-frame-out : OneFrameOut
+unfolding step calls.accepted outcome refusedOr
+one-frame-out f w =
+    let n = firstRefusal (checks (loopFrame f) w) in
+    by-cond (λ (d : Did). taken (d .said) ≡ true → isFrame (d .said) ≡ true) (eqb n 0) (calls.accepted (loopFrame f) w) (record { said = refused n; world = w })
+    (λ _ _. frame-answers (w .state) (w .rx) f)
+    (λ _ e. e)

@@ -1,0 +1,47 @@
+-- What a send leaves in the store, and what it is seen to send. Assumes nothing.
+use Prim.Native.Nat.{ℕ, _-_, _≤_}
+use native.Mathlib.Omega.{arith}
+use mathlib.Core.Path.{_≡_, sym, ap, _∙_}
+use mathlib.Core.List.{List, [], _∷_}
+use lib.Dec.{ltb}
+use lib.ListN.{length, drop}
+use Rattle.cases.proofs.Cases.{cond-true}
+use Rattle.frame.specs.Frame.{controlOf, stripped}
+use Rattle.frame.proofs.Laws.{made-parts}
+use Rattle.store.specs.declared.Ring.{Ring}
+use Rattle.store.specs.Ring.{Fit, held}
+use Rattle.store.proofs.Laws.{held-length, held-drop, drop-len}
+use Rattle.reading.specs.declared.Rule.{Rule}
+use Rattle.reading.specs.Reading.{sentRest, send}
+use Rattle.reading.specs.Steps.{cut}
+use Rattle.reading.proofs.Kept.{send-suffix}
+use Rattle.reading.proofs.Lawful.{lawful}
+use Rattle.sending.specs.Sending.{sendHeld, sentRing}
+use Rattle.state.specs.declared.State.{State}
+use Rattle.state.specs.declared.Answer.the-variants.{Frame}
+use Rattle.state.specs.Answers.{said}
+use Rattle.state.specs.Status.{serviced}
+use Rattle.runs.specs.Observers.{dataFrame}
+use Rattle.runs.proofs.Answered.{serviced-kind, serviced-rest}
+use Rattle.runs.proofs.Bytes.{Plain}
+
+module _ (rule : Rule) (s : List ℕ) (r : Ring) (f : Fit s r) where
+  -- the ring holds what the send leaves
+  pub held-sent : held s (sentRing rule s r) ≡ sentRest (sendHeld rule s r)
+  unfolding sentRing sendHeld
+  held-sent =
+      held-drop s r (r .len - length (sentRest (send (cut rule) (held s r)))) f (omega arith)
+      ∙ ap (λ (n : ℕ). drop (n - length (sentRest (send (cut rule) (held s r)))) (held s r)) (sym (held-length s r f))
+      ∙ sym (send-suffix (cut rule) (lawful rule) (held s r))
+
+  -- and is no longer than before
+  pub sent-less : sentRing rule s r .len ≤ r .len
+  unfolding sentRing
+  sent-less = omega (arith, drop-len (length s) r (r .len - length (sentRest (sendHeld rule s r))))
+
+-- a plain frame is seen as it is, the service bit aside
+pub seen-plain : (s : State) (f : ℕ) → Plain f → dataFrame (said (Frame (serviced s f))) ≡ f ∷ []
+unfolding said
+seen-plain s f p =
+    cond-true (ltb (controlOf (serviced s f)) 4) _ _ (serviced-kind s f ∙ p .isdata)
+    ∙ ap (λ (n : ℕ). n ∷ []) (ap stripped (made-parts (serviced s f)) ∙ serviced-rest s f ∙ p .bare)

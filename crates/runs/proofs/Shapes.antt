@@ -1,0 +1,201 @@
+-- What a call can have done, one case for each kind of change. All that is proved of runs goes by these cases. Assumes nothing.
+use Prim.Native.Nat.{ℕ, _+_, _≤_, _<_}
+use mathlib.Core.Path.{_≡_}
+use mathlib.Core.Bool.{Bool, true, false}
+use mathlib.Core.List.{List, [], _∷_}
+use lib.ListN.{length, getD}
+use Rattle.registers.specs.declared.Registers.{Registers}
+use Rattle.store.specs.declared.Ring.{Ring}
+use Rattle.store.specs.Ring.{held, emptyRing, putBytes, putsRing, putsBytes, dropRing}
+use Rattle.status.specs.Status.{stays, showed}
+use Rattle.reading.specs.Reading.{none, one}
+use Rattle.sending.specs.Sending.{sendHeld, sentRing}
+use Rattle.state.specs.declared.State.{State}
+use Rattle.state.specs.declared.Sizes.{Sizes}
+use Rattle.state.specs.declared.Counts.{Counts}
+use Rattle.state.specs.declared.Answer.the-variants.{Frame}
+use Rattle.state.specs.Answers.{Said, said}
+use Rattle.state.specs.Sizes.{startState, fits}
+use Rattle.state.specs.Counts.{counted}
+use Rattle.state.specs.Status.{serviced}
+use Rattle.line.specs.HoldingOff.{storedState}
+use Rattle.loops.specs.Sending.{ruleOf, removedState}
+use Rattle.bridge.specs.Calls.{Call, World}
+use Rattle.runs.specs.Observers.{dataFrame, arrived, accepted, lost, sent, statusSent, statusBack, left, handedOut}
+use Rattle.runs.specs.Run.{changes, empties, begins}
+
+-- all that is seen of a call
+pub record Seen : Type 0 where
+  pub arrived : List ℕ
+  pub accepted : List ℕ
+  pub lost : List ℕ
+  pub sent : List ℕ
+  pub asked : Bool
+  pub back : Bool
+  pub left : List ℕ
+  pub handed : List ℕ
+  pub changes : Bool
+  pub empties : Bool
+  pub begins : Bool
+
+abbrev pub seen : Call → World → Said → Seen
+seen c w a =
+    record {
+      arrived = arrived c w a;
+      accepted = accepted c w a;
+      lost = lost c w a;
+      sent = sent c w a;
+      asked = statusSent c w a;
+      back = statusBack c w a;
+      left = left c w a;
+      handed = handedOut c w a;
+      changes = changes c w a;
+      empties = empties c w a;
+      begins = begins c w a;
+    }
+
+-- the part of a state that runs are about
+pub record Heart : Type 0 where
+  pub sizes : Sizes
+  pub regs : Registers
+  pub rx : Ring
+  pub tx : Ring
+  pub holding : Bool
+  pub over : Bool
+  pub again : Bool
+  pub counts : Counts
+
+abbrev pub heart : State → Heart
+heart s =
+    record {
+      sizes = s .sizes;
+      regs = s .regs;
+      rx = s .rx;
+      tx = s .tx;
+      holding = s .line .holding;
+      over = s .notes .seen .overrun;
+      again = s .notes .again .overrun;
+      counts = s .counts;
+    }
+
+-- nothing is seen
+abbrev pub still : Seen
+still =
+    record { arrived = []; accepted = []; lost = []; sent = []; asked = false; back = false; left = []; handed = []; changes = false; empties = false; begins = false }
+
+abbrev pub takes : List ℕ → List ℕ → List ℕ → Seen
+takes n a l =
+    record { arrived = n; accepted = a; lost = l; sent = []; asked = false; back = false; left = []; handed = []; changes = false; empties = false; begins = false }
+
+abbrev pub frames : List ℕ → Bool → Bool → List ℕ → Bool → Seen
+frames s q b l c =
+    record { arrived = []; accepted = []; lost = []; sent = s; asked = q; back = b; left = l; handed = []; changes = c; empties = c; begins = false }
+
+abbrev pub hands : List ℕ → Seen
+hands l =
+    record { arrived = []; accepted = []; lost = []; sent = []; asked = false; back = false; left = []; handed = l; changes = false; empties = false; begins = false }
+
+abbrev pub begun : Bool → Bool → Seen
+begun x r =
+    record { arrived = []; accepted = []; lost = []; sent = []; asked = false; back = false; left = []; handed = []; changes = x; empties = r; begins = r }
+
+abbrev pub Fits : World → Type 0
+Fits w = fits (w .state) (length (w .rx)) (length (w .tx)) ≡ true
+
+abbrev pub withFlags : State → Bool → Bool → Heart
+withFlags s over again =
+    record { sizes = s .sizes; regs = s .regs; rx = s .rx; tx = s .tx; holding = s .line .holding; over = over; again = again; counts = s .counts }
+
+abbrev pub withTransmit : State → Ring → Heart
+withTransmit s r =
+    record {
+      sizes = s .sizes;
+      regs = s .regs;
+      rx = s .rx;
+      tx = r;
+      holding = s .line .holding;
+      over = s .notes .seen .overrun;
+      again = s .notes .again .overrun;
+      counts = s .counts;
+    }
+
+abbrev pub withReceive : State → Ring → Bool → Counts → Heart
+withReceive s r h n =
+    record {
+      sizes = s .sizes;
+      regs = s .regs;
+      rx = r;
+      tx = s .tx;
+      holding = h;
+      over = s .notes .seen .overrun;
+      again = s .notes .again .overrun;
+      counts = n;
+    }
+
+pub data Shape (w : World) : Seen → Heart → List ℕ → List ℕ → Type 0 where
+  isStill : Shape w still (heart (w .state)) (w .rx) (w .tx)
+  isBegun : (m : ℕ) → Shape w (begun true true) (heart (startState m (length (w .rx)) (length (w .tx)))) (w .rx) (w .tx)
+  isWritten : (g : Registers) (h : Bool) →
+      Shape w (begun true false)
+      (record {
+        sizes = w .state .sizes;
+        regs = g;
+        rx = w .state .rx;
+        tx = w .state .tx;
+        holding = h;
+        over = w .state .notes .seen .overrun;
+        again = w .state .notes .again .overrun;
+        counts = w .state .counts;
+      })
+      (w .rx) (w .tx)
+  isCleared :
+      Shape w (frames [] false false [] true)
+      (record {
+        sizes = w .state .sizes;
+        regs = w .state .regs;
+        rx = emptyRing;
+        tx = emptyRing;
+        holding = false;
+        over = false;
+        again = false;
+        counts = w .state .counts;
+      })
+      (w .rx) (w .tx)
+  isStored : (b : ℕ) → Fits w → w .state .rx .len < w .state .sizes .rx →
+      Shape w (takes (b ∷ []) (b ∷ []) [])
+      (heart (storedState (w .state)))
+      (putBytes (w .rx) (w .state .rx) b) (w .tx)
+  isLost : (b : ℕ) → w .state .sizes .rx ≤ w .state .rx .len →
+      Shape w (takes (b ∷ []) [] (b ∷ []))
+      (record {
+        sizes = w .state .sizes;
+        regs = w .state .regs;
+        rx = w .state .rx;
+        tx = w .state .tx;
+        holding = w .state .line .holding;
+        over = true;
+        again = true;
+        counts = record { stored = w .state .counts .stored; lost = counted (w .state .counts .lost); sent = w .state .counts .sent };
+      })
+      (w .rx) (w .tx)
+  isSent : (f : ℕ) (r : List ℕ) → Fits w → sendHeld (ruleOf (w .state .regs)) (w .rx) (w .state .rx) ≡ one f r →
+      Shape w (frames (dataFrame (said (Frame (serviced (w .state) f)))) false false [] false)
+      (withReceive (w .state) (sentRing (ruleOf (w .state .regs)) (w .rx) (w .state .rx))
+      (removedState (w .state) (w .rx) .line .holding)
+      (record { stored = w .state .counts .stored; lost = w .state .counts .lost; sent = counted (w .state .counts .sent) }))
+      (w .rx) (w .tx)
+  isNone : (r : List ℕ) → Fits w → sendHeld (ruleOf (w .state .regs)) (w .rx) (w .state .rx) ≡ none r →
+      Shape w still
+      (withReceive (w .state) (sentRing (ruleOf (w .state .regs)) (w .rx) (w .state .rx))
+      (removedState (w .state) (w .rx) .line .holding)
+      (w .state .counts))
+      (w .rx) (w .tx)
+  isAsked : Shape w (frames [] true false [] false) (withFlags (w .state) (w .state .notes .seen .overrun) false) (w .rx) (w .tx)
+  isBack : (d : ℕ) →
+      Shape w (frames [] false true [] false)
+      (withFlags (w .state) (stays (w .state .notes .seen .overrun) (showed d 32) (w .state .notes .again .overrun)) (w .state .notes .again .overrun))
+      (w .rx) (w .tx)
+  isLeft : (l : List ℕ) → Fits w → w .state .tx .len + length l ≤ w .state .sizes .tx →
+      Shape w (frames [] false false l false) (withTransmit (w .state) (putsRing (w .state .sizes .tx) (w .state .tx) l)) (w .rx) (putsBytes (w .tx) (w .state .tx) l)
+  isHanded : Fits w → 0 < w .state .tx .len →
+      Shape w (hands (getD (held (w .tx) (w .state .tx)) 0 0 ∷ [])) (withTransmit (w .state) (dropRing (w .state .sizes .tx) (w .state .tx) 1)) (w .rx) (w .tx)

@@ -1,0 +1,49 @@
+-- The counts over a run, register writes and device clears included.
+use Prim.Native.Nat.{ℕ, _+_, _%_, _^_, _<_}
+use mathlib.Core.Path.{_≡_}
+use mathlib.Core.Bool.{true}
+use mathlib.Core.List.{List, _++_}
+use lib.ListN.{length}
+use Rattle.bridge.specs.Calls.{Call, World}
+use Rattle.runs.specs.Observers.{accepted, lost, sent}
+use Rattle.runs.specs.Run.{answer, after, end, all, Without, begins}
+use Rattle.runs.specs.Worlds.{heldToSend, Bytes}
+
+-- "bytes stored in the receive store, bytes lost, data frames sent from the receive store"
+abbrev pub stored : World → ℕ
+stored w = w .state .counts .stored
+
+abbrev pub losses : World → ℕ
+losses w = w .state .counts .lost
+
+abbrev pub frameCount : World → ℕ
+frameCount w = w .state .counts .sent
+
+-- "kept in 32 bits and starting again at 0 after 4,294,967,295"
+abbrev pub wrapped : ℕ → ℕ
+wrapped n = n % 2 ^ 32
+
+pub record Counted (cs : List Call) (v w : World) : Type 0 where
+  pub stored : stored w ≡ wrapped (stored v + length (all accepted cs v))
+  pub lost : losses w ≡ wrapped (losses v + length (all lost cs v))
+  pub sent : frameCount w ≡ wrapped (frameCount v + length (all sent cs v))
+
+pub record Small (w : World) : Type 0 where
+  pub stored : stored w < 2 ^ 32
+  pub lost : losses w < 2 ^ 32
+  pub sent : frameCount w < 2 ^ 32
+
+-- whatever was counted before
+abbrev pub CountsGo : Type 0
+CountsGo = (cs : List Call) (w : World) → Without begins cs w → Bytes (heldToSend w ++ all accepted cs w) → Small w → Counted cs w (end cs w)
+
+-- "three counts since create or reset": "bytes stored in the receive store, bytes lost, data frames sent from the receive store"
+pub record CountedSince (cs : List Call) (v w : World) : Type 0 where
+  pub stored : stored w ≡ wrapped (length (all accepted cs v))
+  pub lost : losses w ≡ wrapped (length (all lost cs v))
+  pub sent : frameCount w ≡ wrapped (length (all sent cs v))
+
+abbrev pub CountsSince : Type 0
+CountsSince =
+    (c : Call) (w : World) → begins c w (answer c w) ≡ true → (cs : List Call) → Without begins cs (after c w) →
+    Bytes (all accepted cs (after c w)) → CountedSince cs (after c w) (end cs (after c w))

@@ -1,0 +1,8 @@
+-- Runs of calls, what is seen of each call from outside, and what holds of every run.
+pub mod Observers
+pub mod Run
+pub mod Worlds
+pub mod Demands
+pub mod LineBytes
+pub mod Counts
+pub mod Service

@@ -1,0 +1,51 @@
+-- What a world holds, and how it is read.
+use Prim.Native.Nat.{ℕ, _<_}
+use mathlib.Core.Bool.{Bool}
+use mathlib.Core.List.{List, [], _∷_}
+use Rattle.store.specs.Ring.{held}
+use Rattle.status.specs.Status.{showed}
+use Rattle.reading.specs.Reading.{frames}
+use Rattle.reading.specs.Steps.{cut}
+use Rattle.reading.specs.Product.{Product}
+use Rattle.state.specs.Answers.{Said}
+use Rattle.state.specs.Status.{statusOf}
+use Rattle.loops.specs.Sending.{ruleOf}
+use Rattle.bridge.specs.Calls.{Call, World}
+use Rattle.runs.specs.Run.{answer, after}
+
+-- "the bytes still held", "the bytes held at the start"
+abbrev pub heldToSend : World → List ℕ
+heldToSend w = held (w .rx) (w .state .rx)
+
+-- the line bytes held
+abbrev pub heldForLine : World → List ℕ
+heldForLine w = held (w .tx) (w .state .tx)
+
+-- "those the reading rule gives"
+abbrev pub reading : World → List ℕ → List ℕ
+reading w = frames (cut (ruleOf (w .state .regs)))
+
+-- "the overrun bit": bit 5 of the status byte
+unfoldable pub overrunBit : World → Bool
+overrunBit w = showed (statusOf (w .state)) 32
+
+-- numbers that a byte can be
+abbrev pub Bytes : List ℕ → Type 0
+Bytes [] = Unit {0}
+Bytes (b ∷ bs) = (b < 256) × Bytes bs
+
+-- what is accepted, sent and held in a run of calls, and how what is held is read
+abbrev pub over : (accepted sent : Call → World → Said → List ℕ) → (World → List ℕ) → (World → List ℕ → List ℕ) → (Call → World → Type 0) → Product
+over accepted sent held reads allowed =
+    record {
+      State = World;
+      Call = Call;
+      Item = ℕ;
+      Out = ℕ;
+      after = after;
+      accepted = λ c w. accepted c w (answer c w);
+      sent = λ c w. sent c w (answer c w);
+      held = held;
+      reads = reads;
+      allowed = allowed;
+    }

@@ -1,0 +1,1 @@
+// No function: this crate has the statements on whole runs of calls, and their proofs.

@@ -1,0 +1,133 @@
+/*
+ * Raftershim: a software HP-IL/RS-232 interface, one device on a loop, as C functions.
+ *
+ * The bridge keeps nothing between calls. The caller lends three buffers at every call, each as a pointer and a length in bytes:
+ * the block, which holds the state (raftershim_block_len() bytes), the receive store (line to loop) and the transmit store (loop
+ * to line). They are the same three at every call, untouched in between, and they do not overlap. A pointer is not null and is
+ * good for its length. One call at a time may use a set of buffers.
+ *
+ * Every function but raftershim_block_len and raftershim_show answers one number of 64 bits:
+ *
+ *   bits 0 to 15    the value: a line byte, a frame or the number of a refusal, and 0 where there is none
+ *   bits 16 to 23   the kind: 0 done, 1 none, 2 a line byte, 3 a frame, 4 refused
+ *   the rest        0
+ *
+ * A frame is 11 bits: three control bits above eight data bits, control * 256 + data.
+ *
+ * The refusals:
+ *
+ *   1   create: a size is broken, or the block has the wrong length
+ *   2   any other call: the block is not a state, or the state does not fit the lent stores
+ *   3   a loop frame above 2047
+ *   4   busy: we are listener, the frame is data, and the transmit store lacks room for what it adds
+ *   5   register write: a number that is not carried
+ *   6   register write: a control value above 15, or a character above 255
+ *   7   register write: a control bit that is not carried
+ *   8   register write: the go and stop characters would be equal
+ *
+ * They are checked in the order of their numbers. A call that is refused leaves the block and both stores as they were.
+ */
+#ifndef RAFTERSHIM_H
+#define RAFTERSHIM_H
+
+#include <stddef.h>
+#include <stdint.h>
+
+#ifdef __cplusplus
+extern "C" {
+#endif
+
+/* The kind and the value of an answer. */
+#define RAFTERSHIM_KIND(answer) ((uint32_t)((answer) >> 16) & 0xFFu)
+#define RAFTERSHIM_VALUE(answer) ((uint32_t)(answer) & 0xFFFFu)
+
+#define RAFTERSHIM_DONE 0u
+#define RAFTERSHIM_NONE 1u
+#define RAFTERSHIM_BYTE 2u
+#define RAFTERSHIM_FRAME 3u
+#define RAFTERSHIM_REFUSED 4u
+
+/* The start and the length of a part that raftershim_show answered. */
+#define RAFTERSHIM_START(answer) ((size_t)((answer) >> 32))
+#define RAFTERSHIM_LENGTH(answer) ((size_t)((answer) & 0xFFFFFFFFu))
+
+/* The sides of raftershim_show. */
+#define RAFTERSHIM_RECEIVE 0u
+#define RAFTERSHIM_TRANSMIT 1u
+
+/* The length in bytes that every block has. Takes nothing, answers the length, and is never refused. */
+size_t raftershim_block_len(void);
+
+/*
+ * Makes a state in the block for stores of these lengths, with this margin; what the block held does not matter. Neither store is
+ * written. Answers done.
+ * Refusal 1: the margin is not 1 to 1024, the receive store has not 2 * margin + 2 to 32768 bytes, the transmit store has not 3 to
+ * 32768 bytes, or the block has not raftershim_block_len() bytes.
+ */
+uint64_t raftershim_create(uint8_t *block, size_t block_len, const uint8_t *rx, size_t rx_len, const uint8_t *tx, size_t tx_len,
+                           uint32_t margin);
+
+/*
+ * Gives the block what create gives for the same sizes and margin. Neither store is written. Answers done.
+ * Refusal 2: the block is not a state that fits the stores.
+ */
+uint64_t raftershim_reset(uint8_t *block, size_t block_len, const uint8_t *rx, size_t rx_len, const uint8_t *tx, size_t tx_len);
+
+/*
+ * Writes a register: numbers 0 to 12 are R00 to R12, 16 to 21 are C00 to C05. Neither store is written. Answers done.
+ * Refusal 2: the block is not a state that fits the stores. Refusal 5: the number is not carried. Refusal 6: the value is above 15 for
+ * a control register, or above 255 for a character. Refusal 7: the value has a control bit that is not carried. Refusal 8: the go and
+ * stop characters would be equal.
+ */
+uint64_t raftershim_write_register(uint8_t *block, size_t block_len, const uint8_t *rx, size_t rx_len, const uint8_t *tx,
+                                   size_t tx_len, uint32_t number, uint32_t value);
+
+/*
+ * Takes a byte from the line: go and stop permit or forbid our sending while the protocol is on, any other byte is stored in the
+ * receive store, or lost if that is full. Answers done.
+ * Refusal 2: the block is not a state that fits the stores.
+ */
+uint64_t raftershim_line_byte(uint8_t *block, size_t block_len, uint8_t *rx, size_t rx_len, const uint8_t *tx, size_t tx_len,
+                              uint8_t byte);
+
+/*
+ * Takes a break on the line. Answers done.
+ * Refusal 2: the block is not a state that fits the stores.
+ */
+uint64_t raftershim_break(uint8_t *block, size_t block_len, uint8_t *rx, size_t rx_len, const uint8_t *tx, size_t tx_len);
+
+/*
+ * Takes a press of the MSRQ key. Answers done.
+ * Refusal 2: the block is not a state that fits the stores.
+ */
+uint64_t raftershim_key(uint8_t *block, size_t block_len, const uint8_t *rx, size_t rx_len, const uint8_t *tx, size_t tx_len);
+
+/*
+ * Gives the next line byte: our own go or stop if one is owed, else the oldest byte of the transmit store. Answers that line byte, or
+ * none.
+ * Refusal 2: the block is not a state that fits the stores.
+ */
+uint64_t raftershim_next_line_byte(uint8_t *block, size_t block_len, const uint8_t *rx, size_t rx_len, const uint8_t *tx,
+                                   size_t tx_len);
+
+/*
+ * Takes a frame from the loop. Answers the one frame that goes on.
+ * Refusal 2: the block is not a state that fits the stores. Refusal 3: the frame is above 2047. Refusal 4: busy, offer the frame again
+ * when the line has taken bytes.
+ */
+uint64_t raftershim_loop_frame(uint8_t *block, size_t block_len, const uint8_t *rx, size_t rx_len, uint8_t *tx, size_t tx_len,
+                               uint32_t frame);
+
+/*
+ * Shows a store: side 0 is the receive store, side 1 the transmit store. Nothing is written. Answers where the longest unbroken run of
+ * bytes from the oldest one is: in bits 32 to 63 the place in that store where it starts, in bits 0 to 31 its length. The answer is 0,
+ * an empty part, if nothing is held, the block is not a state that fits the stores, or the side is neither. It is never refused.
+ */
+uint64_t raftershim_show(const uint8_t *block, size_t block_len, const uint8_t *rx, size_t rx_len, const uint8_t *tx, size_t tx_len,
+                         uint32_t side);
+
+#ifdef __cplusplus
+}
+#endif
+
+#endif

@@ -1,0 +1,970 @@
+//! The paper's examples, its list of slips and the whole-run demands, as calls on the model.
+
+use model::{Answer, Bridge, ACTIVE_DATA, ACTIVE_STATUS, IDLE, SERVICE, UNASSIGNED};
+use Answer::{Byte, Done, Frame, NoByte, Refused};
+
+/// A bridge together with its two stores.
+#[derive(Clone, Debug, PartialEq)]
+struct World {
+    bridge: Bridge,
+    rx: Vec<u8>,
+    tx: Vec<u8>,
+}
+
+/// A call; `Echo` and `Damage` offer our own frame under way, unchanged or with one bit changed.
+#[derive(Clone, Copy, Debug, PartialEq)]
+enum Call {
+    Reset,
+    Write(u32, u32),
+    Line(u8),
+    Break,
+    Key,
+    Next,
+    Loop(u32),
+    Echo,
+    Damage,
+}
+
+/// The frame written "control,data".
+fn f(control: u16, data: u16) -> u16 {
+    control << 8 | data
+}
+
+fn offer(control: u16, data: u16) -> Call {
+    Call::Loop(u32::from(f(control, data)))
+}
+
+impl World {
+    fn new(rx_len: usize, tx_len: usize, margin: u32) -> World {
+        let (rx, tx) = (vec![0; rx_len], vec![0; tx_len]);
+        let bridge = Bridge::create(&rx, &tx, margin).expect("sizes are obeyed");
+        World { bridge, rx, tx }
+    }
+
+    /// A fresh world after calls that are all taken.
+    fn after(rx_len: usize, tx_len: usize, margin: u32, calls: &[Call]) -> World {
+        let mut world = World::new(rx_len, tx_len, margin);
+        for &call in calls {
+            let answer = world.call(call);
+            assert!(!matches!(answer, Refused(_)), "{call:?}: {answer:?}");
+        }
+        world
+    }
+
+    fn call(&mut self, call: Call) -> Answer {
+        let (bridge, rx, tx) = (&mut self.bridge, &mut self.rx, &mut self.tx);
+        let under_way = u32::from(bridge.under_way);
+        match call {
+            Call::Reset => bridge.reset(rx, tx),
+            Call::Write(number, value) => bridge.write_register(rx, tx, number, value),
+            Call::Line(byte) => bridge.line_byte(rx, tx, byte),
+            Call::Break => bridge.take_break(rx, tx),
+            Call::Key => bridge.take_key(rx, tx),
+            Call::Next => bridge.next_line_byte(rx, tx),
+            Call::Loop(frame) => bridge.loop_frame(rx, tx, frame),
+            Call::Echo => bridge.loop_frame(rx, tx, under_way),
+            Call::Damage => bridge.loop_frame(rx, tx, under_way ^ 1),
+        }
+    }
+
+    /// The world after one more call.
+    fn then(&self, call: Call) -> World {
+        let mut next = self.clone();
+        next.call(call);
+        next
+    }
+
+    /// The bytes held in the receive store, oldest first.
+    fn held(&self) -> Vec<u8> {
+        let ring = self.bridge.receive;
+        let place = |i| self.rx[(ring.oldest + i) % self.rx.len()];
+        (0..ring.held).map(place).collect()
+    }
+
+    /// The bytes held in the transmit store, oldest first.
+    fn waiting(&self) -> Vec<u8> {
+        let ring = self.bridge.transmit;
+        let place = |i| self.tx[(ring.oldest + i) % self.tx.len()];
+        (0..ring.held).map(place).collect()
+    }
+
+    /// Asks for data with ready 96 and returns every frame unchanged until 5,64.
+    fn read_out(&mut self) -> Vec<u16> {
+        let mut frames = Vec::new();
+        let mut answer = self.call(offer(5, 96));
+        while answer != Frame(f(5, 64)) {
+            match answer {
+                Frame(frame) if frame < 1024 => frames.push(frame),
+                other => panic!("no data frame: {other:?}"),
+            }
+            answer = self.call(Call::Echo);
+        }
+        frames
+    }
+}
+
+/// Address 1, addressed to talk.
+const TALK: [Call; 2] = [Call::Loop(0x581), Call::Loop(0x441)];
+
+/// The frames of the reading rule for these bytes, read from the front; a second writing of the
+/// rule, for whole sequences.
+fn frames_of(rule_on: bool, pair: [u8; 2], mut bytes: &[u8]) -> Vec<u16> {
+    let mut frames = Vec::new();
+    while let Some((&first, rest)) = bytes.split_first() {
+        if rule_on && bytes.starts_with(&pair) {
+            bytes = &bytes[2..];
+        } else if rule_on && rest.starts_with(&pair) {
+            frames.push(f(2, u16::from(first)));
+            bytes = &rest[2..];
+        } else if rule_on && (rest.is_empty() || rest == &pair[..1]) {
+            break;
+        } else {
+            frames.push(f(0, u16::from(first)));
+            bytes = rest;
+        }
+    }
+    frames
+}
+
+#[test]
+fn proved_rows() {
+    type Row<'a> = ([u32; 2], &'a [u8], &'a [(u16, u16)], &'a [u8]);
+    let rows: [Row; 10] = [
+        ([13, 10], &[], &[], &[]),
+        ([13, 10], &[50], &[], &[50]),
+        ([13, 10], &[50, 13], &[], &[50, 13]),
+        ([13, 10], &[50, 46], &[(0, 50)], &[46]),
+        ([13, 10], &[50, 13, 10], &[(2, 50)], &[]),
+        ([13, 10], &[13, 10], &[], &[]),
+        ([13, 10], &[50, 13, 46], &[(0, 50), (0, 13)], &[46]),
+        ([13, 10], &[13, 13, 10], &[(2, 13)], &[]),
+        (
+            [13, 10],
+            &[50, 13, 10, 13, 10, 46, 13, 10],
+            &[(2, 50), (2, 46)],
+            &[],
+        ),
+        (
+            [10, 10],
+            &[50, 10, 10, 10, 46, 53],
+            &[(2, 50), (0, 10), (0, 46)],
+            &[53],
+        ),
+    ];
+    let mut count = 0;
+    for (pair, bytes, frames, left) in rows {
+        let registers = [
+            Call::Write(10, 8),
+            Call::Write(16, pair[0]),
+            Call::Write(17, pair[1]),
+        ];
+        let mut world = World::after(64, 64, 8, &[&registers[..], &TALK].concat());
+        for &byte in bytes {
+            assert_eq!(world.call(Call::Line(byte)), Done);
+        }
+        let frames: Vec<u16> = frames.iter().map(|&(c, d)| f(c, d)).collect();
+        assert_eq!(world.read_out(), frames, "{bytes:?}");
+        assert_eq!(world.held(), left, "{bytes:?}");
+        assert_eq!(world.bridge.sent as usize, frames.len());
+        count += 1;
+    }
+
+    let mut world = World::new(64, 64, 8);
+    assert_eq!(world.bridge.address, UNASSIGNED);
+    assert_eq!(world.call(offer(5, 158)), Frame(f(5, 159)));
+    assert_eq!(world.bridge.address, 30);
+    count += 1;
+    println!("{count} P rows");
+}
+
+#[test]
+fn run_store_8_margin_3() {
+    let mut world = World::after(8, 3, 3, &[&[Call::Write(10, 8)], &TALK[..]].concat());
+    for number in 1..=9 {
+        assert_eq!(world.call(Call::Line(48 + number)), Done);
+        assert_eq!(world.bridge.holding, number >= 5, "byte {number}");
+        assert_eq!(world.bridge.lost, u32::from(number == 9));
+    }
+    assert!(world.bridge.overrun_seen);
+    assert_eq!(world.call(Call::Next), Byte(19));
+    let mut call = offer(5, 96);
+    while world.bridge.receive.held > 2 {
+        assert!(world.bridge.holding);
+        assert!(matches!(world.call(call), Frame(frame) if frame < 1024));
+        call = Call::Echo;
+    }
+    assert!(!world.bridge.holding);
+    assert_eq!(world.call(Call::Next), Byte(17));
+    println!(
+        "{} bytes stored, {} lost, {} frames sent",
+        world.bridge.stored, world.bridge.lost, world.bridge.sent
+    );
+}
+
+#[test]
+fn run_transmit_store_3() {
+    let listen = [TALK[0], offer(4, 33), Call::Write(10, 12)];
+    let mut world = World::after(64, 3, 8, &listen);
+    assert_eq!(world.call(offer(2, 50)), Frame(f(2, 50)));
+    assert_eq!(world.waiting(), [50, 13, 10]);
+    let out: Vec<Answer> = (0..4).map(|_| world.call(Call::Next)).collect();
+    assert_eq!(out, [Byte(50), Byte(13), Byte(10), NoByte]);
+
+    assert_eq!(world.call(offer(0, 51)), Frame(f(0, 51)));
+    let before = world.clone();
+    let mut busy = 0;
+    for control in [2, 3] {
+        assert_eq!(world.call(offer(control, 52)), Refused(4));
+        assert_eq!(world, before);
+        busy += 1;
+    }
+    assert_eq!(world.call(offer(1, 52)), Frame(f(1, 52)));
+    assert_eq!(world.waiting(), [51, 52]);
+    println!(
+        "{} bytes given, {busy} end bytes busy at one held",
+        out.len() - 1
+    );
+}
+
+#[test]
+fn run_sizes_and_frames() {
+    let mut count = [0, 0];
+    for (rx_len, tx_len, margin, taken) in [
+        (7, 3, 3, false),
+        (8, 3, 3, true),
+        (8, 2, 3, false),
+        (8, 3, 0, false),
+        (4, 3, 1, true),
+        (3, 3, 1, false),
+        (2050, 3, 1024, true),
+        (2049, 3, 1024, false),
+        (32768, 32768, 1025, false),
+        (32768, 32768, 1024, true),
+        (32769, 3, 1, false),
+        (4, 32769, 1, false),
+        (4, 3, u32::MAX, false),
+    ] {
+        let created = Bridge::create(&vec![0; rx_len], &vec![0; tx_len], margin);
+        match created {
+            Ok(bridge) => assert!(taken && bridge.fits(rx_len, tx_len)),
+            Err(answer) => assert!(!taken && answer == Refused(1)),
+        }
+        count[usize::from(taken)] += 1;
+    }
+
+    let mut world = World::new(8, 3, 3);
+    assert_eq!(world.call(Call::Loop(2047)), Frame(2047));
+    let before = world.clone();
+    assert_eq!(world.call(Call::Loop(2048)), Refused(3));
+    assert_eq!(world.call(Call::Loop(u32::MAX)), Refused(3));
+    assert_eq!(world, before);
+    println!("{} sizes taken, {} refused", count[1], count[0]);
+}
+
+#[test]
+fn slip_1_overrun_cleared_when_status_is_sent() {
+    let mut world = lost_one();
+    assert_eq!(world.call(offer(5, 97)), Frame(f(0, 0b0010_1111)));
+    assert_eq!(world.call(Call::Damage), Frame(f(5, 65)));
+    assert!(world.bridge.overrun_seen);
+    assert_eq!(world.call(offer(5, 97)), Frame(f(0, 0b0010_1111)));
+    assert_eq!(world.call(Call::Echo), Frame(f(5, 64)));
+    assert!(!world.bridge.overrun_seen);
+    println!("overrun kept over 1 damaged status, cleared by 1 return");
+}
+
+#[test]
+fn slip_2_overrun_cleared_though_a_byte_was_lost_in_between() {
+    let mut world = lost_one();
+    world.call(offer(5, 97));
+    assert_eq!(world.call(Call::Line(58)), Done);
+    assert_eq!(world.call(Call::Echo), Frame(f(5, 64)));
+    assert!(world.bridge.overrun_seen);
+    world.call(offer(5, 97));
+    assert_eq!(world.call(Call::Echo), Frame(f(5, 64)));
+    assert!(!world.bridge.overrun_seen);
+    println!("{} bytes lost, 2 status bytes returned", world.bridge.lost);
+}
+
+/// Address 1, addressed to talk, receive store full, one byte lost.
+fn lost_one() -> World {
+    let bytes: Vec<Call> = (50..55).map(Call::Line).collect();
+    let world = World::after(4, 3, 1, &[&TALK, &bytes[..]].concat());
+    assert_eq!((world.bridge.stored, world.bridge.lost), (4, 1));
+    world
+}
+
+#[test]
+fn slip_3_returns_compared_with_the_service_bit() {
+    let bytes = [Call::Line(50), Call::Line(51), Call::Line(52)];
+    let mut world = World::after(64, 3, 8, &[&TALK, &bytes[..]].concat());
+    assert_eq!(world.call(offer(5, 96)), Frame(f(0, 50)));
+    assert_eq!(world.call(offer(1, 50)), Frame(f(0, 51)));
+    // The end bit does count.
+    assert_eq!(world.call(offer(2, 51)), Frame(f(5, 65)));
+    // Our own request: sent with the bit, returned with and without it.
+    world.call(Call::Write(0, 8));
+    world.call(Call::Write(2, 4));
+    world.call(Call::Key);
+    assert_eq!(world.call(offer(5, 96)), Frame(f(1, 52)));
+    assert_eq!(world.call(offer(0, 52)), Frame(f(5, 64)));
+    println!("2 returns with another service bit, both equal");
+}
+
+#[test]
+fn slip_4_listen_address_31_while_unassigned() {
+    let mut world = World::new(64, 3, 8);
+    let before = world.clone();
+    assert_eq!(world.call(offer(4, 63)), Frame(f(4, 63)));
+    assert_eq!(world.call(offer(4, 95)), Frame(f(4, 95)));
+    assert_eq!(world, before);
+    println!("2 commands, neither listener nor talker");
+}
+
+#[test]
+fn slip_5_owed_go_dropped_when_the_protocol_goes_off() {
+    let bytes = [Call::Line(50), Call::Line(51), Call::Line(52)];
+    let mut world = World::after(4, 3, 1, &bytes);
+    assert_eq!(world.call(Call::Next), Byte(19));
+    assert_eq!(world.call(Call::Line(19)), Done);
+    assert!(world.bridge.forbidden);
+    assert_eq!(world.call(Call::Write(11, 0)), Done);
+    assert!(!world.bridge.holding && !world.bridge.forbidden);
+    assert_eq!(world.call(Call::Next), Byte(17));
+    assert_eq!(world.call(Call::Next), NoByte);
+    println!("1 stop and 1 go given");
+}
+
+#[test]
+fn onepass_example() {
+    let mut world = World::new(64, 64, 8);
+    assert_eq!(world.call(Call::Write(0x0a, 0x08)), Done);
+    for byte in [0x32, 0x2e, 0x35, 0x0d, 0x0a] {
+        assert_eq!(world.call(Call::Line(byte)), Done);
+    }
+    let mut lines = vec!["onepass 1".to_string()];
+    for frame in [0x0581, 0x0441, 0x0560, 0x0032, 0x002e, 0x0235] {
+        match world.call(Call::Loop(frame)) {
+            Frame(out) => lines.push(format!("{},{}", out >> 8, out & 255)),
+            other => panic!("{other:?}"),
+        }
+    }
+    let mut given = 0;
+    while world.call(Call::Next) != NoByte {
+        given += 1;
+    }
+    lines.push(format!("line {given}"));
+    let expected = [
+        "onepass 1",
+        "5,130",
+        "4,65",
+        "0,50",
+        "0,46",
+        "2,53",
+        "5,64",
+        "line 0",
+    ];
+    assert_eq!(lines, expected);
+    println!("{} lines", lines.len());
+}
+
+#[test]
+fn commands_and_ready_frames() {
+    // Frames in order, each with (address, talker, listener, remote enabled, remote) after it.
+    let steps = [
+        ((4, 33), (31, 0, false, false, false)),
+        ((5, 129), (1, 0, false, false, false)),
+        ((5, 130), (1, 0, false, false, false)),
+        ((4, 33), (1, 0, true, false, false)),
+        ((4, 146), (1, 0, true, true, false)),
+        ((4, 34), (1, 0, true, true, false)),
+        ((4, 66), (1, 0, true, true, false)),
+        ((4, 33), (1, 0, true, true, true)),
+        ((4, 1), (1, 0, true, true, false)),
+        ((4, 33), (1, 0, true, true, true)),
+        ((4, 63), (1, 0, false, true, true)),
+        ((4, 1), (1, 0, false, true, true)),
+        ((4, 147), (1, 0, false, false, false)),
+        ((4, 65), (1, 1, false, false, false)),
+        ((4, 33), (1, 0, true, false, false)),
+        ((4, 65), (1, 1, false, false, false)),
+        ((5, 97), (1, 3, false, false, false)),
+        ((4, 65), (1, 1, false, false, false)),
+        ((4, 144), (1, 0, false, false, false)),
+        ((4, 33), (1, 0, true, false, false)),
+        ((4, 144), (1, 0, false, false, false)),
+        ((4, 65), (1, 1, false, false, false)),
+        ((4, 154), (31, 1, false, false, false)),
+        ((5, 97), (31, 3, false, false, false)),
+        ((5, 159), (31, 3, false, false, false)),
+        ((4, 95), (31, 0, false, false, false)),
+        ((5, 97), (31, 0, false, false, false)),
+    ];
+    let mut world = World::new(4, 3, 1);
+    for ((control, data), expected) in steps {
+        world.call(offer(control, data));
+        let b = &world.bridge;
+        let roles = (b.address, b.talker, b.listener, b.remote_enabled, b.remote);
+        assert_eq!(roles, expected, "after {control},{data}");
+    }
+
+    // Ready 66 finishes after the frame under way, and only that sending.
+    let mut world = World::after(4, 3, 1, &[&TALK, &[50, 51].map(Call::Line)[..]].concat());
+    assert_eq!(world.call(offer(5, 66)), Frame(f(5, 66)));
+    assert_eq!(world.call(offer(5, 96)), Frame(f(0, 50)));
+    assert_eq!(world.call(offer(5, 66)), Frame(f(5, 66)));
+    assert_eq!(world.call(Call::Echo), Frame(f(5, 64)));
+    assert_eq!(world.held(), [51]);
+    assert_eq!(world.read_out(), [f(0, 51)]);
+
+    // Command 4 clears a listener only; a clear leaves no request though transmit becomes empty.
+    let filled = [Call::Write(1, 1), TALK[0], offer(4, 33), offer(0, 9)];
+    let mut world = World::after(4, 3, 1, &filled);
+    world.bridge.request = false;
+    // The other end's stop forbids our sending until its go.
+    for (byte, answer) in [(19, NoByte), (17, Byte(9))] {
+        world.call(offer(0, 9));
+        world.call(Call::Line(byte));
+        assert_eq!(world.call(Call::Next), answer);
+    }
+    world.call(Call::Line(19));
+    let talking = World::after(4, 3, 1, &[TALK[0], TALK[1], Call::Break]).then(offer(4, 4));
+    assert!(talking.bridge.break_seen);
+    let cleared = world.then(offer(4, 4));
+    assert_eq!(cleared.waiting(), []);
+    assert!(!cleared.bridge.forbidden && !cleared.bridge.request);
+    println!("{} frames through the roles", steps.len());
+}
+
+#[test]
+fn service_requests() {
+    let mut world = World::after(64, 3, 8, &TALK);
+    // Transmit is empty, so enabling that begins a request, which shows only with R00 bit 3.
+    world.call(Call::Write(1, 1));
+    assert!(world.bridge.request);
+    assert_eq!(world.call(offer(6, 0)), Frame(f(6, 0)));
+    world.call(Call::Write(0, 8));
+    let passed = [
+        (6, 0, 7),
+        (0, 9, 1),
+        (2, 9, 3),
+        (3, 9, 3),
+        (5, 0, 5),
+        (4, 0, 4),
+    ];
+    for (control, data, out) in passed {
+        assert_eq!(world.call(offer(control, data)), Frame(f(out, data)));
+    }
+    // The first status shows it and carries the bit; the next frames do not.
+    assert_eq!(world.call(offer(5, 97)), Frame(f(1, 0b0100_0011)));
+    assert!(!world.bridge.request);
+    assert_eq!(world.call(offer(0, 0b0100_0011)), Frame(f(5, 64)));
+    assert_eq!(world.call(offer(5, 97)), Frame(f(0, 0b0000_0011)));
+    assert_eq!(world.call(Call::Echo), Frame(f(5, 64)));
+    // Writing the same value begins none, off and on again does, and so does a first key press.
+    let mut begun = 0;
+    for (call, begins) in [
+        (Call::Write(1, 1), false),
+        (Call::Write(1, 0), false),
+        (Call::Write(1, 1), true),
+        (Call::Write(2, 4), false),
+        (Call::Key, true),
+        (Call::Key, false),
+        (offer(4, 20), false),
+        (Call::Key, true),
+    ] {
+        world.bridge.request = false;
+        world.call(call);
+        assert_eq!(world.bridge.request, begins, "{call:?}");
+        begun += u32::from(begins);
+    }
+    println!("{} frames passed, {begun} requests begun", passed.len());
+}
+
+#[test]
+fn sends_hold_off_and_counts() {
+    // A send that finds no frame removes its pairs and may end holding off.
+    let bytes = [13, 10, 13].map(Call::Line);
+    let start = [&[Call::Write(10, 8)], &TALK[..], &bytes].concat();
+    let mut world = World::after(4, 3, 1, &start);
+    assert!(world.bridge.holding);
+    assert_eq!(world.call(offer(5, 96)), Frame(f(5, 64)));
+    assert_eq!((world.held(), world.bridge.holding), (vec![13], false));
+    assert_eq!(world.call(Call::Next), NoByte);
+
+    // A device clear after our stop owes a go, and the next byte goes to place 0.
+    let mut world = World::after(4, 3, 1, &[50, 51, 52].map(Call::Line));
+    assert_eq!(world.call(Call::Next), Byte(19));
+    world.call(offer(4, 20));
+    assert_eq!(world.call(Call::Next), Byte(17));
+    world.call(Call::Line(99));
+    assert_eq!(world.rx, [99, 51, 52, 0]);
+
+    // "starting again at 0 after 4,294,967,295"
+    let mut world = World::after(4, 3, 1, &TALK);
+    world.bridge.stored = u32::MAX;
+    world.bridge.sent = u32::MAX;
+    world.bridge.lost = u32::MAX;
+    for byte in 50..55 {
+        world.call(Call::Line(byte));
+    }
+    world.call(offer(5, 96));
+    let counts = (world.bridge.stored, world.bridge.lost, world.bridge.sent);
+    assert_eq!(counts, (3, 0, 0));
+    println!("counts (stored, lost, sent) came round to {counts:?}");
+}
+
+#[test]
+fn register_refusals() {
+    let control = [(0, 9), (1, 15), (2, 5), (10, 12), (11, 8)];
+    let mut count = [0; 9];
+    for number in (0..64).chain([255, 256, 272, u32::MAX]) {
+        for value in (0..300).chain([1 << 8 | 17, 1 << 16, u32::MAX]) {
+            let mut world = World::new(4, 3, 1);
+            let before = world.clone();
+            let bits = control.iter().find(|row| row.0 == number);
+            let expected = match bits {
+                Some(_) if value > 15 => Refused(6),
+                Some(row) if (0..4).any(|b| value >> b & 1 > row.1 >> b & 1) => Refused(7),
+                Some(_) => Done,
+                None if !(16..=21).contains(&number) => Refused(5),
+                None if value > 255 => Refused(6),
+                None if (number, value) == (20, 19) || (number, value) == (21, 17) => Refused(8),
+                None => Done,
+            };
+            assert_eq!(world.call(Call::Write(number, value)), expected);
+            match expected {
+                Refused(refusal) => {
+                    assert_eq!(world, before);
+                    count[usize::from(refusal)] += 1;
+                }
+                _ => {
+                    assert!(world.bridge.fits(4, 3));
+                    count[0] += 1;
+                }
+            }
+        }
+    }
+    println!(
+        "{} writes taken; refused 5: {}, 6: {}, 7: {}, 8: {}",
+        count[0], count[5], count[6], count[7], count[8]
+    );
+}
+
+#[test]
+fn misfit_states_are_refused_and_left_alone() {
+    let spoilers: [fn(&mut Bridge); 24] = [
+        |b| b.receive_len = 5,
+        |b| b.transmit_len = 4,
+        |b| b.margin = 0,
+        |b| b.margin = 2,
+        |b| b.margin = usize::MAX,
+        |b| b.registers.r00 = 2,
+        |b| b.registers.r01 = 16,
+        |b| b.registers.r02 = 8,
+        |b| b.registers.r10 = 1,
+        |b| b.registers.r11 = 12,
+        |b| b.registers.c[4] = 19,
+        |b| b.registers.c[5] = 17,
+        |b| b.address = 32,
+        |b| b.talker = 4,
+        |b| {
+            b.talker = 1;
+            b.listener = true;
+        },
+        |b| b.under_way = 1024,
+        |b| b.under_way = u16::MAX,
+        |b| b.receive.oldest = 4,
+        |b| b.receive.held = 5,
+        |b| b.transmit.oldest = 3,
+        |b| b.transmit.held = 4,
+        |b| b.receive.oldest = usize::MAX,
+        |b| b.receive.held = usize::MAX,
+        |b| b.transmit.held = usize::MAX,
+    ];
+    let calls = [
+        Call::Reset,
+        Call::Write(3, 99),
+        Call::Line(50),
+        Call::Break,
+        Call::Key,
+        Call::Next,
+        Call::Loop(2048),
+        Call::Echo,
+    ];
+    let mut count = 0;
+    for spoil in spoilers {
+        let mut world = World::after(4, 3, 1, &[Call::Line(50)]);
+        assert_eq!(world.bridge.show(&world.rx, &world.tx, 0), [50]);
+        spoil(&mut world.bridge);
+        let before = world.clone();
+        for call in calls {
+            assert_eq!(world.call(call), Refused(2));
+            assert_eq!(world, before);
+            count += 1;
+        }
+        for side in 0..3 {
+            assert!(world.bridge.show(&world.rx, &world.tx, side).is_empty());
+            count += 1;
+        }
+    }
+    println!("{} misfits, {count} calls refused or empty", spoilers.len());
+}
+
+#[test]
+fn show_is_the_unbroken_run() {
+    let mut world = World::after(4, 3, 1, &TALK);
+    let mut count = 0;
+    for step in 0..40_u8 {
+        world.call(Call::Line(100 + step));
+        if step % 3 != 0 {
+            world.call(if world.bridge.talker == ACTIVE_DATA {
+                Call::Echo
+            } else {
+                offer(5, 96)
+            });
+        }
+        let shown = world.bridge.show(&world.rx, &world.tx, 0);
+        let ring = world.bridge.receive;
+        assert_eq!(shown.len(), ring.held.min(4 - ring.oldest));
+        assert_eq!(shown, &world.held()[..shown.len()]);
+        assert!(world.bridge.show(&world.rx, &world.tx, 1).is_empty());
+        assert!(world.bridge.show(&world.rx, &world.tx, 2).is_empty());
+        count += 1;
+    }
+    println!("{count} parts shown");
+}
+
+/// What a run's observer keeps, from the calls, the worlds before them and the answers alone.
+#[derive(Clone)]
+struct History {
+    /// Bytes held at the start, then all accepted.
+    accepted: Vec<u8>,
+    /// Data frames sent from the receive store, the service bit aside.
+    sent: Vec<u16>,
+    /// Bytes held for the line at the start, then all added.
+    added: Vec<u8>,
+    /// Line bytes handed out, our own go and stop aside.
+    handed_out: Vec<u8>,
+    /// A byte was lost and no status byte sent after the loss has come back unchanged.
+    news_owed: bool,
+    /// The status byte under way was sent after the last loss.
+    news_under_way: bool,
+    /// Whether the promise that no byte is lost still applies to the run.
+    no_loss_promised: bool,
+    /// Data bytes that arrived in this spell of holding off.
+    in_spell: usize,
+}
+
+impl History {
+    fn starting(world: &World) -> History {
+        let bridge = &world.bridge;
+        History {
+            accepted: world.held(),
+            sent: Vec::new(),
+            added: world.waiting(),
+            handed_out: Vec::new(),
+            news_owed: false,
+            news_under_way: false,
+            no_loss_promised: bridge.registers.r11 == 8
+                && !bridge.holding
+                && world.rx.len() - bridge.receive.held > bridge.margin,
+            in_spell: 0,
+        }
+    }
+
+    /// Takes note of one call that was not refused.
+    fn note(&mut self, before: &World, call: Call, answer: Answer, found: &mut Found) {
+        let bridge = &before.bridge;
+        let frame = match call {
+            Call::Loop(frame) => Some(frame as u16),
+            Call::Echo => Some(bridge.under_way),
+            Call::Damage => Some(bridge.under_way ^ 1),
+            _ => None,
+        };
+        match (call, answer) {
+            (Call::Line(byte), _) => {
+                let handshake = bridge.registers.c[4..].contains(&byte);
+                if bridge.registers.r11 == 0 || !handshake {
+                    self.in_spell = if bridge.holding { self.in_spell + 1 } else { 0 };
+                    self.no_loss_promised &= self.in_spell <= bridge.margin;
+                    if bridge.receive.held < before.rx.len() {
+                        self.accepted.push(byte);
+                    } else {
+                        assert!(!self.no_loss_promised);
+                        self.news_owed = true;
+                        self.news_under_way = false;
+                        found.losses += 1;
+                    }
+                }
+            }
+            (Call::Next, Byte(byte)) if bridge.holding == bridge.stop_sent_last => {
+                self.handed_out.push(byte);
+            }
+            _ => {}
+        }
+        let (frame, out) = match (frame, answer) {
+            (Some(frame), Frame(out)) => (frame, out),
+            _ => return,
+        };
+        let data = frame < 1024;
+        let unchanged = frame & !SERVICE == bridge.under_way & !SERVICE;
+        let asked = frame == f(5, 96) && bridge.talker == 1;
+        if (asked || data && bridge.talker == ACTIVE_DATA) && out < 1024 {
+            self.sent.push(out & !SERVICE);
+            found.sent += 1;
+        }
+        if data && bridge.listener {
+            self.added.push((frame & 255) as u8);
+            if frame & 0x200 != 0 && bridge.registers.r10 & 4 != 0 {
+                self.added.extend_from_slice(&bridge.registers.c[2..4]);
+            }
+        }
+        if frame == f(5, 97) && bridge.talker == 1 {
+            self.news_under_way = self.news_owed;
+        } else if data && bridge.talker == ACTIVE_STATUS {
+            if unchanged && self.news_under_way {
+                self.news_owed = false;
+                found.news += 1;
+            }
+            self.news_under_way = false;
+        } else if frame >> 8 == 4 {
+            self.news_under_way = false;
+        }
+    }
+
+    /// Demand 3 and the promise for the transmit store, after every call.
+    fn check(&self, world: &World) {
+        let registers = &world.bridge.registers;
+        let pair = [registers.c[0], registers.c[1]];
+        let frames = |bytes: &[u8]| frames_of(registers.r10 & 8 != 0, pair, bytes);
+        let sent_then_held = [self.sent.clone(), frames(&world.held())].concat();
+        assert_eq!(sent_then_held, frames(&self.accepted));
+        assert!(world.bridge.overrun_seen || !self.news_owed);
+        let out_then_waiting = [self.handed_out.clone(), world.waiting()].concat();
+        assert_eq!(out_then_waiting, self.added);
+    }
+}
+
+/// What an exploration met, so that a reader sees it was not empty.
+#[derive(Debug, Default)]
+struct Found {
+    calls: u32,
+    refused: u32,
+    sent: u32,
+    losses: u32,
+    news: u32,
+}
+
+/// Makes every call of the alphabet, checks, and goes on from each result.
+fn explore(world: &World, history: &History, calls: &[Call], depth: u32, found: &mut Found) {
+    for &call in calls {
+        let mut next = world.clone();
+        let answer = next.call(call);
+        found.calls += 1;
+        if matches!(answer, Refused(_)) {
+            assert_eq!(&next, world);
+            found.refused += 1;
+            continue;
+        }
+        assert!(next.bridge.fits(next.rx.len(), next.tx.len()));
+        let idle = next.bridge.talker != ACTIVE_DATA && next.bridge.talker != ACTIVE_STATUS;
+        assert!(!idle || next.bridge.under_way == 0 && !next.bridge.finishing);
+        // Demand 3 speaks of runs without these calls, so a new run starts after them.
+        let cuts = matches!(call, Call::Reset | Call::Write(..)) || call == offer(4, 20);
+        let mut noted = if cuts {
+            History::starting(&next)
+        } else {
+            history.clone()
+        };
+        if !cuts {
+            noted.note(world, call, answer, found);
+        }
+        noted.check(&next);
+        if depth > 1 {
+            explore(&next, &noted, calls, depth - 1, found);
+        }
+    }
+}
+
+#[test]
+fn every_order_while_talking() {
+    let alphabet = [
+        Call::Line(13),
+        Call::Line(10),
+        Call::Line(50),
+        Call::Break,
+        Call::Next,
+        offer(5, 96),
+        offer(5, 97),
+        offer(5, 66),
+        Call::Echo,
+        Call::Damage,
+        offer(4, 0),
+        Call::Loop(2048),
+    ];
+    let rule_on = [Call::Write(10, 8), Call::Write(0, 9), TALK[0], TALK[1]];
+    let starts: [&[Call]; 4] = [
+        &[],
+        &[Call::Line(50), Call::Line(13)],
+        &[10, 13, 10, 13].map(Call::Line),
+        &[Call::Line(50), Call::Line(50), offer(5, 96)],
+    ];
+    for start in starts {
+        let world = World::after(4, 3, 1, &[&rule_on, start].concat());
+        let mut found = Found::default();
+        explore(&world, &History::starting(&world), &alphabet, 5, &mut found);
+        println!("from {:?}: {found:?}", world.held());
+        assert!(found.refused > 0 && found.sent > 0);
+    }
+}
+
+#[test]
+fn every_order_with_listening_and_registers() {
+    let alphabet = [
+        Call::Line(50),
+        Call::Line(17),
+        Call::Line(19),
+        Call::Key,
+        Call::Next,
+        offer(0, 65),
+        offer(3, 66),
+        offer(4, 33),
+        offer(4, 65),
+        offer(5, 96),
+        offer(4, 20),
+        Call::Write(11, 0),
+        Call::Reset,
+    ];
+    let starts: [&[Call]; 2] = [
+        &[offer(4, 33), Call::Write(10, 4)],
+        &[Call::Write(10, 12), Call::Line(50), Call::Line(51)],
+    ];
+    for start in starts {
+        let world = World::after(4, 3, 1, &[&TALK[..1], start].concat());
+        assert_eq!(world.bridge.talker, IDLE);
+        let mut found = Found::default();
+        explore(&world, &History::starting(&world), &alphabet, 5, &mut found);
+        println!("from {:?}: {found:?}", world.held());
+        assert!(found.refused > 0);
+    }
+}
+
+#[test]
+fn every_frame_in_every_phase() {
+    let listen = [TALK[0], offer(4, 33), offer(4, 146)];
+    let data = [TALK[0], TALK[1], Call::Line(50), offer(5, 96)];
+    let status = [TALK[0], TALK[1], Call::Break, offer(5, 97)];
+    let starts: [&[Call]; 5] = [&[], &listen, &TALK, &data, &status];
+    let mut count = [0, 0];
+    for start in starts {
+        let world = World::after(4, 3, 1, start);
+        for frame in 0..2048 {
+            let mut next = world.clone();
+            let answer = next.call(Call::Loop(frame));
+            assert!(matches!(answer, Frame(out) if out < 2048), "{answer:?}");
+            assert!(next.bridge.fits(4, 3));
+            count[usize::from(answer != Frame(frame as u16))] += 1;
+        }
+    }
+    println!("{} frames passed, {} answered", count[0], count[1]);
+}
+
+/// A plain repeatable source of numbers.
+struct Numbers(u64);
+
+impl Numbers {
+    fn below(&mut self, bound: u64) -> u64 {
+        self.0 ^= self.0 << 13;
+        self.0 ^= self.0 >> 7;
+        self.0 ^= self.0 << 17;
+        (self.0 >> 16) % bound
+    }
+
+    fn flag(&mut self) -> bool {
+        self.below(2) == 1
+    }
+}
+
+/// A state with every field drawn from a little more than its range.
+fn drawn_state(n: &mut Numbers) -> Bridge {
+    let mut b = World::new(4, 3, 1).bridge;
+    b.registers.r00 = [0, 1, 8, 9][n.below(4) as usize];
+    b.registers.r01 = n.below(16) as u8;
+    b.registers.r02 = [0, 1, 4, 5][n.below(4) as usize];
+    b.registers.r10 = [0, 4, 8, 12][n.below(4) as usize];
+    b.registers.r11 = [0, 8][n.below(2) as usize];
+    for place in 0..6 {
+        b.registers.c[place] = n.below(4) as u8;
+    }
+    b.address = n.below(33) as u8;
+    b.talker = n.below(5) as u8;
+    b.listener = n.flag();
+    b.remote_enabled = n.flag();
+    b.remote = n.flag();
+    b.under_way = n.below(1100) as u16;
+    b.finishing = n.flag();
+    b.receive.oldest = n.below(5) as usize;
+    b.receive.held = n.below(6) as usize;
+    b.transmit.oldest = n.below(4) as usize;
+    b.transmit.held = n.below(5) as usize;
+    b.holding = n.flag();
+    b.forbidden = n.flag();
+    b.stop_sent_last = n.flag();
+    b.break_seen = n.flag();
+    b.overrun_seen = n.flag();
+    b.key_seen = n.flag();
+    b.break_again = n.flag();
+    b.overrun_again = n.flag();
+    b.key_again = n.flag();
+    b.request = n.flag();
+    b.stored = u32::MAX - n.below(2) as u32;
+    b.lost = u32::MAX - n.below(2) as u32;
+    b.sent = u32::MAX - n.below(2) as u32;
+    b
+}
+
+#[test]
+fn every_call_ends_on_drawn_states() {
+    let mut n = Numbers(0x2545_f491_4f6c_dd1d);
+    let mut count = [0, 0, 0];
+    for _ in 0..200_000 {
+        let bridge = drawn_state(&mut n);
+        let rx: Vec<u8> = (0..4).map(|_| n.below(4) as u8).collect();
+        let tx: Vec<u8> = (0..3).map(|_| n.below(4) as u8).collect();
+        let mut world = World { bridge, rx, tx };
+        let call = match n.below(10) {
+            0 => Call::Reset,
+            1 => Call::Write(n.below(23) as u32, n.below(20) as u32),
+            2 => Call::Line(n.below(5) as u8),
+            3 => Call::Break,
+            4 => Call::Key,
+            5 => Call::Next,
+            6 => Call::Echo,
+            7 => Call::Damage,
+            8 => offer(5, 96 + n.below(2) as u16),
+            _ => Call::Loop(n.below(2060) as u32),
+        };
+        let before = world.clone();
+        let fits = before.bridge.fits(4, 3);
+        match world.call(call) {
+            Refused(2) => {
+                assert!(!fits && world == before);
+                count[0] += 1;
+            }
+            Refused(_) => {
+                assert!(fits && world == before);
+                count[1] += 1;
+            }
+            _ => {
+                assert!(fits && world.bridge.fits(4, 3));
+                count[2] += 1;
+            }
+        }
+        let shown = world.bridge.show(&world.rx, &world.tx, n.below(3) as u32);
+        assert!(fits || shown.is_empty());
+    }
+    let [misfit, refused, taken] = count;
+    println!("{misfit} misfits, {refused} other refusals, {taken} calls taken");
+    assert!(misfit > 0 && refused > 0 && taken > 0);
+}

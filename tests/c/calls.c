@@ -1,0 +1,262 @@
+/* Calls every C function and compares its answer, the block and the stores with what the paper says. */
+#include <stdio.h>
+#include <string.h>
+
+#include "raftershim.h"
+
+#define BLOCK 55
+#define MOST 32768
+
+static uint8_t block[BLOCK + 1], rx[MOST + 1], tx[MOST + 1];
+static uint8_t block_was[BLOCK + 1], rx_was[MOST + 1], tx_was[MOST + 1];
+static size_t block_len = BLOCK, rx_len, tx_len;
+static int compared, differ;
+
+static void expect(int line, uint64_t got, uint64_t wanted) {
+    compared++;
+    if (got == wanted) return;
+    differ++;
+    printf("calls.c:%d: got %llx, wanted %llx\n", line, (unsigned long long)got, (unsigned long long)wanted);
+}
+
+static void keep(void) {
+    memcpy(block_was, block, sizeof block);
+    memcpy(rx_was, rx, sizeof rx);
+    memcpy(tx_was, tx, sizeof tx);
+}
+
+/* how many of the three buffers have changed since keep */
+static uint64_t changed(void) {
+    return (memcmp(block_was, block, sizeof block) != 0) + (memcmp(rx_was, rx, sizeof rx) != 0) + (memcmp(tx_was, tx, sizeof tx) != 0);
+}
+
+#define IS(call, wanted) expect(__LINE__, call, wanted)
+#define REFUSED(n, call)                                  \
+    do {                                                  \
+        keep();                                           \
+        expect(__LINE__, call, 4ull << 16 | (n));         \
+        expect(__LINE__, changed(), 0);                   \
+    } while (0)
+
+#define DONE (0ull << 16)
+#define NONE (1ull << 16)
+#define BYTE(b) (2ull << 16 | (b))
+#define FRAME(c, d) (3ull << 16 | (c) << 8 | (d))
+#define PART(start, len) ((uint64_t)(start) << 32 | (len))
+
+#define B block, block_len
+#define R rx, rx_len
+#define T tx, tx_len
+
+static uint64_t create(size_t r, size_t t, uint32_t margin) {
+    rx_len = r;
+    tx_len = t;
+    return raftershim_create(B, R, T, margin);
+}
+static uint64_t reset(void) { return raftershim_reset(B, R, T); }
+static uint64_t writes(uint32_t n, uint32_t v) { return raftershim_write_register(B, R, T, n, v); }
+static uint64_t line(uint8_t b) { return raftershim_line_byte(B, R, T, b); }
+static uint64_t brk(void) { return raftershim_break(B, R, T); }
+static uint64_t key(void) { return raftershim_key(B, R, T); }
+static uint64_t next(void) { return raftershim_next_line_byte(B, R, T); }
+static uint64_t frame(uint32_t c, uint32_t d) { return raftershim_loop_frame(B, R, T, c << 8 | d); }
+static uint64_t show(uint32_t side) { return raftershim_show(B, R, T, side); }
+
+/* "Sizes and refusals": refusal 1 */
+static void sizes(void) {
+    IS(raftershim_block_len(), BLOCK);
+    REFUSED(1, create(7, 3, 3));
+    REFUSED(1, create(8, 2, 3));
+    REFUSED(1, create(8, 3, 0));
+    REFUSED(1, create(MOST, 3, 1025));
+    REFUSED(1, create(MOST + 1, 3, 1));
+    REFUSED(1, create(MOST, MOST + 1, 1));
+    REFUSED(1, create(8, 3, 0xFFFFFFFFu));
+    block_len = BLOCK - 1;
+    REFUSED(1, create(8, 3, 3));
+    block_len = BLOCK + 1;
+    REFUSED(1, create(8, 3, 3));
+    block_len = BLOCK;
+    IS(create(MOST, MOST, 1024), DONE);
+    IS(create(2050, 3, 1024), DONE);
+    keep();
+    IS(create(8, 3, 3), DONE);
+    IS(memcmp(rx_was, rx, sizeof rx) | memcmp(tx_was, tx, sizeof tx), 0);
+}
+
+/* refusal 2 for every call but showing, on a block that is not a fitting state */
+static void misfits(void) {
+    REFUSED(2, reset());
+    REFUSED(2, writes(99, 99999));
+    REFUSED(2, line(50));
+    REFUSED(2, brk());
+    REFUSED(2, key());
+    REFUSED(2, next());
+    REFUSED(2, frame(5, 129));
+    REFUSED(2, raftershim_loop_frame(B, R, T, 2048));
+    keep();
+    IS(show(0), 0);
+    IS(show(1), 0);
+    IS(changed(), 0);
+}
+
+static void other_blocks(void) {
+    IS(create(8, 3, 3), DONE);
+    IS(line(50), DONE);
+    block_len = BLOCK - 1;
+    misfits();
+    block_len = BLOCK + 1;
+    misfits();
+    block_len = 0;
+    misfits();
+    block_len = BLOCK;
+    rx_len = 9;
+    misfits();
+    rx_len = 8;
+    tx_len = 4;
+    misfits();
+    tx_len = 3;
+    for (int i = 0; i < BLOCK; i++) {
+        uint8_t b = block[i];
+        if (i >= 43 || i == 22 || (i >= 11 && i < 17)) continue; /* counts, the frame under way, characters: another fitting state */
+        block[i] = 255;
+        misfits();
+        block[i] = b;
+    }
+    memset(block, 0, BLOCK);
+    misfits();
+    memset(block, 255, BLOCK);
+    misfits();
+}
+
+/* "Registers": refusals 5 to 8, in that order */
+static void registers(void) {
+    IS(create(8, 3, 3), DONE);
+    for (uint32_t n = 3; n <= 9; n++) REFUSED(5, writes(n, 0));
+    for (uint32_t n = 12; n <= 15; n++) REFUSED(5, writes(n, 0));
+    REFUSED(5, writes(22, 0));
+    REFUSED(5, writes(0xFFFFFFFFu, 0));
+    REFUSED(6, writes(0, 16));
+    REFUSED(6, writes(16, 256));
+    REFUSED(6, writes(10, 0xFFFFFF08u));
+    REFUSED(7, writes(0, 2));
+    REFUSED(7, writes(2, 2));
+    REFUSED(7, writes(10, 1));
+    REFUSED(7, writes(11, 4));
+    REFUSED(8, writes(20, 19));
+    REFUSED(8, writes(21, 17));
+    IS(writes(0, 9), DONE);
+    IS(writes(1, 15), DONE);
+    IS(writes(2, 5), DONE);
+    IS(writes(10, 12), DONE);
+    IS(writes(11, 8), DONE);
+    IS(writes(20, 17), DONE);
+    IS(writes(16, 255), DONE);
+}
+
+/* "Store 8, m 3: the fourth byte does not hold off, the fifth begins holding off, the ninth is lost; two held ends it." */
+static void holding(void) {
+    IS(create(8, 3, 3), DONE);
+    for (uint8_t b = 1; b <= 4; b++) IS(line(b), DONE);
+    IS(next(), NONE);
+    IS(line(5), DONE);
+    IS(next(), BYTE(19));
+    IS(next(), NONE);
+    for (uint8_t b = 6; b <= 9; b++) IS(line(b), DONE);
+    IS(show(0), PART(0, 8));
+    for (int i = 0; i < 8; i++) IS(rx[i], (uint64_t)i + 1);
+    IS(show(1), 0);
+    IS(show(2), 0);
+    IS(frame(5, 128), FRAME(5, 129));
+    IS(frame(4, 64), FRAME(4, 64));
+    IS(frame(5, 96), FRAME(0, 1));
+    for (uint32_t d = 1; d <= 5; d++) IS(frame(0, d), FRAME(0, d + 1));
+    IS(next(), BYTE(17));
+    IS(show(0), PART(6, 2));
+    IS(line(10), DONE);
+    IS(show(0), PART(6, 2));
+    IS(rx[0], 10);
+    IS(frame(0, 6), FRAME(0, 7));
+    IS(frame(0, 7), FRAME(0, 8));
+    IS(show(0), PART(0, 1));
+    IS(frame(3, 8), FRAME(5, 65));
+}
+
+/* "Transmit store 3, R10 bit 2 on: an end byte is taken at none held, busy at one." "Frame 2,047 passes; 2,048: refusal 3." */
+static void listening(void) {
+    IS(create(8, 3, 3), DONE);
+    IS(frame(5, 158), FRAME(5, 159));
+    IS(frame(4, 32 + 30), FRAME(4, 32 + 30));
+    IS(writes(10, 4), DONE);
+    IS(raftershim_loop_frame(B, R, T, 2047), FRAME(7, 255));
+    REFUSED(3, raftershim_loop_frame(B, R, T, 2048));
+    REFUSED(3, raftershim_loop_frame(B, R, T, 0xFFFFFFFFu));
+    IS(frame(2, 65), FRAME(2, 65));
+    IS(show(1), PART(0, 3));
+    IS(tx[0], 65);
+    IS(tx[1], 13);
+    IS(tx[2], 10);
+    REFUSED(4, frame(0, 66));
+    IS(next(), BYTE(65));
+    IS(next(), BYTE(13));
+    REFUSED(4, frame(2, 66));
+    IS(frame(0, 66), FRAME(0, 66));
+    IS(show(1), PART(2, 1));
+    IS(next(), BYTE(10));
+    IS(show(1), PART(0, 1));
+    IS(line(19), DONE);
+    IS(next(), NONE);
+    IS(line(17), DONE);
+    IS(next(), BYTE(66));
+    IS(next(), NONE);
+}
+
+/* "Status byte": break, key and overrun are told, and clear on return */
+static void status(void) {
+    IS(create(8, 3, 3), DONE);
+    IS(frame(5, 129), FRAME(5, 130));
+    IS(frame(4, 64 + 1), FRAME(4, 64 + 1));
+    IS(writes(2, 5), DONE);
+    IS(writes(0, 8), DONE);
+    IS(brk(), DONE);
+    IS(key(), DONE);
+    IS(frame(5, 97), FRAME(1, 3 + 16 + 64 + 128));
+    IS(frame(1, 3 + 16 + 64 + 128), FRAME(5, 64));
+    IS(frame(5, 97), FRAME(0, 3));
+    IS(frame(0, 3), FRAME(5, 64));
+    IS(reset(), DONE);
+    memcpy(block_was, block, sizeof block);
+    IS(create(8, 3, 3), DONE);
+    IS(memcmp(block_was, block, sizeof block), 0);
+}
+
+/* the paper's run of `onepass` */
+static void onepass(void) {
+    static const uint8_t bytes[] = {0x32, 0x2E, 0x35, 0x0D, 0x0A};
+    IS(create(64, 64, 8), DONE);
+    IS(writes(10, 8), DONE);
+    for (size_t i = 0; i < sizeof bytes; i++) IS(line(bytes[i]), DONE);
+    IS(frame(5, 129), FRAME(5, 130));
+    IS(frame(4, 65), FRAME(4, 65));
+    IS(frame(5, 96), FRAME(0, 50));
+    IS(frame(0, 50), FRAME(0, 46));
+    IS(frame(0, 46), FRAME(2, 53));
+    IS(frame(2, 53), FRAME(5, 64));
+    IS(next(), NONE);
+}
+
+int main(void) {
+    sizes();
+    other_blocks();
+    registers();
+    holding();
+    listening();
+    status();
+    onepass();
+    if (differ) {
+        printf("%d of %d differ\n", differ, compared);
+        return 1;
+    }
+    printf("%d compared, all as the paper says\n", compared);
+    return 0;
+}
