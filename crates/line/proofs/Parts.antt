@@ -17,9 +17,11 @@ use Rattle.store.proofs.Laws.{put-full, put-size}
 use Rattle.state.specs.declared.State.{State}
 use Rattle.state.specs.declared.Out.{Out}
 use Rattle.state.specs.declared.Out.the-variants.{Own, Held, Nothing}
-use Rattle.state.specs.State.{withRegisters, withLine, withTx}
+use Rattle.state.specs.declared.Answer.the-variants as answer
+use Rattle.state.specs.State.{withRegisters, withLine, withRx, withTx, withNotes, withCounts}
+use Rattle.state.specs.Counts.{counted}
 use Rattle.state.specs.Sizes.{RxFits}
-use Rattle.line.specs.HoldingOff.{isFlow, flowed, free, storedWith, lostState, lineState, lineBytes, Taken, setAfresh, afterWrite, owed, nextOut, goneState}
+use Rattle.line.specs.HoldingOff.{isFlow, flowed, free, storedWith, lostState, lineState, lineBytes, Taken, setAfresh, afterWrite, owed, nextOut, goneState, outAnswer}
 
 -- ---- a line byte
 
@@ -117,3 +119,38 @@ module _ (s : State) (o : Out) where
   pub gone-none : o ≡ Nothing → s ≡ goneState s o
   unfolding goneState
   gone-none e = rw e
+
+-- ---- the smaller parts
+
+pub flow-met : (g : Registers) (b : ℕ) (on : Bool) → on ≡ protocolOn g → (on && (eqb b (g .c04) || eqb b (g .c05))) ≡ isFlow g b
+unfolding isFlow
+flow-met g b on p = rw p
+
+pub stored-met : (s : State) (r : Ring) (n : ℕ) (near on : Bool) → n ≡ counted (s .counts .stored) →
+    near ≡ leb (s .sizes .rx - r .len) (s .sizes .margin) → on ≡ protocolOn (s .regs) →
+    withCounts (withLine (withRx s r) (record { holding = s .line .holding || (on && near); forbidden = s .line .forbidden; stopped = s .line .stopped }))
+    (record { stored = n; lost = s .counts .lost; sent = s .counts .sent }) ≡ storedWith s r
+unfolding storedWith
+stored-met s r n near on a b c = rw (a, b, c)
+
+pub lost-met : (s : State) (n : ℕ) → n ≡ counted (s .counts .lost) →
+    withCounts (withNotes s (record {
+      seen = record { brk = s .notes .seen .brk; overrun = true; key = s .notes .seen .key };
+      again = record { brk = s .notes .again .brk; overrun = true; key = s .notes .again .key };
+      request = s .notes .request;
+    })) (record { stored = s .counts .stored; lost = n; sent = s .counts .sent }) ≡ lostState s
+unfolding lostState
+lost-met s n a = rw a
+
+module _ (o : Out) where
+  pub own-met : (b : ℕ) → o ≡ Own b → answer.Byte b ≡ outAnswer o
+  unfolding outAnswer
+  own-met b e = rw e
+
+  pub held-met : (b : ℕ) → o ≡ Held b → answer.Byte b ≡ outAnswer o
+  unfolding outAnswer
+  held-met b e = rw e
+
+  pub none-met : o ≡ Nothing → answer.Nothing ≡ outAnswer o
+  unfolding outAnswer
+  none-met e = rw e

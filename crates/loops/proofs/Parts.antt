@@ -4,18 +4,22 @@ use native.Mathlib.Omega.{arith}
 use mathlib.Core.Path.{_≡_, refl, sym, ap, subst, _∙_}
 use mathlib.Core.List.{List, [], _∷_}
 use mathlib.Core.Bool.{Bool, true, false, cond, _&&_}
-use lib.Dec.{eqb, leb}
+use lib.Dec.{eqb, leb, ltb}
 use lib.ListN.{length}
 use borrow.Author.Tests.{eq-eqb, ne-eqb, le-leb, lt-leb}
 use Rattle.cases.proofs.Cases.{cond-true, cond-false}
-use Rattle.frame.specs.Frame.{made, dataOf, isEnd, sameApart}
+use Rattle.frame.specs.Frame.{made, dataOf, isData, isEnd, sameApart}
 use Rattle.registers.specs.declared.Registers.{Registers}
-use Rattle.registers.specs.Meanings.{endInserted}
+use Rattle.registers.specs.Meanings.{endInserted, endDetected}
 use Rattle.reading.specs.declared.Rule.{Rule}
 use Rattle.role.specs.declared.Role.{Role}
 use Rattle.role.specs.declared.Order.{Order}
 use Rattle.role.specs.declared.Ready.{Ready}
 use Rattle.role.specs.declared.Ready.the-variants.{Pass, Address, Data, Status, Finish}
+use Rattle.role.specs.Parts.{withTalker}
+use Rattle.store.specs.declared.Ring.{Ring}
+use Rattle.store.specs.Ring.{emptyRing}
+use Rattle.status.specs.declared.Events.{Events}
 use Rattle.role.specs.Orders.{orderOf}
 use Rattle.role.specs.Commands.{obeyedRole}
 use Rattle.role.specs.ReadyFrames.{readyOf, assignedRole}
@@ -27,13 +31,13 @@ use Rattle.sending.specs.Sending.{Sends}
 use Rattle.state.specs.declared.State.{State}
 use Rattle.state.specs.declared.Outcome.{Outcome}
 use Rattle.state.specs.declared.Answer.the-variants.{Frame}
-use Rattle.state.specs.State.{withRole, withUnder, withRx, withCounts, noFrame}
+use Rattle.state.specs.State.{withRole, withUnder, withRx, withTx, withLine, withCounts, noFrame, noEvents, notesWith}
 use Rattle.state.specs.Counts.{counted}
-use Rattle.loops.specs.LoopToLine.{leaves}
+use Rattle.loops.specs.LoopToLine.{leaves, busy}
 use Rattle.line.specs.HoldingOff.{resumed}
-use Rattle.state.specs.Status.{settled, serviced, statusBack}
+use Rattle.state.specs.Status.{settled, serviced, statusOf, statusSent, statusBack}
 use Rattle.loops.specs.Sending.{talking, ended, ruleOf, removedState, sendState, sendFrom, sendStatus}
-use Rattle.loops.specs.Frames.{isClear, orderIn, forgotten, cleared, obeyed, commandSettled, finishing, passed, readied, ready, returned}
+use Rattle.loops.specs.Frames.{isClear, orderIn, forgotten, cleared, obeyed, commandSettled, finishing, passed, readied, ready, returned, outcomeSettled}
 
 -- ---- what a frame adds
 
@@ -133,3 +137,33 @@ module _ (s : State) (rx : List ℕ) (f : ℕ) (o : Outcome) where
       pub back-next : s .under .finishing ≡ false → o ≡ sendFrom s rx → o ≡ returned s rx f
       unfolding returned
       back-next k q = rw (e, ne-eqb (s .role .talker) 3 h) (q ∙ sym (cond-false (s .under .finishing) (ended s 64) (sendFrom s rx) k))
+
+-- ---- the smaller parts
+
+pub busy-met : (s : State) (f n : ℕ) (d : Bool) → d ≡ isData f → n ≡ length (leaves (s .regs) f) → ((s .role .listener && d) && ltb (s .sizes .tx - s .tx .len) n) ≡ busy s f
+unfolding busy
+busy-met s f n d p q = rw (p, q)
+
+pub clear-met : (s t : State) (x : Ring) (quiet : Events) → x ≡ emptyRing → quiet ≡ noEvents →
+    t ≡ notesWith (withLine (withTx (withRx s x) x) (record { holding = false; forbidden = false; stopped = s .line .stopped })) quiet quiet false → t ≡ cleared s
+unfolding cleared
+clear-met s t x quiet p q e = rw (e, p, q)
+
+pub settle-met : (s : State) (o : Outcome) (t : State) → t ≡ settled s (o .state) → record { state = t; answer = o .answer } ≡ outcomeSettled s o
+settle-met s o t p = rw p
+
+pub talking-met : (s : State) (phase f : ℕ) (r : Role) → r ≡ withTalker (s .role) phase → withUnder (withRole s r) (record { frame = f; finishing = false }) ≡ talking s phase f
+unfolding talking
+talking-met s phase f r p = rw p
+
+pub ended-met : (s t : State) (d x : ℕ) → t ≡ talking s 1 0 → x ≡ made 5 d → record { state = t; answer = Frame x } ≡ ended s d
+unfolding ended
+ended-met s t d x p q = rw (p, q)
+
+pub rule-met : (g : Registers) (on : Bool) → on ≡ endDetected g → record { on = on; c00 = g .c00; c01 = g .c01 } ≡ ruleOf g
+unfolding ruleOf
+rule-met g on p = rw p
+
+pub status-met : (s t u : State) (b x out : ℕ) → b ≡ statusOf s → x ≡ made 0 b → out ≡ serviced s x → t ≡ statusSent s → u ≡ talking t 3 x → record { state = u; answer = Frame out } ≡ sendStatus s
+unfolding sendStatus
+status-met s t u b x out p q r e z = rw (z, e, r, q, p)

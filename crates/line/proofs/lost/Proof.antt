@@ -1,12 +1,15 @@
-use Rattle.line.specs.HoldingOff.{lostState}
+use Rattle.line.proofs.Parts.{lost-met}
 use borrow.Author.Needs.{needs}
 use Rattle.line.proofs.lost.Statement.{statement}
 use Rattle.line.proofs.lost.Tie as tie
 
+returns : tie.Need-returns
+returns c =
+    lost-met _ _ (c .before .wrapping-add-u32 .ensures)
+
 pub lost-spec : {M : Type 1} → statement M
-unfolding lostState
 lost-spec =
     tie.close
     (tie.spec
     (λ c κs. search needs)
-    (λ c. cc))
+    returns)

@@ -1,13 +1,10 @@
-use Rattle.loops.specs.LoopToLine.{busy}
+use Rattle.loops.proofs.Parts.{busy-met}
 use borrow.Author.Needs.{needs}
 use Rattle.loops.proofs.busy.Statement.{statement}
 use Rattle.loops.proofs.busy.Tie as tie
 
 returns : tie.Need-returns
-unfolding busy
-returns c = cc
+returns c = busy-met _ _ _ _ (c .before .before .is-data .ensures) (c .added .ensures)
 
 pub busy-spec : {M : Type 1} → statement M
-busy-spec =
-    tie.close
-    (tie.spec (λ c. search needs) (λ c κs. search needs) (λ c κs. search needs) returns)
+busy-spec = tie.close (tie.spec (λ c. search needs) (λ c κs. search needs) (λ c κs. search needs) returns)

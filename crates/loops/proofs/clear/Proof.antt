@@ -1,14 +1,17 @@
-use Rattle.loops.specs.Frames.{cleared}
+use Rattle.loops.proofs.Parts.{clear-met}
 use borrow.Author.Needs.{needs}
 use Rattle.loops.proofs.clear.Statement.{statement}
 use Rattle.loops.proofs.clear.Tie as tie
 
+returns : tie.Need-returns
+returns c =
+    clear-met _ _ _ _ (c .before .before .before .before .emptied .ensures) (c .before .before .before .no-events .ensures) (c .with-notes .ensures)
+
 pub clear-spec : {M : Type 1} → statement M
-unfolding cleared
 clear-spec =
     tie.close
     (tie.spec
     (λ c κs. search needs)
     (λ c κs. search needs)
     (λ c κs. search needs)
-    (λ c. cc))
+    returns)

@@ -1,13 +1,16 @@
-use Rattle.loops.specs.Sending.{ended}
+use Rattle.loops.proofs.Parts.{ended-met}
 use borrow.Author.Needs.{needs}
 use Rattle.loops.proofs.talk.ended.Statement.{statement}
 use Rattle.loops.proofs.talk.ended.Tie as tie
 
+returns : tie.Need-returns
+returns c =
+    ended-met _ _ _ _ (c .before .talking .ensures) (c .make .ensures)
+
 pub ended-spec : {M : Type 1} → statement M
-unfolding ended
 ended-spec =
     tie.close
     (tie.spec
     (λ c κs. search needs)
     (λ c κs. search needs)
-    (λ c. cc))
+    returns)

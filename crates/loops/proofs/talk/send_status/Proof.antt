@@ -1,10 +1,13 @@
-use Rattle.loops.specs.Sending.{sendStatus}
+use Rattle.loops.proofs.Parts.{status-met}
 use borrow.Author.Needs.{needs}
 use Rattle.loops.proofs.talk.send_status.Statement.{statement}
 use Rattle.loops.proofs.talk.send_status.Tie as tie
 
+returns : tie.Need-returns
+returns c =
+    status-met _ _ _ _ _ _ (c .before .before .before .before .status-of .ensures) (c .before .before .before .make .ensures) (c .before .before .serviced .ensures) (c .before .status-sent .ensures) (c .talking .ensures)
+
 pub send-status-spec : {M : Type 1} → statement M
-unfolding sendStatus
 send-status-spec =
     tie.close
     (tie.spec
@@ -13,4 +16,4 @@ send-status-spec =
     (λ c κs. search needs)
     (λ c κs. search needs)
     (λ c κs. search needs)
-    (λ c. cc))
+    returns)

@@ -1,10 +1,13 @@
-use Rattle.state.specs.Sizes.{fits}
+use Rattle.state.proofs.Parts.{fits-met}
 use borrow.Author.Needs.{needs}
 use Rattle.state.proofs.fitting.state_fits.Statement.{statement}
 use Rattle.state.proofs.fitting.state_fits.Tie as tie
 
+returns : tie.Need-returns
+returns c =
+    fits-met _ _ _ _ _ _ _ _ (c .before .before .before .before .before .sizes-obeyed .ensures) (c .before .before .before .before .registers-fit .ensures) (c .before .before .before .role-fits .ensures) (c .before .ring-fits .ensures) (c .ring-fits2 .ensures)
+
 pub state-fits-spec : {M : Type 1} → statement M
-unfolding fits
 state-fits-spec =
     tie.close
     (tie.spec
@@ -13,4 +16,4 @@ state-fits-spec =
     (λ c κs. search needs)
     (λ c κs. search needs)
     (λ c κs. search needs)
-    (λ c. cc))
+    returns)

@@ -1,0 +1,13 @@
+use Rattle.pass.proofs.Writing.{wrote-one}
+use borrow.Author.Needs.{needs}
+use Rattle.pass.proofs.put.Statement.{statement}
+use Rattle.pass.proofs.put.Tie as tie
+
+pub put-spec : {M : Type 1} → statement M
+put-spec =
+    tie.close
+    (tie.spec
+    (λ c. search needs)
+    (λ c. search needs)
+    (λ c. search needs)
+    (λ c. wrote-one _ _ _ (c .pre)))

@@ -1,0 +1,19 @@
+use Rattle.pass.proofs.Parts.{second-short, second-many, second-goes}
+use borrow.Author.Needs.{needs}
+use Rattle.pass.proofs.second_of.Statement.{statement}
+use Rattle.pass.proofs.second_of.Tie as tie
+
+pub second-of-spec : {M : Type 1} → statement M
+second-of-spec =
+    tie.close
+    (tie.spec
+    (λ c. search needs)
+    (λ c. search needs)
+    (λ c. search needs)
+    (λ c κs. search needs)
+    (λ c. second-short _ _ _ (c .before .if1 .taken) (c .malformed .ensures))
+    (λ c κs. search needs)
+    (λ c κs. search needs)
+    (λ c. second-many _ _ _ _ (c .before .before .before .if1 .left) (c .before .before .high-at .ensures .0) (c .before .if2 .taken) (c .malformed2 .ensures))
+    (λ c κs. search needs)
+    (λ c. second-goes _ _ _ _ (c .before .before .before .if1 .left) (c .before .before .high-at .ensures .0) (c .before .if2 .left) (c .third-of .ensures)))

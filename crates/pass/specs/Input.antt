@@ -1,0 +1,53 @@
+-- "reads three sections in fixed order, each after a two-byte count, high byte first: register pairs (number, value), line bytes, frames
+-- (two bytes, high first), each section of at most 64 items"
+use Prim.Native.Nat.{ℕ, _+_, _*_, _≤_}
+use mathlib.Core.Path.{_≡_}
+use mathlib.Core.Bool.{Bool, true, false, cond, _&&_}
+use mathlib.Core.List.{List}
+use lib.ListN.{length, getD}
+use lib.Dec.{eqb, leb}
+use Rattle.pass.specs.declared.Sections.{Sections}
+
+-- two bytes, high byte first
+abbrev pub high : List ℕ → ℕ → ℕ
+high x i = 256 * getD x i 0 + getD x (i + 1) 0
+
+-- where the counts of the second and the third section stand, and where the input ends, for the counts before them
+abbrev pub secondAt : ℕ → ℕ
+secondAt a = 2 + 2 * a
+
+abbrev pub thirdAt : ℕ → ℕ → ℕ
+thirdAt a b = 4 + 2 * a + b
+
+abbrev pub endAt : ℕ → ℕ → ℕ → ℕ
+endAt a b c = 6 + 2 * a + b + 2 * c
+
+abbrev pub malformed : Sections
+malformed = record { ok = false; regs = 0; bytes = 0; frames = 0 }
+
+abbrev pub sections : ℕ → ℕ → ℕ → Sections
+sections a b c = record { ok = true; regs = a; bytes = b; frames = c }
+
+-- a count stands at i, and is at most 64
+abbrev pub counted : List ℕ → ℕ → Bool
+counted x i = leb (i + 2) (length x) && leb (high x i) 64
+
+-- the numbers of items; "Short or extra input, or a count above 64" is malformed
+unfoldable pub thirdOf : List ℕ → ℕ → ℕ → Sections
+thirdOf x a b =
+    cond (counted x (thirdAt a b))
+    (cond (eqb (length x) (endAt a b (high x (thirdAt a b)))) (sections a b (high x (thirdAt a b))) malformed)
+    malformed
+
+unfoldable pub secondOf : List ℕ → ℕ → Sections
+secondOf x a = cond (counted x (secondAt a)) (thirdOf x a (high x (secondAt a))) malformed
+
+unfoldable pub sectionsOf : List ℕ → Sections
+sectionsOf x = cond (counted x 0) (secondOf x (high x 0)) malformed
+
+-- input of these sections, each of at most 64 items
+pub record Whole (x : List ℕ) (p : Sections) : Type 0 where
+  pub regs : p .regs ≤ 64
+  pub bytes : p .bytes ≤ 64
+  pub frames : p .frames ≤ 64
+  pub all : length x ≡ endAt (p .regs) (p .bytes) (p .frames)

@@ -1,0 +1,103 @@
+-- "Program `onepass` (stores of 64, m 8)": what it prints, by the calls of the bridge.
+use Prim.Native.Nat.{ℕ, zero, suc, _+_, _*_, _≤_}
+use mathlib.Core.Path.{_≡_}
+use mathlib.Core.Bool.{Bool, true, false, cond}
+use mathlib.Core.List.{List, [], _∷_, _++_}
+use lib.ListN.{length, getD, replicate}
+use lib.Dec.{eqb}
+use Rattle.state.specs.declared.State.{State}
+use Rattle.state.specs.Answers.{Said, done, none, byte, frame, refused, part}
+use Rattle.state.specs.Sizes.{startState}
+use Rattle.bridge.specs.Calls.{write, lineByte, nextLineByte, loopFrame, World, world, Did, step}
+use Rattle.pass.specs.declared.Sections.{Sections}
+use Rattle.pass.specs.declared.Set.{Set}
+use Rattle.pass.specs.Input.{high, secondAt, thirdAt, sectionsOf}
+use Rattle.pass.specs.Text.{decimal, newline, firstLine, lineWord, refusedText, answerText, bytesText, Wrote}
+
+-- the number of a refusal, 0 for any other answer
+unfoldable pub faultOf : Said → ℕ
+faultOf (refused n) = n
+faultOf done = 0
+faultOf none = 0
+faultOf (byte b) = 0
+faultOf (frame c d) = 0
+faultOf (part xs) = 0
+
+-- n register pairs from place i are written; "a refused register .. ends the run"
+unfoldable pub setRegisters : ℕ → List ℕ → ℕ → World → Set
+setRegisters zero x i w = record { state = w .state; fault = 0 }
+setRegisters (suc n) x i w =
+    cond (eqb (faultOf (step (write (getD x i 0) (getD x (i + 1) 0)) w .said)) 0)
+    (setRegisters n x (i + 2) (step (write (getD x i 0) (getD x (i + 1) 0)) w .world))
+    (record { state = w .state; fault = faultOf (step (write (getD x i 0) (getD x (i + 1) 0)) w .said) })
+
+-- "It then takes the line bytes": n of them from place i
+unfoldable pub takeBytes : ℕ → List ℕ → ℕ → World → World
+takeBytes zero x i w = w
+takeBytes (suc n) x i w = takeBytes n x (i + 1) (step (lineByte (getD x i 0)) w .world)
+
+-- "offers the frames": what n of them from place i print, and the world after them
+unfoldable pub framesText : ℕ → List ℕ → ℕ → World → List ℕ
+framesText zero x i w = []
+framesText (suc n) x i w = answerText (step (loopFrame (high x i)) w .said) ++ framesText n x (i + 2) (step (loopFrame (high x i)) w .world)
+
+unfoldable pub framesWorld : ℕ → List ℕ → ℕ → World → World
+framesWorld zero x i w = w
+framesWorld (suc n) x i w = framesWorld n x (i + 2) (step (loopFrame (high x i)) w .world)
+
+-- the same as a promise: t is the state after them and r the place behind what they print
+pub record Offers (n : ℕ) (x : List ℕ) (i : ℕ) (w : World) (out : List ℕ) (at : ℕ) (t : State) (tx′ out′ : List ℕ) (r : ℕ) : Type 0 where
+  pub world : world t (w .rx) tx′ ≡ framesWorld n x i w
+  pub wrote : Wrote out at (framesText n x i w) out′ r
+  pub short : r ≤ at + 12 * n
+
+-- whether a line byte is given, and which
+unfoldable pub isByte : Said → Bool
+isByte (byte b) = true
+isByte done = false
+isByte none = false
+isByte (frame c d) = false
+isByte (refused n) = false
+isByte (part xs) = false
+
+unfoldable pub byteIn : Said → ℕ
+byteIn (byte b) = b
+byteIn done = 0
+byteIn none = 0
+byteIn (frame c d) = 0
+byteIn (refused n) = 0
+byteIn (part xs) = 0
+
+-- "and asks for line bytes until none", at most n times
+unfoldable pub lineOut : ℕ → World → List ℕ
+lineOut zero w = []
+lineOut (suc n) w = cond (isByte (step nextLineByte w .said)) (byteIn (step nextLineByte w .said) ∷ lineOut n (step nextLineByte w .world)) []
+
+-- one more than the bytes of a full store, our own go or stop, and the none
+abbrev pub asks : ℕ
+asks = 66
+
+unfoldable pub lineText : World → List ℕ
+lineText w = lineWord ++ (decimal (length (lineOut asks w)) ++ (bytesText (lineOut asks w) ++ newline))
+
+-- what is printed behind the first line when the registers are set
+unfoldable pub restText : List ℕ → Sections → World → List ℕ
+restText x p w =
+    framesText (p .frames) x (6 + 2 * p .regs + p .bytes) (takeBytes (p .bytes) x (4 + 2 * p .regs) w)
+    ++ lineText (framesWorld (p .frames) x (6 + 2 * p .regs + p .bytes) (takeBytes (p .bytes) x (4 + 2 * p .regs) w))
+
+-- "a refused register prints `refused` and its number after the first line, and ends the run"
+unfoldable pub setText : List ℕ → Sections → Set → List ℕ → List ℕ → List ℕ
+setText x p g rx tx = cond (eqb (g .fault) 0) (restText x p (world (g .state) rx tx)) (refusedText (g .fault))
+
+-- a run on these stores, from the state that create gives them with margin 8
+unfoldable pub runText : List ℕ → Sections → List ℕ → List ℕ → List ℕ
+runText x p rx tx = firstLine ++ setText x p (setRegisters (p .regs) x 2 (world (startState 8 (length rx) (length tx)) rx tx)) rx tx
+
+-- "stores of 64"
+abbrev pub store : List ℕ
+store = replicate 64 0
+
+-- all that is printed; malformed input "prints `refused 9` as the only line"
+unfoldable pub printed : List ℕ → List ℕ
+printed x = cond (sectionsOf x .ok) (runText x (sectionsOf x) store store) (refusedText 9)

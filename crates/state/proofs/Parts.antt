@@ -1,0 +1,70 @@
+-- What the parts of a state's functions come to, on plain values. Assumes nothing.
+use Prim.Native.Nat.{ℕ}
+use mathlib.Core.Path.{_≡_}
+use mathlib.Core.Bool.{Bool, false, _&&_, _||_}
+use lib.Dec.{eqb, ltb}
+use Rattle.registers.specs.declared.Registers.{Registers}
+use Rattle.registers.specs.Table.{startRegisters}
+use Rattle.registers.specs.Fit.{registersFit}
+use Rattle.registers.specs.Meanings.{requestsShow, overrunEnabled, transmitEmptyEnabled, transmitNotFullEnabled, receiveNotEmptyEnabled, receiveFullEnabled, breakEnabled, keyEnabled}
+use Rattle.role.specs.declared.Role.{Role}
+use Rattle.role.specs.Parts.{startRole}
+use Rattle.role.specs.Fit as role-fit
+use Rattle.store.specs.declared.Ring.{Ring}
+use Rattle.store.specs.Ring as store-ring
+use Rattle.status.specs.declared.Conditions.{Conditions}
+use Rattle.status.specs.declared.Events.{Events}
+use Rattle.status.specs.Status.{statusByte, both, begins, acknowledged}
+use Rattle.state.specs.declared.State.{State}
+use Rattle.state.specs.State.{noEvents, notesWith, noFrame}
+use Rattle.state.specs.Sizes.{sizesObeyed, startState, fits}
+use Rattle.state.specs.Status.{conditions, enabledBy, asking, withRequest, settled, shows, statusOf, statusSent, statusBack}
+
+pub start-met : (m a b : ℕ) (g : Registers) (r : Role) (x y : Ring) (p q : Events) → g ≡ startRegisters → r ≡ startRole → x ≡ store-ring.emptyRing → y ≡ store-ring.emptyRing → p ≡ noEvents → q ≡ noEvents →
+    record {
+      sizes = record { rx = a; tx = b; margin = m };
+      regs = g;
+      role = r;
+      under = noFrame;
+      rx = x;
+      tx = y;
+      line = record { holding = false; forbidden = false; stopped = false };
+      notes = record { seen = p; again = q; request = false };
+      counts = record { stored = 0; lost = 0; sent = 0 };
+    } ≡ startState m a b
+unfolding startState
+start-met m a b g r x y p q eg er ex ey ep eq = rw (eg, er, ex, ey, ep, eq)
+
+pub fits-met : (s : State) (a b : ℕ) (z g r x y : Bool) → z ≡ sizesObeyed (s .sizes .margin) a b → g ≡ registersFit (s .regs) → r ≡ role-fit.fitTest (s .role) → x ≡ store-ring.fitTest a (s .rx) → y ≡ store-ring.fitTest b (s .tx) →
+    (((((((eqb (s .sizes .rx) a && eqb (s .sizes .tx) b) && z) && g) && r) && ltb (s .under .frame) 1024) && x) && y) ≡ fits s a b
+unfolding fits
+fits-met s a b z g r x y ez eg er ex ey = rw (ez, eg, er, ex, ey)
+
+pub enabled-met : (g : Registers) (a b c d e f h : Bool) → a ≡ transmitEmptyEnabled g → b ≡ transmitNotFullEnabled g → c ≡ receiveNotEmptyEnabled g → d ≡ receiveFullEnabled g → e ≡ breakEnabled g → f ≡ overrunEnabled g → h ≡ keyEnabled g →
+    record { txempty = a; txroom = b; rxsome = c; rxfull = d; brk = e; overrun = f; key = h } ≡ enabledBy g
+unfolding enabledBy
+enabled-met g a b c d e f h ea eb ec ed ee ef eh = rw (ea, eb, ec, ed, ee, ef, eh)
+
+pub asking-met : (s : State) (e c o : Conditions) → e ≡ enabledBy (s .regs) → c ≡ conditions s → o ≡ both e c → o ≡ asking s
+unfolding asking
+asking-met s e c o p q r = rw (r, p, q)
+
+pub settled-met : (before after : State) (x y : Conditions) (t : Bool) → x ≡ asking before → y ≡ asking after → t ≡ begins x y → withRequest after (after .notes .request || t) ≡ settled before after
+unfolding settled
+settled-met before after x y t p q r = rw (r, p, q)
+
+pub shows-met : (s : State) (t : Bool) → t ≡ requestsShow (s .regs) → (t && s .notes .request) ≡ shows s
+unfolding shows
+shows-met s t p = rw p
+
+pub status-met : (s : State) (c : Conditions) (t : Bool) (r : ℕ) → c ≡ conditions s → t ≡ shows s → r ≡ statusByte c t → r ≡ statusOf s
+unfolding statusOf
+status-met s c t r p q e = rw (e, p, q)
+
+pub sent-met : (s t : State) (quiet : Events) → quiet ≡ noEvents → t ≡ notesWith s (s .notes .seen) quiet false → t ≡ statusSent s
+unfolding statusSent
+sent-met s t quiet e q = rw (q, e)
+
+pub back-met : (s t : State) (d : ℕ) (left : Events) → left ≡ acknowledged (s .notes .seen) (s .notes .again) d → t ≡ notesWith s left (s .notes .again) (s .notes .request) → t ≡ statusBack s d
+unfolding statusBack
+back-met s t d left e q = rw (q, e)
