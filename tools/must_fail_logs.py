@@ -9,7 +9,10 @@ import os
 import re
 import sys
 
-UNFIT = re.compile(r"that can be named from here|expected type `tie\.|not a `×` type|is not in scope|BAD EDIT")
+UNFIT = re.compile(
+    r"that can be named from here|expected type `tie\.|not a `×` type|is not a function|too many arguments|BAD EDIT"
+    r"|unexpected|parse error|not in scope|cannot be resolved"
+)
 ERROR = re.compile(r"error:|it is not proved that")
 
 
@@ -32,7 +35,7 @@ def main():
         if not found:
             print(f"{edit}: no error in its log")
             bad += 1
-        elif UNFIT.search(found.split("\n")[0]):
+        elif UNFIT.search(found):
             print(f"{edit}: the edit only made the proof unfit for the code: {found[:200]}")
             bad += 1
         elif "--print" in sys.argv:
