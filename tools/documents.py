@@ -38,7 +38,7 @@ def sizes():
             code_lines(f"{at}/src/**/*.rt", "//"),
             code_lines(f"{at}/specs/**/*.antt", "--"),
             code_lines(f"{at}/proofs/**/*.antt", "--"),
-            len(glob.glob(f"{at}/must-fail/*.edit")),
+            len(glob.glob(f"{at}/must-fail/*.edit") + glob.glob(f"{at}/edits/*.edit")),
         ]
         total = [a + b for a, b in zip(total, row)]
         rows.append(f"| {name} | " + " | ".join(map(str, row)) + " |")

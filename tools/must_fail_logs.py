@@ -1,6 +1,6 @@
 """Holds every must-fail edit to a log whose first error is a fact that no longer holds.
 
-Usage: python3 tools/must_fail_logs.py [--print]   (after rt ci, which writes the logs)
+Usage: python3 tools/must_fail_logs.py [--print]   (after rt ci and tools/must_fail.py, which write the logs)
 An edit that only makes a proof file unfit for the code (a need of another name, another number of needs) proves nothing.
 --print shows the first error of each log.
 """
@@ -27,7 +27,7 @@ def first_error(text):
 
 def main():
     bad = 0
-    edits = sorted(glob.glob("crates/*/must-fail/*.edit"))
+    edits = sorted(glob.glob("crates/*/must-fail/*.edit") + glob.glob("crates/*/edits/*.edit"))
     for edit in edits:
         crate, label = edit.split(os.sep)[1], os.path.splitext(os.path.basename(edit))[0]
         log = os.path.join("target", "must-fail", crate, label, ".log")

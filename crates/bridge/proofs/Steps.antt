@@ -21,7 +21,7 @@ use Rattle.loops.specs.LoopToLine.{busy}
 use Rattle.loops.specs.Frames.{frameSettled, Framed}
 use Rattle.line.specs.HoldingOff.{lineState, lineBytes, Taken, afterWrite, nextOut, goneState, outAnswer}
 use Rattle.state.specs.Status.{settled, breakState, keyState}
-use Rattle.bridge.specs.Calls.{Call, create, reset, write, lineByte, lineBreak, key, nextLineByte, loopFrame, World, Did, world, did, checks, outcome, doneWith, refusedWith, settledBy, rxAfter, txAfter, accepted, refusedOr, misfit, step, shown, Created}
+use Rattle.bridge.specs.Calls.{Call, create, reset, write, lineByte, lineBreak, key, nextLineByte, loopFrame, show, World, Did, world, did, handed, checks, outcome, doneWith, refusedWith, settledBy, rxAfter, txAfter, accepted, refusedOr, misfit, step, shown, Created}
 
 -- a call that takes a state: the check for a misfit, and `more` after it
 abbrev Judged : Call → State → List ℕ → List ℕ → List Check → Type 0
@@ -37,8 +37,8 @@ module _ (s : State) (rx tx : List ℕ) (e : fits s (length rx) (length tx) ≡ 
   unfolding refusedOr said
   misfit-met c more o d q = ap (λ (x : Outcome). did x rx tx) q ∙ sym (d ∙ rw e)
 
-  pub show-misfit : (side : ℕ) → [] ≡ shown side (world s rx tx)
-  unfolding shown
+  pub show-misfit : (side : ℕ) → handed [] (world s rx tx) ≡ step (show side) (world s rx tx)
+  unfolding step shown
   show-misfit side = rw e
 
 module _ (s : State) (rx tx : List ℕ) (e : fits s (length rx) (length tx) ≡ true) where
@@ -75,16 +75,16 @@ module _ (s : State) (rx tx : List ℕ) (e : fits s (length rx) (length tx) ≡ 
   unfolding step checks accepted outcome settledBy rxAfter txAfter frameSettled
   frame-done o f tx′ h b q = fit-met (loopFrame f) (frameChecks s f) (did o rx tx′) refl (rw (le-ltb 2047 f h, b)) (rw (q .outcome, q .bytes))
 
-  pub show-receive : (side : ℕ) → side ≡ 0 → run rx (s .rx) ≡ shown side (world s rx tx)
-  unfolding shown
-  show-receive side z = rw (e, eq-eqb side 0 z)
+  pub show-receive : (p : List ℕ) → p ≡ run rx (s .rx) → (side : ℕ) → side ≡ 0 → handed p (world s rx tx) ≡ step (show side) (world s rx tx)
+  unfolding step shown
+  show-receive p q side z = rw (q, e, eq-eqb side 0 z)
 
-  pub show-transmit : (side : ℕ) → (side ≡ 0 → ⊥) → side ≡ 1 → run tx (s .tx) ≡ shown side (world s rx tx)
-  unfolding shown
-  show-transmit side y z = rw (e, ne-eqb side 0 y, eq-eqb side 1 z)
+  pub show-transmit : (p : List ℕ) → p ≡ run tx (s .tx) → (side : ℕ) → (side ≡ 0 → ⊥) → side ≡ 1 → handed p (world s rx tx) ≡ step (show side) (world s rx tx)
+  unfolding step shown
+  show-transmit p q side y z = rw (q, e, ne-eqb side 0 y, eq-eqb side 1 z)
 
-  pub show-neither : (side : ℕ) → (side ≡ 0 → ⊥) → (side ≡ 1 → ⊥) → [] ≡ shown side (world s rx tx)
-  unfolding shown
+  pub show-neither : (side : ℕ) → (side ≡ 0 → ⊥) → (side ≡ 1 → ⊥) → handed [] (world s rx tx) ≡ step (show side) (world s rx tx)
+  unfolding step shown
   show-neither side y z = rw (e, ne-eqb side 0 y, ne-eqb side 1 z)
 
 module _ (m : ℕ) (rx tx : List ℕ) (o : Outcome) (t : State) (made : t ≡ startState m (length rx) (length tx)) where

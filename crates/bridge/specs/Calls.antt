@@ -49,6 +49,10 @@ pub record Did : Type 0 where
 abbrev pub did : Outcome → List ℕ → List ℕ → Did
 did o rx tx = record { said = said (o .answer); world = world (o .state) rx tx }
 
+-- what showing did: the part that it returned, and the world as it was
+abbrev pub handed : List ℕ → World → Did
+handed xs w = record { said = part xs; world = w }
+
 -- ---- refusals
 
 -- "the state does not fit the lent stores"
@@ -146,7 +150,7 @@ refusedOr n d w = cond (eqb n 0) d (record { said = refused n; world = w })
 
 -- every call, in every world
 unfoldable pub step : Call → World → Did
-step (show side) w = record { said = part (shown side w); world = w }
+step (show side) w = handed (shown side w) w
 step (create m) w = refusedOr (firstRefusal (checks (create m) w)) (accepted (create m) w) w
 step reset w = refusedOr (firstRefusal (checks reset w)) (accepted reset w) w
 step (write n v) w = refusedOr (firstRefusal (checks (write n v) w)) (accepted (write n v) w) w

@@ -1,6 +1,6 @@
 // The bridge: a software HP-IL/RS-232 interface. The state goes in by value and comes back; both stores are lent at every call.
 ghost use mathlib.Core.Path.{_≡_};
-ghost use Rattle.bridge.specs.Calls.{step, world, did, doneWith, refusedWith, shown, Created, reset, write, lineByte, lineBreak, key, nextLineByte, loopFrame};
+ghost use Rattle.bridge.specs.Calls.{step, world, did, handed, doneWith, refusedWith, Created, reset, write, lineByte, lineBreak, key, nextLineByte, loopFrame, show};
 use state::Answer;
 use state::Outcome;
 use state::State;
@@ -132,7 +132,7 @@ pub fn loop_frame(s: State, rx: &[u8], tx: &mut [u8], frame: u32) -> Outcome
 
 // Shows the longest unbroken run of bytes from the oldest one: side 0 of the receive store, side 1 of the transmit store.
 pub fn show<'a>(s: State, rx: &'a [u8], tx: &'a [u8], side: u32) -> &'a [u8]
-    ensures { λ o. ⌜ now o ≡ shown side (world s (now (rx .entry)) (now (tx .entry))) ⌝ }
+    ensures { λ o. ⌜ handed (now o) (world s (now (rx .entry)) (now (tx .entry))) ≡ step (show side) (world s (now (rx .entry)) (now (tx .entry))) ⌝ }
 {
     if !state::fitting::state_fits(s, rx.len(), tx.len()) {
         return &rx[0..0];

@@ -7,8 +7,8 @@ use Rattle.state.specs.declared.State.{State}
 use Rattle.state.specs.declared.Outcome.{Outcome}
 use Rattle.state.specs.declared.Answer.{Answer}
 use Rattle.state.specs.declared.Answer.the-variants.{Done, Nothing, Byte, Frame, Refused}
-use Rattle.state.specs.Answers.{Said, done, none, byte, frame, refused, said}
-use Rattle.bridge.specs.Calls.{Call, World, Did, world, did, step, shown, Created}
+use Rattle.state.specs.Answers.{Said, done, none, byte, frame, refused, part, said}
+use Rattle.bridge.specs.Calls.{Call, World, Did, world, did, handed, step, Created}
 use Rattle.laws.specs.OneResult.{Same, CallsHaveOneResult, CreateHasOneResult, ShowHasOneResult}
 
 same-frame : (f g : ℕ) → f / 256 ≡ g / 256 → f % 256 ≡ g % 256 → f ≡ g
@@ -63,4 +63,4 @@ create-has-one-result m rx tx o₁ o₂ p q =
     }
 
 pub show-has-one-result : ShowHasOneResult
-show-has-one-result side w x₁ x₂ p q = p ∙ sym q
+show-has-one-result side w x₁ x₂ p q = let e : part x₁ ≡ part x₂ = ap (λ (d : Did). d .said) (p ∙ sym q) in cc

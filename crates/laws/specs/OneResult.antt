@@ -4,7 +4,7 @@ use Prim.Native.Nat.{ℕ}
 use mathlib.Core.Path.{_≡_}
 use mathlib.Core.List.{List}
 use Rattle.state.specs.declared.Outcome.{Outcome}
-use Rattle.bridge.specs.Calls.{Call, World, world, did, step, shown, Created}
+use Rattle.bridge.specs.Calls.{Call, show, World, world, did, handed, step, Created}
 
 -- two results are the same
 pub record Same (o₁ o₂ : Outcome) (rx₁ rx₂ tx₁ tx₂ : List ℕ) : Type 0 where
@@ -25,4 +25,4 @@ CreateHasOneResult = (m : ℕ) (rx tx : List ℕ) (o₁ o₂ : Outcome) → Crea
 
 -- showing returns a part and changes nothing
 abbrev pub ShowHasOneResult : Type 0
-ShowHasOneResult = (side : ℕ) (w : World) (x₁ x₂ : List ℕ) → x₁ ≡ shown side w → x₂ ≡ shown side w → x₁ ≡ x₂
+ShowHasOneResult = (side : ℕ) (w : World) (x₁ x₂ : List ℕ) → handed x₁ w ≡ step (show side) w → handed x₂ w ≡ step (show side) w → x₁ ≡ x₂

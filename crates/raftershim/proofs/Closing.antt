@@ -17,14 +17,14 @@ use Rattle.state.specs.declared.State.{State}
 use Rattle.state.specs.declared.Outcome.{Outcome}
 use Rattle.state.specs.declared.Answer.{Answer}
 use Rattle.state.specs.declared.Answer.the-variants.{Done, Nothing, Byte, Frame, Refused}
-use Rattle.state.specs.Answers.{Said, said, done, refused}
+use Rattle.state.specs.Answers.{Said, said, done, refused, part}
 use Rattle.state.specs.Sizes.{sizesObeyed, startState, fits}
 use Rattle.state.proofs.Fits.{rx-fits, tx-fits}
 use Rattle.block.specs.Packed.{blockLen, packed}
 use Rattle.block.specs.States.{isState, noState, meaning, fittingBlock}
 use Rattle.block.proofs.Same.{state-length, means-none}
 use Rattle.block.proofs.Laws.{no-state-misfits}
-use Rattle.bridge.specs.Calls.{Call, create, reset, write, lineByte, lineBreak, key, nextLineByte, loopFrame, show, World, Did, world, did, checks, accepted, outcome, settledBy, rxAfter, txAfter, refusedOr, step, shown, Created}
+use Rattle.bridge.specs.Calls.{Call, create, reset, write, lineByte, lineBreak, key, nextLineByte, loopFrame, show, World, Did, world, did, checks, accepted, outcome, settledBy, rxAfter, txAfter, refusedOr, step, handed, shown, Created}
 use Rattle.raftershim.specs.Word.{word, kindOf, valueOf, isRefusal, placeWord, startOf, storeOf, shownWord}
 use Rattle.raftershim.specs.Calls.{Lent, lent, Returned, returned, opened, blockAfter, closed, createdFor, cStep, needsState}
 
@@ -123,6 +123,11 @@ module _ (m : ℕ) (b rx tx : List ℕ) where
 pub run-size : (xs : List ℕ) (r : Ring) → length (run xs r) ≡ min (r .len) (length xs - r .oldest)
 run-size xs r =
     ap length (sym (run-part xs r (min (r .len) (length xs - r .oldest)) refl)) ∙ simp (length-take, length-drop) (omega arith)
+
+-- the part that showing returned is the one shown
+pub part-shown : (side : ℕ) (w : World) (p : List ℕ) → handed p w ≡ step (show side) w → p ≡ shown side w
+unfolding step
+part-shown side w p d = let e : part p ≡ part (shown side w) = ap (λ (x : Did). x .said) d in cc
 
 module _ (side : ℕ) (b rx tx p : List ℕ) (s : State) (m : s ≡ meaning b) (e : p ≡ shown side (world s rx tx)) where
   pub show-empty : length p ≡ 0 → returned 0 b rx tx ≡ cStep (show side) (lent b rx tx)

@@ -16,7 +16,7 @@ show-requires c κs =
 
 returns-2 : tie.Need-returns-2
 returns-2 c =
-    c .show .ensures .bytes ∙ show-receive (c .before .before .before .before .before .before .args .s) (now (c .before .before .before .before .before .before .args .rx)) (now (c .before .before .before .before .before .before .args .tx)) (is-fit (c .before .before .before .state-fits .ensures) (c .before .before .if1 .left)) _ (c .before .if2 .taken)
+    show-receive (c .before .before .before .before .before .before .args .s) (now (c .before .before .before .before .before .before .args .rx)) (now (c .before .before .before .before .before .before .args .tx)) (is-fit (c .before .before .before .state-fits .ensures) (c .before .before .if1 .left)) _ (c .show .ensures .bytes) _ (c .before .if2 .taken)
 
 show-requires-2 : tie.Need-show-requires-2
 show-requires-2 c κs =
@@ -24,7 +24,7 @@ show-requires-2 c κs =
 
 returns-3 : tie.Need-returns-3
 returns-3 c =
-    c .show2 .ensures .bytes ∙ show-transmit (c .before .before .before .before .before .before .before .args .s) (now (c .before .before .before .before .before .before .before .args .rx)) (now (c .before .before .before .before .before .before .before .args .tx)) (is-fit (c .before .before .before .before .state-fits .ensures) (c .before .before .before .if1 .left)) _ (c .before .before .if2 .left) (c .before .if3 .taken)
+    show-transmit (c .before .before .before .before .before .before .before .args .s) (now (c .before .before .before .before .before .before .before .args .rx)) (now (c .before .before .before .before .before .before .before .args .tx)) (is-fit (c .before .before .before .before .state-fits .ensures) (c .before .before .before .if1 .left)) _ (c .show2 .ensures .bytes) _ (c .before .before .if2 .left) (c .before .if3 .taken)
 
 returns-4 : tie.Need-returns-4
 returns-4 c =
