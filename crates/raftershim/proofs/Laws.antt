@@ -12,11 +12,12 @@ use Rattle.block.specs.Packed.{blockLen, packed}
 use Rattle.block.specs.States.{fittingBlock, Ranged}
 use Rattle.block.proofs.Laws.{packed-length, packed-means, meaning-fits}
 use Rattle.bridge.specs.Calls.{Call, create, reset, write, lineByte, lineBreak, key, nextLineByte, loopFrame, show, World, world, Did, step, shown}
-use Rattle.raftershim.specs.Word.{word, kindOf, valueOf, isRefusal, placeWord, startOf, storeOf, shownWord}
+use Rattle.laws.specs.Answers.{isRefusal}
+use Rattle.laws.proofs.Answers.{refused-exactly}
+use Rattle.raftershim.specs.Word.{word, kindOf, valueOf, placeWord, startOf, storeOf, shownWord}
 use Rattle.raftershim.specs.Calls.{Lent, lent, Returned, returned, opened, closed, createdFor, cStep, needsState}
 use Rattle.raftershim.specs.Runs.{packedWorld, answerWord}
 use Rattle.raftershim.proofs.Closing.{misfit-step, Shown, shown-part}
-use Rattle.raftershim.proofs.Answered.{refusal-keeps}
 
 -- "For each public call, any two results allowed by its promise are equal": the number and every byte of the three buffers
 pub one-result : (x : Returned) {n m : ℕ} {b c rx ry tx ty : List ℕ} → returned n b rx tx ≡ x → returned m c ry ty ≡ x →
@@ -48,7 +49,7 @@ state-call (loopFrame f) l n = refl
 -- "a block that is not a fitting state gets refusal 2", and nothing is written; a block of the wrong length is no state
 pub misfit-refused : (c : Call) (l : Lent) → needsState c ≡ true → fittingBlock (l .block) (length (l .rx)) (length (l .tx)) ≡ false →
     cStep c l ≡ record { word = word (refused 2); lent = l }
-unfolding closed isRefusal
+unfolding closed
 misfit-refused c l n e =
     state-call c l n ∙ ap (closed l) (misfit-step c (opened l) n (meaning-fits (l .block) (length (l .rx)) (length (l .tx)) ∙ e))
 
@@ -61,6 +62,10 @@ wrong-block-refused m l e = rw e
 closed-keeps : (l : Lent) (d : Did) → (isRefusal (d .said) ≡ true → d .world ≡ opened l) → isRefusal (d .said) ≡ true → closed l d .lent ≡ l
 unfolding closed
 closed-keeps l d k e = rw (e, k e)
+
+-- "Each returns its number alone; state and stores stay as they were"
+refusal-keeps : (c : Call) (w : World) → isRefusal (step c w .said) ≡ true → step c w .world ≡ w
+refusal-keeps c w = refused-exactly c w .leaves
 
 pub refusal-keeps-all : (c : Call) (l : Lent) → isRefusal (step c (opened l) .said) ≡ true → cStep c l .lent ≡ l
 unfolding cStep createdFor

@@ -1,6 +1,5 @@
 -- `Closing` serves the proofs of the functions, `Laws` and `Runs` are the laws of the C calls.
 pub mod Closing
-pub mod Answered
 pub mod Kept
 pub mod Laws
 pub mod Runs

@@ -11,7 +11,8 @@ use Rattle.state.specs.Answers.{Said, said, refused}
 use Rattle.block.specs.Packed.{blockLen, packed}
 use Rattle.block.specs.States.{meaning}
 use Rattle.bridge.specs.Calls.{Call, create, reset, write, lineByte, lineBreak, key, nextLineByte, loopFrame, show, World, world, Did, step}
-use Rattle.raftershim.specs.Word.{word, isRefusal, shownWord}
+use Rattle.laws.specs.Answers.{isRefusal}
+use Rattle.raftershim.specs.Word.{word, shownWord}
 
 -- the buffers lent at every call
 pub record Lent : Type 0 where

@@ -1,6 +1,6 @@
 -- The answer of a C function: one number of 64 bits.
 use Prim.Native.Nat.{ℕ, _+_, _*_}
-use mathlib.Core.Bool.{Bool, true, false, cond}
+use mathlib.Core.Bool.{cond}
 use mathlib.Core.List.{List}
 use lib.ListN.{length}
 use lib.Dec.{eqb}
@@ -34,14 +34,6 @@ valueOf (part xs) = length xs
 
 unfoldable pub word : Said → ℕ
 word a = ofKind (kindOf a) (valueOf a)
-
-unfoldable pub isRefusal : Said → Bool
-isRefusal (refused n) = true
-isRefusal done = false
-isRefusal none = false
-isRefusal (byte b) = false
-isRefusal (frame c d) = false
-isRefusal (part xs) = false
 
 -- the part shown: its length in bits 0 to 31, and in bits 32 to 63 where it starts in its store
 abbrev pub placeWord : ℕ → ℕ → ℕ

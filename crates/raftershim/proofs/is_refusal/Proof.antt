@@ -1,11 +1,11 @@
 use Rattle.state.specs.Answers.{said}
-use Rattle.raftershim.specs.Word.{isRefusal}
+use Rattle.laws.specs.Answers.{isRefusal}
 use borrow.Author.Needs.{needs}
 use Rattle.raftershim.proofs.is_refusal.Statement.{statement}
 use Rattle.raftershim.proofs.is_refusal.Tie as tie
 
 pub is-refusal-spec : {M : Type 1} → statement M
-unfolding isRefusal said
+unfolding said
 is-refusal-spec =
     tie.close
     (tie.spec
