@@ -1,0 +1,297 @@
+//! The C functions of the archive, as its header `raftershim.h` declares them.
+//!
+//! [`Bridge`](crate::Bridge) calls them safely; this module is for a caller that lends buffers of
+//! its own. Every function but [`raftershim_block_len`] and [`raftershim_show`] answers a word that
+//! [`Answer::of`](crate::Answer::of) reads.
+//!
+//! # Safety
+//!
+//! A function that takes buffers takes three, each as a pointer and a length: the block, the
+//! receive store `rx` and the transmit store `tx`. A pointer is not null and is good for reading
+//! its length in bytes, and for writing them where it is a `*mut u8`. The three do not overlap, and
+//! nobody else uses them during the call. Nothing is asked of what the buffers hold: a block that
+//! is not a state, or does not fit the stores, is refused. A bridge goes on from call to call only
+//! if the three are the same at every call and untouched in between.
+//!
+//! ```
+//! use raftershim::{raw, Answer, BLOCK_LEN};
+//!
+//! let (mut block, mut rx, tx) = ([0; BLOCK_LEN], [0; 4], [0; 3]);
+//! let (b, r, t) = (block.as_mut_ptr(), rx.as_mut_ptr(), tx.as_ptr());
+//! // SAFETY: the three are separate arrays of these lengths, and the first two may be written.
+//! let (created, taken) = unsafe {
+//!     let created = raw::raftershim_create(b, BLOCK_LEN, r, 4, t, 3, 1);
+//!     (created, raw::raftershim_line_byte(b, BLOCK_LEN, r, 4, t, 3, 50))
+//! };
+//! assert_eq!((Answer::of(created), Answer::of(taken)), (Ok(Answer::Done), Ok(Answer::Done)));
+//! assert_eq!(rx[0], 50);
+//! ```
+
+extern "C" {
+    /// The length in bytes that every block has. It is never refused.
+    ///
+    /// # Safety
+    ///
+    /// It takes nothing and asks for nothing.
+    ///
+    /// ```
+    /// use raftershim::raw::raftershim_block_len;
+    ///
+    /// // SAFETY: it takes nothing.
+    /// assert_eq!(unsafe { raftershim_block_len() }, 55);
+    /// ```
+    pub fn raftershim_block_len() -> usize;
+
+    /// Makes a state in the block for stores of these lengths, with this margin. What the block
+    /// held does not matter. Answers done, or refusal 1.
+    ///
+    /// # Safety
+    ///
+    /// The three buffers are as the page of the module says.
+    ///
+    /// ```
+    /// use raftershim::raw::raftershim_create;
+    ///
+    /// let (mut block, rx, tx) = ([0; 55], [0; 4], [0; 3]);
+    /// // SAFETY: the three are separate arrays of these lengths.
+    /// let word = unsafe {
+    ///     raftershim_create(block.as_mut_ptr(), 55, rx.as_ptr(), 4, tx.as_ptr(), 3, 1)
+    /// };
+    /// assert_eq!(word, 0);
+    /// ```
+    pub fn raftershim_create(
+        block: *mut u8,
+        block_len: usize,
+        rx: *const u8,
+        rx_len: usize,
+        tx: *const u8,
+        tx_len: usize,
+        margin: u32,
+    ) -> u64;
+
+    /// Gives the block what create gives for the same sizes and margin. Answers done, or refusal 2.
+    ///
+    /// # Safety
+    ///
+    /// The three buffers are as the page of the module says.
+    ///
+    /// ```
+    /// use raftershim::raw::*;
+    ///
+    /// let (mut block, rx, tx) = ([0; 55], [0; 4], [0; 3]);
+    /// let (b, r, t) = (block.as_mut_ptr(), rx.as_ptr(), tx.as_ptr());
+    /// // SAFETY: the three are separate arrays of these lengths.
+    /// let word = unsafe {
+    ///     raftershim_create(b, 55, r, 4, t, 3, 1);
+    ///     raftershim_key(b, 55, r, 4, t, 3);
+    ///     raftershim_reset(b, 55, r, 4, t, 3)
+    /// };
+    /// assert_eq!((word, block[38]), (0, 0));
+    /// ```
+    pub fn raftershim_reset(
+        block: *mut u8,
+        block_len: usize,
+        rx: *const u8,
+        rx_len: usize,
+        tx: *const u8,
+        tx_len: usize,
+    ) -> u64;
+
+    /// Writes a register. Answers done, or refusal 2, 5, 6, 7 or 8.
+    ///
+    /// # Safety
+    ///
+    /// The three buffers are as the page of the module says.
+    ///
+    /// ```
+    /// use raftershim::raw::*;
+    ///
+    /// let (mut block, rx, tx) = ([0; 55], [0; 4], [0; 3]);
+    /// let (b, r, t) = (block.as_mut_ptr(), rx.as_ptr(), tx.as_ptr());
+    /// // SAFETY: the three are separate arrays of these lengths.
+    /// let word = unsafe {
+    ///     raftershim_create(b, 55, r, 4, t, 3, 1);
+    ///     raftershim_write_register(b, 55, r, 4, t, 3, 10, 8)
+    /// };
+    /// assert_eq!((word, block[9]), (0, 8));
+    /// ```
+    pub fn raftershim_write_register(
+        block: *mut u8,
+        block_len: usize,
+        rx: *const u8,
+        rx_len: usize,
+        tx: *const u8,
+        tx_len: usize,
+        number: u32,
+        value: u32,
+    ) -> u64;
+
+    /// Takes a byte from the line. Answers done, or refusal 2.
+    ///
+    /// # Safety
+    ///
+    /// The three buffers are as the page of the module says.
+    ///
+    /// ```
+    /// use raftershim::raw::*;
+    ///
+    /// let (mut block, mut rx, tx) = ([0; 55], [0; 4], [0; 3]);
+    /// let (b, r, t) = (block.as_mut_ptr(), rx.as_mut_ptr(), tx.as_ptr());
+    /// // SAFETY: the three are separate arrays of these lengths.
+    /// let word = unsafe {
+    ///     raftershim_create(b, 55, r, 4, t, 3, 1);
+    ///     raftershim_line_byte(b, 55, r, 4, t, 3, 50)
+    /// };
+    /// assert_eq!((word, rx[0]), (0, 50));
+    /// ```
+    pub fn raftershim_line_byte(
+        block: *mut u8,
+        block_len: usize,
+        rx: *mut u8,
+        rx_len: usize,
+        tx: *const u8,
+        tx_len: usize,
+        byte: u8,
+    ) -> u64;
+
+    /// Takes a break on the line. Answers done, or refusal 2.
+    ///
+    /// # Safety
+    ///
+    /// The three buffers are as the page of the module says.
+    ///
+    /// ```
+    /// use raftershim::raw::*;
+    ///
+    /// let (mut block, mut rx, tx) = ([0; 55], [0; 4], [0; 3]);
+    /// let (b, r, t) = (block.as_mut_ptr(), rx.as_mut_ptr(), tx.as_ptr());
+    /// // SAFETY: the three are separate arrays of these lengths.
+    /// let word = unsafe {
+    ///     raftershim_create(b, 55, r, 4, t, 3, 1);
+    ///     raftershim_break(b, 55, r, 4, t, 3)
+    /// };
+    /// assert_eq!((word, block[36]), (0, 1));
+    /// ```
+    pub fn raftershim_break(
+        block: *mut u8,
+        block_len: usize,
+        rx: *mut u8,
+        rx_len: usize,
+        tx: *const u8,
+        tx_len: usize,
+    ) -> u64;
+
+    /// Takes a press of the MSRQ key. Answers done, or refusal 2.
+    ///
+    /// # Safety
+    ///
+    /// The three buffers are as the page of the module says.
+    ///
+    /// ```
+    /// use raftershim::raw::*;
+    ///
+    /// let (mut block, rx, tx) = ([0; 55], [0; 4], [0; 3]);
+    /// let (b, r, t) = (block.as_mut_ptr(), rx.as_ptr(), tx.as_ptr());
+    /// // SAFETY: the three are separate arrays of these lengths.
+    /// let word = unsafe {
+    ///     raftershim_create(b, 55, r, 4, t, 3, 1);
+    ///     raftershim_key(b, 55, r, 4, t, 3)
+    /// };
+    /// assert_eq!((word, block[38]), (0, 1));
+    /// ```
+    pub fn raftershim_key(
+        block: *mut u8,
+        block_len: usize,
+        rx: *const u8,
+        rx_len: usize,
+        tx: *const u8,
+        tx_len: usize,
+    ) -> u64;
+
+    /// Gives the next line byte. Answers that byte, none, or refusal 2.
+    ///
+    /// # Safety
+    ///
+    /// The three buffers are as the page of the module says.
+    ///
+    /// ```
+    /// use raftershim::raw::*;
+    ///
+    /// let (mut block, rx, tx) = ([0; 55], [0; 4], [0; 3]);
+    /// let (b, r, t) = (block.as_mut_ptr(), rx.as_ptr(), tx.as_ptr());
+    /// // SAFETY: the three are separate arrays of these lengths.
+    /// let word = unsafe {
+    ///     raftershim_create(b, 55, r, 4, t, 3, 1);
+    ///     raftershim_next_line_byte(b, 55, r, 4, t, 3)
+    /// };
+    /// assert_eq!(word, 0x1_0000);
+    /// ```
+    pub fn raftershim_next_line_byte(
+        block: *mut u8,
+        block_len: usize,
+        rx: *const u8,
+        rx_len: usize,
+        tx: *const u8,
+        tx_len: usize,
+    ) -> u64;
+
+    /// Takes a frame from the loop. Answers the one frame that goes on, or refusal 2, 3 or 4.
+    ///
+    /// # Safety
+    ///
+    /// The three buffers are as the page of the module says.
+    ///
+    /// ```
+    /// use raftershim::raw::*;
+    ///
+    /// let (mut block, rx, mut tx) = ([0; 55], [0; 4], [0; 3]);
+    /// let (b, r, t) = (block.as_mut_ptr(), rx.as_ptr(), tx.as_mut_ptr());
+    /// // SAFETY: the three are separate arrays of these lengths.
+    /// let word = unsafe {
+    ///     raftershim_create(b, 55, r, 4, t, 3, 1);
+    ///     raftershim_loop_frame(b, 55, r, 4, t, 3, 0x581)
+    /// };
+    /// assert_eq!(word, 0x3_0582);
+    /// ```
+    pub fn raftershim_loop_frame(
+        block: *mut u8,
+        block_len: usize,
+        rx: *const u8,
+        rx_len: usize,
+        tx: *mut u8,
+        tx_len: usize,
+        frame: u32,
+    ) -> u64;
+
+    /// Shows a store: side 0 is the receive store, side 1 the transmit store. Answers where the
+    /// longest unbroken run of bytes from the oldest one is: in bits 32 to 63 the place where it
+    /// starts, in bits 0 to 31 its length. The answer is 0 if nothing is held, the block is not a
+    /// state that fits the stores, or the side is neither. It writes nothing and is never refused.
+    ///
+    /// # Safety
+    ///
+    /// The three buffers are as the page of the module says.
+    ///
+    /// ```
+    /// use raftershim::raw::*;
+    ///
+    /// let (mut block, mut rx, tx) = ([0; 55], [0; 4], [0; 3]);
+    /// let (b, r, t) = (block.as_mut_ptr(), rx.as_mut_ptr(), tx.as_ptr());
+    /// // SAFETY: the three are separate arrays of these lengths.
+    /// let word = unsafe {
+    ///     raftershim_create(b, 55, r, 4, t, 3, 1);
+    ///     raftershim_line_byte(b, 55, r, 4, t, 3, 50);
+    ///     raftershim_show(b, 55, r, 4, t, 3, 0)
+    /// };
+    /// assert_eq!(word, 1);
+    /// ```
+    pub fn raftershim_show(
+        block: *const u8,
+        block_len: usize,
+        rx: *const u8,
+        rx_len: usize,
+        tx: *const u8,
+        tx_len: usize,
+        side: u32,
+    ) -> u64;
+}

@@ -1,0 +1,208 @@
+//! What the block of a bridge says, field by field.
+
+use crate::BLOCK_LEN;
+
+/// What the state of a bridge says, read from its block.
+///
+/// ```
+/// use raftershim::Bridge;
+///
+/// let mut bridge = Bridge::create([0; 4], [0; 3], 1)?;
+/// for byte in *b"12345" {
+///     bridge.line_byte(byte)?;
+/// }
+/// let state = bridge.state();
+/// assert_eq!((state.stored, state.lost, state.seen_overrun), (4, 1, true));
+/// # Ok::<(), raftershim::Refusal>(())
+/// ```
+#[derive(Clone, Copy, Debug, PartialEq, Eq)]
+pub struct State {
+    /// The recorded length of the receive store.
+    pub receive_len: u16,
+    /// The recorded length of the transmit store.
+    pub transmit_len: u16,
+    /// The margin: holding off begins when it or less is free, and ends at twice as much.
+    pub margin: u16,
+    /// The carried registers.
+    pub registers: Registers,
+    /// Our address, 0 to 30, or 31 when unassigned.
+    pub address: u8,
+    /// The talker phase: 0 not talker, 1 addressed, 2 active with data, 3 active with status.
+    pub talker: u8,
+    /// Whether we are listener.
+    pub listener: bool,
+    /// Whether remote is enabled.
+    pub remote_enabled: bool,
+    /// Whether we are remote.
+    pub remote: bool,
+    /// The frame of ours under way, without its service bit, and 0 when there is none.
+    pub under_way: u16,
+    /// Whether sending ends after the frame under way.
+    pub finishing: bool,
+    /// What the receive store holds, line to loop.
+    pub receive: Ring,
+    /// What the transmit store holds, loop to line.
+    pub transmit: Ring,
+    /// Whether we hold the line off.
+    pub holding: bool,
+    /// Whether the other end forbids our sending.
+    pub forbidden: bool,
+    /// Whether stop was the last of go and stop that we sent.
+    pub stop_sent_last: bool,
+    /// Status bit 4: a break was seen.
+    pub seen_break: bool,
+    /// Status bit 5: a byte from the line was lost because the receive store was full.
+    pub seen_overrun: bool,
+    /// Status bit 7: a press of the MSRQ key was seen.
+    pub seen_key: bool,
+    /// Whether a break happened since the last status byte was sent.
+    pub again_break: bool,
+    /// Whether a byte was lost since the last status byte was sent.
+    pub again_overrun: bool,
+    /// Whether the MSRQ key was pressed since the last status byte was sent.
+    pub again_key: bool,
+    /// Whether a service request has begun and not ended, whether it shows or not.
+    pub request: bool,
+    /// Bytes stored in the receive store since create or reset, starting again at 0 after
+    /// 4294967295, as all three counts do.
+    pub stored: u32,
+    /// Bytes lost since create or reset.
+    pub lost: u32,
+    /// Data frames sent from the receive store since create or reset.
+    pub sent: u32,
+}
+
+/// What the carried registers hold. The constants in [`register`](crate::register) say what each
+/// is for.
+///
+/// ```
+/// use raftershim::Bridge;
+///
+/// let registers = Bridge::create([0; 64], [0; 64], 8)?.state().registers;
+/// assert_eq!((registers.r11, registers.c04, registers.c05), (8, 17, 19));
+/// # Ok::<(), raftershim::Refusal>(())
+/// ```
+#[derive(Clone, Copy, Debug, PartialEq, Eq)]
+pub struct Registers {
+    /// R00: service requests and overrun.
+    pub r00: u8,
+    /// R01: the conditions of the stores.
+    pub r01: u8,
+    /// R02: the MSRQ key and the break.
+    pub r02: u8,
+    /// R10: line ends.
+    pub r10: u8,
+    /// R11: the receiver protocol.
+    pub r11: u8,
+    /// C00: the first character of a line end from the line.
+    pub c00: u8,
+    /// C01: the second character of a line end from the line.
+    pub c01: u8,
+    /// C02: the first character of a line end to the line.
+    pub c02: u8,
+    /// C03: the second character of a line end to the line.
+    pub c03: u8,
+    /// C04: the go character.
+    pub c04: u8,
+    /// C05: the stop character.
+    pub c05: u8,
+}
+
+/// Which places of a store hold bytes. Places run from 0 and come round after the last.
+///
+/// ```
+/// use raftershim::Bridge;
+///
+/// let mut bridge = Bridge::create([0; 64], [0; 64], 8)?;
+/// bridge.line_byte(50)?;
+/// let receive = bridge.state().receive;
+/// assert_eq!((receive.oldest, receive.held), (0, 1));
+/// # Ok::<(), raftershim::Refusal>(())
+/// ```
+#[derive(Clone, Copy, Debug, PartialEq, Eq)]
+pub struct Ring {
+    /// The place of the oldest byte held, or of the next byte if none is.
+    pub oldest: u16,
+    /// How many bytes are held.
+    pub held: u16,
+}
+
+impl State {
+    /// Reads every field of a block. Whether the block fits its stores is for the calls to say:
+    /// here a flag is set exactly if its byte is 1, and every other field is taken as it is.
+    ///
+    /// ```
+    /// use raftershim::{Bridge, State};
+    ///
+    /// let bridge = Bridge::create([0; 64], [0; 64], 8)?;
+    /// assert_eq!(State::of(bridge.block()).margin, 8);
+    /// # Ok::<(), raftershim::Refusal>(())
+    /// ```
+    pub const fn of(block: &[u8; BLOCK_LEN]) -> State {
+        State {
+            receive_len: two(block[0], block[1]),
+            transmit_len: two(block[2], block[3]),
+            margin: two(block[4], block[5]),
+            registers: Registers::of(block),
+            address: block[17],
+            talker: block[18],
+            listener: flag(block[19]),
+            remote_enabled: flag(block[20]),
+            remote: flag(block[21]),
+            under_way: two(block[22], block[23]),
+            finishing: flag(block[24]),
+            receive: Ring::of([block[25], block[26], block[27], block[28]]),
+            transmit: Ring::of([block[29], block[30], block[31], block[32]]),
+            holding: flag(block[33]),
+            forbidden: flag(block[34]),
+            stop_sent_last: flag(block[35]),
+            seen_break: flag(block[36]),
+            seen_overrun: flag(block[37]),
+            seen_key: flag(block[38]),
+            again_break: flag(block[39]),
+            again_overrun: flag(block[40]),
+            again_key: flag(block[41]),
+            request: flag(block[42]),
+            stored: u32::from_le_bytes([block[43], block[44], block[45], block[46]]),
+            lost: u32::from_le_bytes([block[47], block[48], block[49], block[50]]),
+            sent: u32::from_le_bytes([block[51], block[52], block[53], block[54]]),
+        }
+    }
+}
+
+impl Registers {
+    const fn of(block: &[u8; BLOCK_LEN]) -> Registers {
+        Registers {
+            r00: block[6],
+            r01: block[7],
+            r02: block[8],
+            r10: block[9],
+            r11: block[10],
+            c00: block[11],
+            c01: block[12],
+            c02: block[13],
+            c03: block[14],
+            c04: block[15],
+            c05: block[16],
+        }
+    }
+}
+
+impl Ring {
+    const fn of([oldest, oldest_high, held, held_high]: [u8; 4]) -> Ring {
+        Ring {
+            oldest: two(oldest, oldest_high),
+            held: two(held, held_high),
+        }
+    }
+}
+
+/// A number of two bytes.
+const fn two(low: u8, high: u8) -> u16 {
+    u16::from_le_bytes([low, high])
+}
+
+/// A flag, which a fitting block has as 1 or 0.
+const fn flag(byte: u8) -> bool {
+    byte == 1
+}

@@ -1,0 +1,72 @@
+//! Plays a script of calls to the bridge and says each answer in a plain sentence.
+//!
+//! It is for a tester who listens: a line of a script is a call, and its answer is one line, said
+//! after the number of the script's line. A script may hold the answers that it expects; then the
+//! program says which lines differ. [`say::HELP`] tells the form of a script.
+//!
+//! - [`script`] turns a line of text into a call;
+//! - [`run`] makes the calls, line by line, and compares the answers;
+//! - [`say`] has all sentences.
+
+#![forbid(unsafe_code)]
+#![deny(missing_docs)]
+
+pub mod run;
+pub mod say;
+pub mod script;
+
+use run::Stop;
+use std::ffi::OsString;
+use std::fs::File;
+use std::io::{self, BufRead, BufReader, Write};
+
+/// Exit status: no answer differs from an expected one.
+pub const AS_EXPECTED: u8 = 0;
+/// Exit status: an answer differs, or the script has a mistake.
+pub const DIFFERENT: u8 = 1;
+/// Exit status: the arguments are wrong, the script cannot be read or the answers not be written.
+pub const NOT_RUN: u8 = 2;
+
+/// Does the program's work for these arguments and answers its exit status.
+pub fn program(
+    arguments: &[OsString],
+    input: &mut dyn BufRead,
+    out: &mut dyn Write,
+    err: &mut dyn Write,
+) -> u8 {
+    match work(arguments, input, out) {
+        Ok(status) => status,
+        Err(stop) => {
+            // Nobody can be told if this cannot be written either.
+            let _ = out.flush();
+            if let Some(sentence) = stop.sentence() {
+                let _ = writeln!(err, "{sentence}");
+            }
+            stop.status()
+        }
+    }
+}
+
+fn work(arguments: &[OsString], input: &mut dyn BufRead, out: &mut dyn Write) -> Result<u8, Stop> {
+    let counts = match arguments {
+        [] => run::run(input, out)?,
+        [one, ..] if one == "--help" || one == "-h" => {
+            write!(out, "{}", say::HELP).map_err(Stop::Writing)?;
+            return Ok(AS_EXPECTED);
+        }
+        [one, ..] if one.to_string_lossy().starts_with('-') => {
+            return Err(Stop::Arguments(say::unknown_option(one)));
+        }
+        [path] => run::run(&mut BufReader::new(open(path)?), out)?,
+        [_, second, ..] => return Err(Stop::Arguments(say::too_many(second))),
+    };
+    Ok(if counts.differ == 0 {
+        AS_EXPECTED
+    } else {
+        DIFFERENT
+    })
+}
+
+fn open(path: &OsString) -> Result<File, Stop> {
+    File::open(path).map_err(|error: io::Error| Stop::Arguments(say::cannot_open(path, &error)))
+}

@@ -1,0 +1,236 @@
+//! All sentences that the program says, in words that a screen reader reads well.
+
+use crate::run::Counts;
+use raftershim::{Answer, Answered, Registers, State};
+use std::ffi::OsStr;
+use std::fmt;
+use std::io;
+
+/// What `--help` says.
+pub const HELP: &str = "\
+replay plays a script of calls to the bridge and says each answer.
+
+Usage: replay SCRIPT reads the script from that file.
+Usage: replay without an argument reads the script from standard input.
+
+A script has one call a line. Numbers are decimal.
+create 64 64 8: make a bridge with these lengths of the receive and the transmit store and this margin.
+reset: give the bridge the state that create gave.
+register R10 8: write a register. It is R00 to R12, C00 to C05, or a number.
+line 50: take a byte from the line. Several may follow, and text in quotation marks: line \"2.5\" 13 10.
+break: take a break on the line.
+key: take a press of the MSRQ key.
+next: give the next line byte.
+frame 5,96: take a loop frame, control and data. One number, as in frame 1376, is a frame too.
+show receive, or show transmit: say the longest unbroken run of bytes held there, from the oldest one.
+state: say the state, a fact a line.
+
+A script that does not start with create gets stores of 64 bytes and margin 8.
+A store can have at most 1000000 bytes here. The bridge judges all other values.
+A comment starts with # and goes to the end of the line. Empty lines are passed over.
+
+Each answer is said after the number of its line, as in line 7: frame 0,50.
+The sign => after a call is followed by the answer that the script expects, as in frame 5,96 => frame 0,50.
+For a refusal its number suffices, as in frame 0,50 => refusal 4.
+After state one fact is expected, in the words of state, and then only that fact is said: state => overrun seen.
+If the answer is another one, the line says what was expected and what the answer was, and the run goes on.
+The last line says how many lines were as expected and how many differ.
+A mistake in the script ends the run, and the program says in which line it is.
+
+The exit status is 0 if no answer differs.
+It is 1 if an answer differs or the script has a mistake.
+It is 2 if the arguments are wrong, the script cannot be read or the answers cannot be written.
+";
+
+/// What there is to say to a call.
+#[derive(Clone, Debug, PartialEq, Eq)]
+pub enum Said {
+    /// What the bridge answered.
+    Answered(Answered),
+    /// The bytes that a store showed.
+    Shown(Vec<u8>),
+    /// The facts of the state.
+    Facts(Vec<String>),
+}
+
+impl Said {
+    /// The sentence that is as expected, if there is one.
+    pub fn meeting(&self, expected: &str) -> Option<String> {
+        let met = match self {
+            Said::Answered(Err(refusal)) if expected == format!("refusal {}", refusal.number()) => {
+                return Some(refusal.to_string());
+            }
+            Said::Facts(facts) => facts.iter().any(|fact| fact == expected),
+            said => said.to_string() == expected,
+        };
+        Some(expected.to_string()).filter(|_| met)
+    }
+
+    /// The sentence about an answer that is not the expected one.
+    pub fn different(&self, expected: &str) -> String {
+        match self {
+            Said::Facts(_) => format!("expected {expected}, but {self}"),
+            _ => format!("expected {expected}, the answer was {self}"),
+        }
+    }
+}
+
+impl fmt::Display for Said {
+    fn fmt(&self, f: &mut fmt::Formatter<'_>) -> fmt::Result {
+        match self {
+            Said::Answered(Ok(answer)) => write!(f, "{answer}"),
+            Said::Answered(Err(refusal)) => write!(f, "{refusal}"),
+            Said::Shown(bytes) if bytes.is_empty() => f.write_str("nothing"),
+            Said::Shown(bytes) => {
+                f.write_str(&number_of(bytes.len() as u64, "byte", "bytes"))?;
+                f.write_str(":")?;
+                bytes.iter().try_for_each(|byte| write!(f, " {byte}"))
+            }
+            Said::Facts(facts) => {
+                f.write_str("the state is this")?;
+                facts.iter().try_for_each(|fact| write!(f, "\n{fact}"))
+            }
+        }
+    }
+}
+
+/// The facts of a state, each always said, in one of its forms.
+pub fn facts(state: &State) -> Vec<String> {
+    let mut facts = role_facts(state);
+    facts.extend(store_facts(state));
+    facts.extend(status_facts(state));
+    facts.extend(register_facts(&state.registers));
+    facts
+}
+
+fn role_facts(state: &State) -> Vec<String> {
+    let address = match state.address {
+        31 => "no address".into(),
+        address => format!("address {address}"),
+    };
+    let talker = match state.talker {
+        0 => "not talker",
+        1 => "talker, addressed",
+        2 => "talker, active with data",
+        _ => "talker, active with status",
+    };
+    let under_way = match state.talker {
+        0 | 1 => "no frame under way".into(),
+        _ => format!("{} under way", Answer::Frame(state.under_way)),
+    };
+    vec![
+        address,
+        talker.into(),
+        under_way,
+        either(state.finishing, "finishing", "not finishing"),
+        either(state.listener, "listener", "not listener"),
+        either(state.remote, "remote", "local"),
+        either(state.remote_enabled, "remote enabled", "remote not enabled"),
+    ]
+}
+
+fn store_facts(state: &State) -> Vec<String> {
+    let store = |name, held, length| format!("{name} store: {held} of {length} bytes held");
+    let owed = match (state.holding, state.stop_sent_last) {
+        (true, false) => "stop owed",
+        (false, true) => "go owed",
+        _ => "neither go nor stop owed",
+    };
+    vec![
+        store("receive", state.receive.held, state.receive_len),
+        store("transmit", state.transmit.held, state.transmit_len),
+        format!("margin {}", state.margin),
+        either(
+            state.holding,
+            "holding the line off",
+            "not holding the line off",
+        ),
+        either(
+            state.forbidden,
+            "our sending is forbidden",
+            "our sending is permitted",
+        ),
+        owed.into(),
+    ]
+}
+
+fn status_facts(state: &State) -> Vec<String> {
+    let request = match (state.request, state.registers.r00 & 8) {
+        (false, _) => "no service request",
+        (true, 0) => "service request, hidden",
+        (true, _) => "service request, shown",
+    };
+    let noted = |name, noted| {
+        let no = if noted { "" } else { "no " };
+        format!("{no}{name} noted since the last status byte")
+    };
+    vec![
+        either(state.seen_overrun, "overrun seen", "no overrun seen"),
+        either(state.seen_break, "break seen", "no break seen"),
+        either(state.seen_key, "key seen", "no key seen"),
+        noted("overrun", state.again_overrun),
+        noted("break", state.again_break),
+        noted("key", state.again_key),
+        request.into(),
+        format!("bytes stored: {}", state.stored),
+        format!("bytes lost: {}", state.lost),
+        format!("frames sent: {}", state.sent),
+    ]
+}
+
+fn register_facts(r: &Registers) -> Vec<String> {
+    vec![
+        format!(
+            "control registers: R00 {}, R01 {}, R02 {}, R10 {}, R11 {}",
+            r.r00, r.r01, r.r02, r.r10, r.r11
+        ),
+        format!(
+            "character registers: C00 {}, C01 {}, C02 {}, C03 {}, C04 {}, C05 {}",
+            r.c00, r.c01, r.c02, r.c03, r.c04, r.c05
+        ),
+    ]
+}
+
+/// What is said before the first call if no create came before it.
+pub fn default_bridge(store: u32, margin: u32) -> String {
+    format!("no create so far, so both stores have {store} bytes and the margin is {margin}")
+}
+
+/// The last sentence of a run.
+pub fn counts(counts: Counts) -> String {
+    let as_expected = number_of(counts.as_expected, "line", "lines");
+    let differ = number_of(counts.differ, "differs", "differ");
+    format!("{as_expected} as expected, {differ}")
+}
+
+/// About an argument that starts with a hyphen.
+pub fn unknown_option(option: &OsStr) -> String {
+    format!(
+        "there is no option {}, try replay --help",
+        option.to_string_lossy()
+    )
+}
+
+/// About an argument after the script.
+pub fn too_many(argument: &OsStr) -> String {
+    format!(
+        "expected one script, found {} after it",
+        argument.to_string_lossy()
+    )
+}
+
+/// About a script that cannot be opened.
+pub fn cannot_open(path: &OsStr, error: &io::Error) -> String {
+    format!(
+        "the script {} cannot be opened: {error}",
+        path.to_string_lossy()
+    )
+}
+
+fn either(is: bool, yes: &str, no: &str) -> String {
+    String::from(if is { yes } else { no })
+}
+
+fn number_of(number: u64, one: &str, many: &str) -> String {
+    format!("{number} {}", if number == 1 { one } else { many })
+}
