@@ -6,7 +6,7 @@ use mathlib.Core.List.{List, [], _∷_}
 use borrow.Author.Tests.{eq-eqb, ne-eqb, eqb-true}
 use lib.ListN.{length}
 use lib.Dec.{eqb}
-use Rattle.cases.proofs.Cases.{and-left, and-right, same-test, cond-true, cond-false}
+use Rattle.cases.proofs.Cases.{and-left, and-right, cond-true, cond-false}
 use Rattle.state.specs.declared.State.{State}
 use Rattle.block.specs.Packed.{blockLen, packed, unpacked}
 use Rattle.block.specs.States.{same, isState, noState, meaning}
@@ -32,13 +32,6 @@ same-only (x ∷ xs) (y ∷ ys) t =
 pub other-length : (b : List ℕ) → (length b ≡ blockLen → ⊥) → false ≡ isState b
 unfolding isState
 other-length b h = rw (ne-eqb (length b) blockLen h)
-
--- the comparison r of the block with the bytes of what it is read as
-pub compared : (b a : List ℕ) (s : State) (r : Bool) → length b ≡ blockLen → s ≡ unpacked b → a ≡ packed s → (r ≡ true → a ≡ b) → (a ≡ b → r ≡ true) → r ≡ isState b
-unfolding isState
-compared b a s r n hs ha f g =
-    rw (eq-eqb (length b) blockLen n, ← hs, ← ha)
-    (same-test r (same a b) (λ e. same-true a b (f e)) (λ e. g (same-only a b e)))
 
 -- a block that is a state has the length of one, and is what it is read as
 pub state-length : (b : List ℕ) → isState b ≡ true → length b ≡ blockLen

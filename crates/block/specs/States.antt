@@ -1,9 +1,9 @@
 -- Which blocks are states, and what a block means.
-use Prim.Native.Nat.{ℕ, _<_}
+use Prim.Native.Nat.{ℕ, _+_, _<_}
 use mathlib.Core.Bool.{Bool, true, false, cond, _&&_}
 use mathlib.Core.List.{List, [], _∷_}
 use lib.ListN.{length, getD}
-use lib.Dec.{eqb}
+use lib.Dec.{eqb, leb}
 use Rattle.registers.specs.declared.Registers.{Registers}
 use Rattle.store.specs.declared.Ring.{Ring}
 use Rattle.state.specs.declared.State.{State}
@@ -73,3 +73,51 @@ pub record Ranged (s : State) : Type 0 where
 -- a list of bytes, as every slice of the code is
 abbrev pub Bytes : List ℕ → Type 0
 Bytes b = (i : ℕ) → getD b i 0 < 256
+
+-- ---- what the code tests of a block
+
+-- "a flag as 1 or 0"
+abbrev pub flagged : List ℕ → ℕ → Bool
+flagged b i = leb (getD b i 0) 1
+
+-- three flags that stand one after the other
+abbrev pub flaggedThree : List ℕ → ℕ → Bool
+flaggedThree b i = (flagged b i && flagged b (i + 1)) && flagged b (i + 2)
+
+-- every flag of a block is 1 or 0
+unfoldable pub flagsRight : List ℕ → Bool
+flagsRight b = ((((flaggedThree b 19 && flagged b 24) && flaggedThree b 33) && flaggedThree b 36) && flaggedThree b 39) && flagged b 42
+
+-- those of a number in two bytes from i are bytes, and those of one in four
+pub record Two (b : List ℕ) (i : ℕ) : Type 0 where
+  pub low : getD b i 0 < 256
+  pub high : getD b (i + 1) 0 < 256
+
+pub record Four (b : List ℕ) (i : ℕ) : Type 0 where
+  pub first : getD b i 0 < 256
+  pub second : getD b (i + 1) 0 < 256
+  pub third : getD b (i + 2) 0 < 256
+  pub last : getD b (i + 3) 0 < 256
+
+-- those of a size, of the frame, of a ring from i and of the counts
+pub record SizesBytes (b : List ℕ) : Type 0 where
+  pub rx : Two b 0
+  pub tx : Two b 2
+  pub margin : Two b 4
+
+pub record RingBytes (b : List ℕ) (i : ℕ) : Type 0 where
+  pub oldest : Two b i
+  pub len : Two b (i + 2)
+
+pub record CountsBytes (b : List ℕ) : Type 0 where
+  pub stored : Four b 43
+  pub lost : Four b 47
+  pub sent : Four b 51
+
+-- all numbers of a block that have more than one byte
+pub record Numbers (b : List ℕ) : Type 0 where
+  pub sizes : SizesBytes b
+  pub frame : Two b 22
+  pub rx : RingBytes b 25
+  pub tx : RingBytes b 29
+  pub counts : CountsBytes b

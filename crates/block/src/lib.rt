@@ -3,7 +3,7 @@ ghost use mathlib.Core.Path.{_≡_};
 ghost use Prim.Native.Nat.{_+_, _<_};
 ghost use lib.ListN.{length, getD};
 ghost use Rattle.block.specs.Packed.{blockLen, packed, unpacked, at16, at32, flagAt, sizesAt, registersAt, roleAt, underAt, ringAt, lineAt, notesAt, countsAt};
-ghost use Rattle.block.specs.States.{isState, noState, meaning};
+ghost use Rattle.block.specs.States.{noState, meaning, flaggedThree, flagsRight, Two, Four, SizesBytes, RingBytes, CountsBytes, Numbers};
 use registers::Registers;
 use role::Role;
 use state::Counts;
@@ -118,7 +118,7 @@ fn wide32(x: u8) -> u32
 // The size or place in two bytes of a block from i.
 fn read(b: &[u8], i: usize) -> usize
     requires { ⌜ i + 1 < length (now b) ⌝ }
-    ensures { λ r. ⌜ r ≡ at16 (now (b .entry)) i ⌝ }
+    ensures { λ r. ⌜ (r ≡ at16 (now (b .entry)) i) × Two (now (b .entry)) i ⌝ }
 {
     wide(b[i]) + 256 * wide(b[i + 1])
 }
@@ -126,7 +126,7 @@ fn read(b: &[u8], i: usize) -> usize
 // The frame in two bytes of a block from i.
 fn read16(b: &[u8], i: usize) -> u16
     requires { ⌜ i + 1 < length (now b) ⌝ }
-    ensures { λ r. ⌜ r ≡ at16 (now (b .entry)) i ⌝ }
+    ensures { λ r. ⌜ (r ≡ at16 (now (b .entry)) i) × Two (now (b .entry)) i ⌝ }
 {
     wide16(b[i]) + 256 * wide16(b[i + 1])
 }
@@ -134,7 +134,7 @@ fn read16(b: &[u8], i: usize) -> u16
 // The count in four bytes of a block from i.
 fn read32(b: &[u8], i: usize) -> u32
     requires { ⌜ i + 3 < length (now b) ⌝ }
-    ensures { λ r. ⌜ r ≡ at32 (now (b .entry)) i ⌝ }
+    ensures { λ r. ⌜ (r ≡ at32 (now (b .entry)) i) × Four (now (b .entry)) i ⌝ }
 {
     wide32(b[i]) + 256 * wide32(b[i + 1]) + 65536 * wide32(b[i + 2]) + 16777216 * wide32(b[i + 3])
 }
@@ -142,7 +142,7 @@ fn read32(b: &[u8], i: usize) -> u32
 // The sizes in a block.
 fn sizes_at(b: &[u8]) -> Sizes
     requires { ⌜ length (now b) ≡ blockLen ⌝ }
-    ensures { λ r. ⌜ r ≡ sizesAt (now (b .entry)) ⌝ }
+    ensures { λ r. ⌜ (r ≡ sizesAt (now (b .entry))) × SizesBytes (now (b .entry)) ⌝ }
 {
     Sizes {
         rx: read(b, 0),
@@ -188,7 +188,7 @@ fn role_at(b: &[u8]) -> Role
 // The frame under way in a block.
 fn under_at(b: &[u8]) -> Under
     requires { ⌜ length (now b) ≡ blockLen ⌝ }
-    ensures { λ r. ⌜ r ≡ underAt (now (b .entry)) ⌝ }
+    ensures { λ r. ⌜ (r ≡ underAt (now (b .entry))) × Two (now (b .entry)) 22 ⌝ }
 {
     Under {
         frame: read16(b, 22),
@@ -199,7 +199,7 @@ fn under_at(b: &[u8]) -> Under
 // The ring in a block from i.
 fn ring_at(b: &[u8], i: usize) -> Ring
     requires { ⌜ i + 3 < length (now b) ⌝ }
-    ensures { λ r. ⌜ r ≡ ringAt (now (b .entry)) i ⌝ }
+    ensures { λ r. ⌜ (r ≡ ringAt (now (b .entry)) i) × RingBytes (now (b .entry)) i ⌝ }
 {
     Ring {
         oldest: read(b, i),
@@ -242,7 +242,7 @@ fn notes_at(b: &[u8]) -> Notes
 // The counts in a block.
 fn counts_at(b: &[u8]) -> Counts
     requires { ⌜ length (now b) ≡ blockLen ⌝ }
-    ensures { λ r. ⌜ r ≡ countsAt (now (b .entry)) ⌝ }
+    ensures { λ r. ⌜ (r ≡ countsAt (now (b .entry))) × CountsBytes (now (b .entry)) ⌝ }
 {
     Counts {
         stored: read32(b, 43),
@@ -252,9 +252,9 @@ fn counts_at(b: &[u8]) -> Counts
 }
 
 // The state that the bytes of a block are read as.
-pub fn unpack(b: &[u8]) -> State
+fn unpack(b: &[u8]) -> State
     requires { ⌜ length (now b) ≡ blockLen ⌝ }
-    ensures { λ r. ⌜ r ≡ unpacked (now (b .entry)) ⌝ }
+    ensures { λ r. ⌜ (r ≡ unpacked (now (b .entry))) × Numbers (now (b .entry)) ⌝ }
 {
     let sizes = sizes_at(b);
     let regs = registers_at(b);
@@ -278,16 +278,25 @@ pub fn unpack(b: &[u8]) -> State
     }
 }
 
-// Whether a block is a state: packing what it is read as gives it back.
-pub fn is_state(b: &[u8]) -> bool
-    ensures { λ r. ⌜ r ≡ isState (now (b .entry)) ⌝ }
+// Whether three flags of a block from i are each 1 or 0.
+fn three_flags(b: &[u8], i: usize) -> bool
+    requires { ⌜ i + 2 < length (now b) ⌝ }
+    ensures { λ r. ⌜ r ≡ flaggedThree (now (b .entry)) i ⌝ }
 {
-    if b.len() != LENGTH {
-        return false;
-    }
-    let s = unpack(b);
-    let a = packed_bytes(s);
-    check::same(&a, b)
+    (b[i] <= 1) & (b[i + 1] <= 1) & (b[i + 2] <= 1)
+}
+
+// Whether every flag of a block is 1 or 0.
+fn flags_right(b: &[u8]) -> bool
+    requires { ⌜ length (now b) ≡ blockLen ⌝ }
+    ensures { λ r. ⌜ r ≡ flagsRight (now (b .entry)) ⌝ }
+{
+    three_flags(b, 19)
+        & (b[24] <= 1)
+        & three_flags(b, 33)
+        & three_flags(b, 36)
+        & three_flags(b, 39)
+        & (b[42] <= 1)
 }
 
 // What stands for the state of a block that is none.
@@ -304,11 +313,8 @@ pub fn meaning(b: &[u8]) -> State
     if b.len() != LENGTH {
         return no_state();
     }
-    let s = unpack(b);
-    let again = packed_bytes(s);
-    if check::same(&again, b) {
-        s
-    } else {
-        no_state()
+    if !flags_right(b) {
+        return no_state();
     }
+    unpack(b)
 }

@@ -1,3 +1,5 @@
+use denote.Ref.{now}
+use Rattle.block.proofs.Groups.{ring-read}
 use borrow.Author.Needs.{needs}
 use Rattle.block.proofs.ring_at.Statement.{statement}
 use Rattle.block.proofs.ring_at.Tie as tie
@@ -9,4 +11,4 @@ ring-at-spec =
     (λ c κs. search needs)
     (λ c. search needs)
     (λ c κs. search needs)
-    (λ c. cc))
+    (λ c. (ring-read (now (c .before .before .before .args .b)) _ (c .before .read .ensures .0) (c .read2 .ensures .0), record { oldest = c .before .read .ensures .1; len = c .read2 .ensures .1 })))

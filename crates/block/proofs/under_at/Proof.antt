@@ -1,3 +1,5 @@
+use denote.Ref.{now}
+use Rattle.block.proofs.Groups.{under-read}
 use borrow.Author.Needs.{needs}
 use Rattle.block.proofs.under_at.Statement.{statement}
 use Rattle.block.proofs.under_at.Tie as tie
@@ -8,4 +10,4 @@ under-at-spec =
     (tie.spec
     (λ c κs. search needs)
     (λ c. search needs)
-    (λ c. cc))
+    (λ c. (under-read (now (c .before .before .before .args .b)) (c .before .read16 .ensures .0), c .before .read16 .ensures .1)))
