@@ -1,0 +1,19 @@
+//! C functions that answer 0 at once and leave everything as it was.
+
+macro_rules! idle {
+    ($($name:ident($($kind:ty),*);)*) => {
+        $(pub unsafe extern "C" fn $name($(_: $kind),*) -> u64 {
+            0
+        })*
+    };
+}
+
+idle! {
+    create(*mut u8, usize, *const u8, usize, *const u8, usize, u32);
+    alone(*mut u8, usize, *const u8, usize, *const u8, usize);
+    write_register(*mut u8, usize, *const u8, usize, *const u8, usize, u32, u32);
+    line_byte(*mut u8, usize, *mut u8, usize, *const u8, usize, u8);
+    take_break(*mut u8, usize, *mut u8, usize, *const u8, usize);
+    loop_frame(*mut u8, usize, *const u8, usize, *mut u8, usize, u32);
+    show(*const u8, usize, *const u8, usize, *const u8, usize, u32);
+}

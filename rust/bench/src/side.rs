@@ -1,0 +1,81 @@
+//! A side: the C functions of one bridge, by pointer, so that every side is called by the same code.
+
+use crate::{idle, plain};
+use raftershim::raw;
+
+/// A call that takes the block and the stores alone: reset, key and next line byte.
+type Alone = unsafe extern "C" fn(*mut u8, usize, *const u8, usize, *const u8, usize) -> u64;
+type Break = unsafe extern "C" fn(*mut u8, usize, *mut u8, usize, *const u8, usize) -> u64;
+type Create = unsafe extern "C" fn(*mut u8, usize, *const u8, usize, *const u8, usize, u32) -> u64;
+type WriteRegister =
+    unsafe extern "C" fn(*mut u8, usize, *const u8, usize, *const u8, usize, u32, u32) -> u64;
+type LineByte = unsafe extern "C" fn(*mut u8, usize, *mut u8, usize, *const u8, usize, u8) -> u64;
+type LoopFrame = unsafe extern "C" fn(*mut u8, usize, *const u8, usize, *mut u8, usize, u32) -> u64;
+type Show = unsafe extern "C" fn(*const u8, usize, *const u8, usize, *const u8, usize, u32) -> u64;
+
+/// The nine C functions that take a block.
+#[derive(Clone, Copy)]
+pub struct Side {
+    pub create: Create,
+    pub reset: Alone,
+    pub write_register: WriteRegister,
+    pub line_byte: LineByte,
+    pub take_break: Break,
+    pub key: Alone,
+    pub next_line_byte: Alone,
+    pub loop_frame: LoopFrame,
+    pub show: Show,
+}
+
+/// The proved bridge.
+pub static ARCHIVE: Side = Side {
+    create: raw::raftershim_create,
+    reset: raw::raftershim_reset,
+    write_register: raw::raftershim_write_register,
+    line_byte: raw::raftershim_line_byte,
+    take_break: raw::raftershim_break,
+    key: raw::raftershim_key,
+    next_line_byte: raw::raftershim_next_line_byte,
+    loop_frame: raw::raftershim_loop_frame,
+    show: raw::raftershim_show,
+};
+
+/// The plain model.
+pub static MODEL: Side = Side {
+    create: plain::create,
+    reset: plain::reset,
+    write_register: plain::write_register,
+    line_byte: plain::line_byte,
+    take_break: plain::take_break,
+    key: plain::key,
+    next_line_byte: plain::next_line_byte,
+    loop_frame: plain::loop_frame,
+    show: plain::show,
+};
+
+/// Functions that answer at once: what is counted with them is the work's own loop.
+pub static IDLE: Side = Side {
+    create: idle::create,
+    reset: idle::alone,
+    write_register: idle::write_register,
+    line_byte: idle::line_byte,
+    take_break: idle::take_break,
+    key: idle::alone,
+    next_line_byte: idle::alone,
+    loop_frame: idle::loop_frame,
+    show: idle::show,
+};
+
+impl Side {
+    /// The side of this name, read so that no compiler knows which functions will be called.
+    pub fn named(name: &str) -> Option<Side> {
+        let side = match name {
+            "archive" => &ARCHIVE,
+            "model" => &MODEL,
+            "idle" => &IDLE,
+            _ => return None,
+        };
+        // SAFETY: the pointer comes from a reference to a Side, which may be copied.
+        Some(unsafe { std::ptr::read_volatile(side) })
+    }
+}

@@ -1,0 +1,82 @@
+//! How deep a call goes: it runs on a painted stack of its own, and the lowest word that is not
+//! paint any more tells.
+
+use crate::call::Call;
+use crate::desk::Desk;
+use crate::round;
+use crate::side::Side;
+use crate::works::Work;
+use std::arch::asm;
+
+/// The words of a painted stack: far more than any call needs.
+const WORDS: usize = 8192;
+/// A word that no call writes by chance.
+const PAINT: u64 = 0xA5C3_5A3C_96E1_690F;
+
+/// The calls that no work makes, and frames of the other kinds.
+const OTHERS: [Call; 9] = [
+    Call::Create(8),
+    Call::WriteRegister(11, 8),
+    Call::Break,
+    Call::LineByte(17),
+    Call::Show(0),
+    Call::Show(1),
+    Call::LoopFrame(4 << 8 | 20),
+    Call::LoopFrame(6 << 8),
+    Call::Reset,
+];
+
+/// Two words where C wants the top of its stack: at a multiple of 16 bytes.
+#[derive(Clone, Copy)]
+#[repr(align(16))]
+struct Pair([u64; 2]);
+
+/// Makes a call on a painted stack. Gives the bytes it used below the numbers that C passes on the
+/// stack: its return address and everything under it.
+fn used(desk: &mut Desk, call: Call) -> usize {
+    let (function, numbers) = desk.passed(call);
+    let mut stack = vec![Pair([PAINT; 2]); WORDS / 2];
+    let top = stack.len() - 1;
+    stack[top] = Pair([numbers[6], numbers[7]]);
+    // SAFETY: the function takes these numbers, its buffers are the desk's, and it has a stack.
+    unsafe {
+        asm!(
+            "mov r12, rsp",
+            "mov rsp, {top}",
+            "call {function}",
+            "mov rsp, r12",
+            top = in(reg) stack.as_mut_ptr().add(top),
+            function = in(reg) function,
+            in("rdi") numbers[0],
+            in("rsi") numbers[1],
+            in("rdx") numbers[2],
+            in("rcx") numbers[3],
+            in("r8") numbers[4],
+            in("r9") numbers[5],
+            out("r12") _,
+            clobber_abi("C"),
+        );
+    }
+    let words = stack[..top].iter().flat_map(|pair| pair.0);
+    let untouched = words.take_while(|&word| word == PAINT).count();
+    8 * (2 * top - untouched)
+}
+
+/// The most bytes of stack that a call of a side uses, over a round of every work and all other
+/// calls, and the call that used them.
+pub fn deepest(side: Side) -> (usize, Option<Call>) {
+    let store = 64;
+    let mut deepest = (0, None);
+    for work in [Work::Meter, Work::Print, Work::Status] {
+        let round = round::written_down(work, store);
+        let mut desk = Desk::new(side, store);
+        let steps = round.set_up.iter().chain(&round.steps);
+        for call in steps.map(|step| step.call).chain(OTHERS) {
+            let bytes = used(&mut desk, call);
+            if bytes > deepest.0 {
+                deepest = (bytes, Some(call));
+            }
+        }
+    }
+    deepest
+}

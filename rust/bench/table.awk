@@ -1,0 +1,64 @@
+# Makes a Markdown table of lines "work store side rounds instructions calls bytes checksum", where calls and bytes are those of a round.
+# Each side has two lines, for few and for many rounds; their difference counts, so what happens once falls out. The loop's own
+# instructions, counted with the idle side, are taken off. Fails if checksums differ or a ratio is above the limit (0: no limit).
+
+{
+    if (!($1 in named)) works[++jobs] = $1
+    if (!(($1, $2) in calls)) order[++rows] = $1 " " $2
+    named[$1] = 1
+    which = ($1, $2, $3, "few") in rounds ? "many" : "few"
+    rounds[$1, $2, $3, which] = $4
+    instructions[$1, $2, $3, which] = $5
+    calls[$1, $2] = $6
+    bytes[$1, $2] = $7
+    checksum[$1, $2, $3, which] = $8
+}
+
+function fail(work, store, sentence) {
+    print work " " store ": " sentence > "/dev/stderr"
+    failed = 1
+}
+
+# What a side's rounds between few and many have of a column.
+function between(column, work, store, side) {
+    return column[work, store, side, "many"] - column[work, store, side, "few"]
+}
+
+# Instructions of a side for one round, the loop's own aside.
+function cost(work, store, side) {
+    return (between(instructions, work, store, side) - between(instructions, work, store, "idle")) / between(rounds, work, store, side)
+}
+
+function same(work, store, which) {
+    return checksum[work, store, "archive", which] == checksum[work, store, "model", which]
+}
+
+function row(work, store,    n, c, b, a, m) {
+    n = between(rounds, work, store, "archive")
+    c = calls[work, store]
+    b = bytes[work, store]
+    a = cost(work, store, "archive")
+    m = cost(work, store, "model")
+    printf "| %s | %d | %d | %d | %.1f | %.1f | %.2f | %.1f | %.1f |\n", work, store, n * c, n * b, a / c, m / c, a / m, a / b, m / b
+    if (!same(work, store, "few") || !same(work, store, "many")) fail(work, store, "the answers differ")
+    if (limit > 0 && a > limit * m) fail(work, store, "the ratio is above " limit)
+}
+
+# How many percent more a round costs with the largest store than with the smallest.
+function growth(work, side) {
+    return sprintf("%.2f", 100 * (cost(work, largest, side) / cost(work, smallest, side) - 1)) + 0
+}
+
+END {
+    print "| Work | Store | Calls | Bytes | Archive per call | Model per call | Ratio | Archive per byte | Model per byte |"
+    print "|---|---|---|---|---|---|---|---|---|"
+    for (i = 1; i <= rows; i++) {
+        split(order[i], place, " ")
+        row(place[1], place[2])
+    }
+    print ""
+    for (i = 1; i <= jobs; i++)
+        printf "- Growth from store %d to store %d, %s: archive %.2f %%, model %.2f %%.\n", smallest, largest, works[i], \
+            growth(works[i], "archive"), growth(works[i], "model")
+    exit failed
+}
