@@ -6,6 +6,9 @@
 
 #![forbid(unsafe_code)]
 
+pub mod block;
+pub mod boundary;
+
 /// What a call answers.
 #[derive(Clone, Copy, Debug, PartialEq, Eq)]
 pub enum Answer {
@@ -469,47 +472,58 @@ impl Bridge {
             return Answer::Refused(3);
         }
         let frame = frame as u16;
-        let control = frame >> 8;
-        let data = (frame & 255) as u8;
         // "4, busy: we are listener, the frame is data, the transmit store lacks room for what it
         // adds"
-        let insert = frame & END != 0 && self.registers.r10 & 4 != 0;
-        let adds = if insert { 3 } else { 1 };
-        if self.listener && control < 4 && self.transmit_len - self.transmit.held < adds {
+        let free = self.transmit_len - self.transmit.held;
+        if self.listener && frame >> 8 < 4 && free < self.added(frame) {
             return Answer::Refused(4);
         }
 
         let before = self.enabled_and_holding();
-        // "Data frames sent (status too) or passed, and identify frames, get the service bit if a
-        // request showed before the call, and otherwise keep theirs."
-        let service = if self.request_shows() { SERVICE } else { 0 };
-        let mut cleared = false;
-        let out = if control == 4 {
-            cleared = self.command(data);
-            frame
-        } else if control == 5 {
-            self.ready(rx, data, service)
-        } else if control >= 6 {
-            frame | service
-        } else if self.talker >= ACTIVE_DATA {
-            self.returned(rx, frame, service)
-        } else {
-            // "Other data frames pass; a listener also stores them." "A listener adds the byte;
-            // for an end byte with R10 bit 2 on, then C02 and C03."
-            if self.listener {
-                self.transmit.put(tx, data);
-                if insert {
-                    self.transmit.put(tx, self.registers.c[2]);
-                    self.transmit.put(tx, self.registers.c[3]);
-                }
-            }
-            frame | service
-        };
+        let cleared = frame >> 8 == 4 && self.is_clear(frame as u8);
+        let out = self.taken(rx, tx, frame);
         // "A device clear leaves no request."
         if !cleared {
             self.begin_request(before);
         }
         Answer::Frame(out)
+    }
+
+    /// How many bytes a data frame adds to the transmit store of a listener: "the byte; for an end
+    /// byte with R10 bit 2 on, then C02 and C03".
+    fn added(&self, frame: u16) -> usize {
+        if frame & END != 0 && self.registers.r10 & 4 != 0 {
+            3
+        } else {
+            1
+        }
+    }
+
+    /// Does what the frame asks, and gives the frame that goes out.
+    fn taken(&mut self, rx: &[u8], tx: &mut [u8], frame: u16) -> u16 {
+        let data = (frame & 255) as u8;
+        // "Data frames sent (status too) or passed, and identify frames, get the service bit if a
+        // request showed before the call, and otherwise keep theirs."
+        let service = if self.request_shows() { SERVICE } else { 0 };
+        match frame >> 8 {
+            4 => {
+                self.command(data);
+                frame
+            }
+            5 => self.ready(rx, data, service),
+            6 | 7 => frame | service,
+            _ if self.talker >= ACTIVE_DATA => self.returned(rx, frame, service),
+            _ => {
+                // "Other data frames pass; a listener also stores them."
+                if self.listener {
+                    let line = [data, self.registers.c[2], self.registers.c[3]];
+                    for &byte in &line[..self.added(frame)] {
+                        self.transmit.put(tx, byte);
+                    }
+                }
+                frame | service
+            }
+        }
     }
 
     /// Shows the receive store (side 0) or the transmit store (side 1): "the longest unbroken run
@@ -526,45 +540,21 @@ impl Bridge {
         }
     }
 
-    /// Does a command's work and tells whether it was a device clear; the frame goes on unchanged.
-    fn command(&mut self, data: u8) -> bool {
+    /// "20, or 4 when listener: device clear."
+    fn is_clear(&self, data: u8) -> bool {
+        data == 20 || (data == 4 && self.listener)
+    }
+
+    /// Does a command's work; the frame goes on unchanged.
+    fn command(&mut self, data: u8) {
         // "First, an active talker becomes merely addressed and forgets the frame under way"
         if self.talker >= ACTIVE_DATA {
             self.stop_sending();
         }
-        let n = data & 31;
         match data {
-            // "32+n: n=31 ends listening; n=a makes us listener, not talker, and remote if
-            // enabled; another n does nothing."
-            32..=63 => {
-                if n == 31 {
-                    self.listener = false;
-                } else if n == self.address {
-                    self.listener = true;
-                    self.talker = IDLE;
-                    if self.remote_enabled {
-                        self.remote = true;
-                    }
-                }
-            }
-            // "64+n: n=a and not 31 makes us talker, not listener; any other n ends talking."
-            64..=95 => {
-                if n == self.address && n != 31 {
-                    self.talker = ADDRESSED;
-                    self.listener = false;
-                } else {
-                    self.talker = IDLE;
-                }
-            }
-            // "20, or 4 when listener: device clear."
-            20 => {
-                self.device_clear();
-                return true;
-            }
-            4 if self.listener => {
-                self.device_clear();
-                return true;
-            }
+            32..=63 => self.listen_address(data - 32),
+            64..=95 => self.talk_address(data - 64),
+            _ if self.is_clear(data) => self.device_clear(),
             // "144: neither talker nor listener."
             144 => {
                 self.talker = IDLE;
@@ -583,7 +573,30 @@ impl Bridge {
             // "All others change no more."
             _ => {}
         }
-        false
+    }
+
+    /// "32+n: n=31 ends listening; n=a makes us listener, not talker, and remote if enabled;
+    /// another n does nothing."
+    fn listen_address(&mut self, n: u8) {
+        if n == 31 {
+            self.listener = false;
+        } else if n == self.address {
+            self.listener = true;
+            self.talker = IDLE;
+            if self.remote_enabled {
+                self.remote = true;
+            }
+        }
+    }
+
+    /// "64+n: n=a and not 31 makes us talker, not listener; any other n ends talking."
+    fn talk_address(&mut self, n: u8) {
+        if n == self.address && n != 31 {
+            self.talker = ADDRESSED;
+            self.listener = false;
+        } else {
+            self.talker = IDLE;
+        }
     }
 
     /// "Both stores empty, hold-off and the other end's stop end, overrun, break, key and service

@@ -551,54 +551,58 @@ fn register_refusals() {
     );
 }
 
+/// Each makes a state fit no longer.
+const SPOILERS: [fn(&mut Bridge); 24] = [
+    |b| b.receive_len = 5,
+    |b| b.transmit_len = 4,
+    |b| b.margin = 0,
+    |b| b.margin = 2,
+    |b| b.margin = usize::MAX,
+    |b| b.registers.r00 = 2,
+    |b| b.registers.r01 = 16,
+    |b| b.registers.r02 = 8,
+    |b| b.registers.r10 = 1,
+    |b| b.registers.r11 = 12,
+    |b| b.registers.c[4] = 19,
+    |b| b.registers.c[5] = 17,
+    |b| b.address = 32,
+    |b| b.talker = 4,
+    |b| {
+        b.talker = 1;
+        b.listener = true;
+    },
+    |b| b.under_way = 1024,
+    |b| b.under_way = u16::MAX,
+    |b| b.receive.oldest = 4,
+    |b| b.receive.held = 5,
+    |b| b.transmit.oldest = 3,
+    |b| b.transmit.held = 4,
+    |b| b.receive.oldest = usize::MAX,
+    |b| b.receive.held = usize::MAX,
+    |b| b.transmit.held = usize::MAX,
+];
+
+/// A call of each kind that takes a state, some with refusals of larger numbers.
+const CALLS: [Call; 8] = [
+    Call::Reset,
+    Call::Write(3, 99),
+    Call::Line(50),
+    Call::Break,
+    Call::Key,
+    Call::Next,
+    Call::Loop(2048),
+    Call::Echo,
+];
+
 #[test]
 fn misfit_states_are_refused_and_left_alone() {
-    let spoilers: [fn(&mut Bridge); 24] = [
-        |b| b.receive_len = 5,
-        |b| b.transmit_len = 4,
-        |b| b.margin = 0,
-        |b| b.margin = 2,
-        |b| b.margin = usize::MAX,
-        |b| b.registers.r00 = 2,
-        |b| b.registers.r01 = 16,
-        |b| b.registers.r02 = 8,
-        |b| b.registers.r10 = 1,
-        |b| b.registers.r11 = 12,
-        |b| b.registers.c[4] = 19,
-        |b| b.registers.c[5] = 17,
-        |b| b.address = 32,
-        |b| b.talker = 4,
-        |b| {
-            b.talker = 1;
-            b.listener = true;
-        },
-        |b| b.under_way = 1024,
-        |b| b.under_way = u16::MAX,
-        |b| b.receive.oldest = 4,
-        |b| b.receive.held = 5,
-        |b| b.transmit.oldest = 3,
-        |b| b.transmit.held = 4,
-        |b| b.receive.oldest = usize::MAX,
-        |b| b.receive.held = usize::MAX,
-        |b| b.transmit.held = usize::MAX,
-    ];
-    let calls = [
-        Call::Reset,
-        Call::Write(3, 99),
-        Call::Line(50),
-        Call::Break,
-        Call::Key,
-        Call::Next,
-        Call::Loop(2048),
-        Call::Echo,
-    ];
     let mut count = 0;
-    for spoil in spoilers {
+    for spoil in SPOILERS {
         let mut world = World::after(4, 3, 1, &[Call::Line(50)]);
         assert_eq!(world.bridge.show(&world.rx, &world.tx, 0), [50]);
         spoil(&mut world.bridge);
         let before = world.clone();
-        for call in calls {
+        for call in CALLS {
             assert_eq!(world.call(call), Refused(2));
             assert_eq!(world, before);
             count += 1;
@@ -608,7 +612,7 @@ fn misfit_states_are_refused_and_left_alone() {
             count += 1;
         }
     }
-    println!("{} misfits, {count} calls refused or empty", spoilers.len());
+    println!("{} misfits, {count} calls refused or empty", SPOILERS.len());
 }
 
 #[test]
@@ -677,38 +681,46 @@ impl History {
     fn note(&mut self, before: &World, call: Call, answer: Answer, found: &mut Found) {
         let bridge = &before.bridge;
         let frame = match call {
-            Call::Loop(frame) => Some(frame as u16),
-            Call::Echo => Some(bridge.under_way),
-            Call::Damage => Some(bridge.under_way ^ 1),
-            _ => None,
-        };
-        match (call, answer) {
-            (Call::Line(byte), _) => {
-                let handshake = bridge.registers.c[4..].contains(&byte);
-                if bridge.registers.r11 == 0 || !handshake {
-                    self.in_spell = if bridge.holding { self.in_spell + 1 } else { 0 };
-                    self.no_loss_promised &= self.in_spell <= bridge.margin;
-                    if bridge.receive.held < before.rx.len() {
-                        self.accepted.push(byte);
-                    } else {
-                        assert!(!self.no_loss_promised);
-                        self.news_owed = true;
-                        self.news_under_way = false;
-                        found.losses += 1;
-                    }
+            Call::Loop(frame) => frame as u16,
+            Call::Echo => bridge.under_way,
+            Call::Damage => bridge.under_way ^ 1,
+            Call::Line(byte) => return self.note_line(before, byte, found),
+            Call::Next => {
+                if let (Byte(byte), true) = (answer, bridge.holding == bridge.stop_sent_last) {
+                    self.handed_out.push(byte);
                 }
+                return;
             }
-            (Call::Next, Byte(byte)) if bridge.holding == bridge.stop_sent_last => {
-                self.handed_out.push(byte);
-            }
-            _ => {}
-        }
-        let (frame, out) = match (frame, answer) {
-            (Some(frame), Frame(out)) => (frame, out),
             _ => return,
         };
+        if let Frame(out) = answer {
+            self.note_data(bridge, frame, out, found);
+            self.note_news(bridge, frame, found);
+        }
+    }
+
+    /// A line byte: accepted, or lost, and then news is owed.
+    fn note_line(&mut self, before: &World, byte: u8, found: &mut Found) {
+        let bridge = &before.bridge;
+        let handshake = bridge.registers.c[4..].contains(&byte);
+        if bridge.registers.r11 != 0 && handshake {
+            return;
+        }
+        self.in_spell = if bridge.holding { self.in_spell + 1 } else { 0 };
+        self.no_loss_promised &= self.in_spell <= bridge.margin;
+        if bridge.receive.held < before.rx.len() {
+            self.accepted.push(byte);
+        } else {
+            assert!(!self.no_loss_promised);
+            self.news_owed = true;
+            self.news_under_way = false;
+            found.losses += 1;
+        }
+    }
+
+    /// Data frames that were sent, and bytes that were added for the line.
+    fn note_data(&mut self, bridge: &Bridge, frame: u16, out: u16, found: &mut Found) {
         let data = frame < 1024;
-        let unchanged = frame & !SERVICE == bridge.under_way & !SERVICE;
         let asked = frame == f(5, 96) && bridge.talker == 1;
         if (asked || data && bridge.talker == ACTIVE_DATA) && out < 1024 {
             self.sent.push(out & !SERVICE);
@@ -720,9 +732,14 @@ impl History {
                 self.added.extend_from_slice(&bridge.registers.c[2..4]);
             }
         }
+    }
+
+    /// A status byte sent, come back or forgotten.
+    fn note_news(&mut self, bridge: &Bridge, frame: u16, found: &mut Found) {
+        let unchanged = frame & !SERVICE == bridge.under_way & !SERVICE;
         if frame == f(5, 97) && bridge.talker == 1 {
             self.news_under_way = self.news_owed;
-        } else if data && bridge.talker == ACTIVE_STATUS {
+        } else if frame < 1024 && bridge.talker == ACTIVE_STATUS {
             if unchanged && self.news_under_way {
                 self.news_owed = false;
                 found.news += 1;

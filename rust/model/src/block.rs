@@ -1,0 +1,211 @@
+//! The block of bytes in which the state travels between calls.
+//!
+//! Fields follow each other without gaps, numbers low byte first, a flag as 1 or 0.
+
+use crate::{Bridge, Registers, Ring};
+
+/// The one length a block has.
+pub const LEN: usize = 55;
+
+/// The block of a state; lengths, margin and places are cut to two bytes.
+#[inline]
+pub fn pack(bridge: &Bridge) -> [u8; LEN] {
+    let mut out = Writer::new();
+    out.size(bridge.receive_len);
+    out.size(bridge.transmit_len);
+    out.size(bridge.margin);
+    let r = &bridge.registers;
+    out.bytes([r.r00, r.r01, r.r02, r.r10, r.r11]);
+    out.bytes(r.c);
+    out.bytes([bridge.address, bridge.talker]);
+    out.flags([bridge.listener, bridge.remote_enabled, bridge.remote]);
+    out.bytes(bridge.under_way.to_le_bytes());
+    out.flags([bridge.finishing]);
+    for ring in [&bridge.receive, &bridge.transmit] {
+        out.size(ring.oldest);
+        out.size(ring.held);
+    }
+    out.flags([bridge.holding, bridge.forbidden, bridge.stop_sent_last]);
+    out.flags([bridge.break_seen, bridge.overrun_seen, bridge.key_seen]);
+    out.flags([bridge.break_again, bridge.overrun_again, bridge.key_again]);
+    out.flags([bridge.request]);
+    for count in [bridge.stored, bridge.lost, bridge.sent] {
+        out.bytes(count.to_le_bytes());
+    }
+    out.block
+}
+
+/// The state that this block means: none unless the block has its length and is exactly what
+/// `pack` gives for that state, so every flag is 0 or 1. Whether the state fits is not asked here.
+#[inline]
+pub fn unpack(block: &[u8]) -> Option<Bridge> {
+    let mut from = Reader::new(block.try_into().ok()?);
+    // Fields of a literal are read in the order in which they are written here.
+    let bridge = Bridge {
+        receive_len: from.size(),
+        transmit_len: from.size(),
+        margin: from.size(),
+        registers: from.registers(),
+        address: from.byte(),
+        talker: from.byte(),
+        listener: from.flag(),
+        remote_enabled: from.flag(),
+        remote: from.flag(),
+        under_way: u16::from_le_bytes(from.bytes()),
+        finishing: from.flag(),
+        receive: from.ring(),
+        transmit: from.ring(),
+        holding: from.flag(),
+        forbidden: from.flag(),
+        stop_sent_last: from.flag(),
+        break_seen: from.flag(),
+        overrun_seen: from.flag(),
+        key_seen: from.flag(),
+        break_again: from.flag(),
+        overrun_again: from.flag(),
+        key_again: from.flag(),
+        request: from.flag(),
+        stored: u32::from_le_bytes(from.bytes()),
+        lost: u32::from_le_bytes(from.bytes()),
+        sent: u32::from_le_bytes(from.bytes()),
+    };
+    from.flags_sound.then_some(bridge)
+}
+
+/// A block that is being written, from its front.
+struct Writer {
+    block: [u8; LEN],
+    place: usize,
+}
+
+impl Writer {
+    fn new() -> Writer {
+        Writer {
+            block: [0; LEN],
+            place: 0,
+        }
+    }
+
+    #[inline(always)]
+    fn bytes<const N: usize>(&mut self, bytes: [u8; N]) {
+        self.block[self.place..self.place + N].copy_from_slice(&bytes);
+        self.place += N;
+    }
+
+    #[inline(always)]
+    fn size(&mut self, size: usize) {
+        self.bytes((size as u16).to_le_bytes());
+    }
+
+    #[inline(always)]
+    fn flags<const N: usize>(&mut self, flags: [bool; N]) {
+        self.bytes(flags.map(u8::from));
+    }
+}
+
+/// A block that is being read, from its front.
+struct Reader<'a> {
+    block: &'a [u8; LEN],
+    place: usize,
+    /// Whether every flag read so far was 0 or 1.
+    flags_sound: bool,
+}
+
+impl Reader<'_> {
+    fn new(block: &[u8; LEN]) -> Reader<'_> {
+        Reader {
+            block,
+            place: 0,
+            flags_sound: true,
+        }
+    }
+
+    #[inline(always)]
+    fn bytes<const N: usize>(&mut self) -> [u8; N] {
+        let mut bytes = [0; N];
+        bytes.copy_from_slice(&self.block[self.place..self.place + N]);
+        self.place += N;
+        bytes
+    }
+
+    #[inline(always)]
+    fn byte(&mut self) -> u8 {
+        let [byte] = self.bytes();
+        byte
+    }
+
+    #[inline(always)]
+    fn size(&mut self) -> usize {
+        u16::from_le_bytes(self.bytes()).into()
+    }
+
+    #[inline(always)]
+    fn flag(&mut self) -> bool {
+        let byte = self.byte();
+        self.flags_sound &= byte <= 1;
+        byte == 1
+    }
+
+    #[inline(always)]
+    fn registers(&mut self) -> Registers {
+        Registers {
+            r00: self.byte(),
+            r01: self.byte(),
+            r02: self.byte(),
+            r10: self.byte(),
+            r11: self.byte(),
+            c: self.bytes(),
+        }
+    }
+
+    #[inline(always)]
+    fn ring(&mut self) -> Ring {
+        Ring {
+            oldest: self.size(),
+            held: self.size(),
+        }
+    }
+}
+
+#[cfg(test)]
+mod tests {
+    use super::*;
+
+    /// A block with another value at every place that is not a flag.
+    fn numbered() -> [u8; LEN] {
+        let mut block = [0; LEN];
+        for (place, byte) in block.iter_mut().enumerate() {
+            let flag = matches!(place, 19..=21 | 24 | 33..=42);
+            *byte = if flag { place as u8 & 1 } else { place as u8 };
+        }
+        block
+    }
+
+    #[test]
+    fn every_place_is_read_and_written_back() {
+        let block = numbered();
+        let bridge = unpack(&block).expect("every flag is 0 or 1");
+        assert_eq!(pack(&bridge), block);
+        assert_eq!((bridge.margin, bridge.registers.r11), (0x0504, 10));
+        assert_eq!((bridge.registers.c[5], bridge.address), (16, 17));
+        assert_eq!((bridge.under_way, bridge.receive.oldest), (0x1716, 0x1a19));
+        assert_eq!((bridge.transmit.held, bridge.sent), (0x201f, 0x3635_3433));
+        assert!(bridge.holding && !bridge.forbidden && bridge.stop_sent_last);
+    }
+
+    #[test]
+    fn a_spoilt_flag_or_another_length_is_no_state() {
+        let mut spoilt = 0;
+        for place in 0..LEN {
+            let mut block = numbered();
+            block[place] = 2;
+            let back = unpack(&block).map(|bridge| pack(&bridge));
+            assert!(back.is_none() || back == Some(block));
+            spoilt += usize::from(back.is_none());
+        }
+        assert_eq!(spoilt, 14);
+        assert_eq!(unpack(&[0; LEN - 1]), None);
+        assert_eq!(unpack(&[0; LEN + 1]), None);
+        println!("{spoilt} of {LEN} places are flags");
+    }
+}
