@@ -17,7 +17,7 @@
  * The refusals:
  *
  *   1   create: a size is broken, or the block has the wrong length
- *   2   any other call: the block is not a state, or the state does not fit the lent stores
+ *   2   any other call but showing: the block is not a state, or the state does not fit the lent stores
  *   3   a loop frame above 2047
  *   4   busy: we are listener, the frame is data, and the transmit store lacks room for what it adds
  *   5   register write: a number that is not carried

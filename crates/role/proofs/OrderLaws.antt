@@ -8,10 +8,9 @@ use lib.Dec.{eqb}
 use borrow.Author.Tests.{eqb-true}
 use Rattle.cases.proofs.Cases.{by-cond}
 use Rattle.role.specs.declared.Role.{Role}
-use Rattle.role.specs.declared.Order.{Order}
-use Rattle.role.specs.declared.Order.the-variants.{Unlisten, Listen, Untalk, Talk, Clear, Deselect, Enable, Disable, Local, Unassign, Nothing}
 use Rattle.role.specs.Orders.{ownAddress, numberOf, baseOf, listenOrder, talkOrder, otherOrder, orderOf}
 use Rattle.role.specs.Commands.{merelyAddressed}
+use Rattle.role.specs.Laws.{Order63, Order95, Silent, UnassignedSilent}
 
 -- with home address 31 our address is the address field
 pub own-31 : (r : Role) → ownAddress 31 r ≡ r .address
@@ -32,12 +31,11 @@ talk-number home r n h =
     let b : baseOf (64 + n) ≡ 64 = omega arith in
     rw (b, m)
 
--- 63 ends listening and 95 ends talking, whatever the address
-pub order-63 : (home : ℕ) (r : Role) → orderOf home r 63 ≡ Unlisten
+pub order-63 : Order63
 unfolding orderOf listenOrder
 order-63 home r = refl
 
-pub order-95 : (home : ℕ) (r : Role) → orderOf home r 95 ≡ Untalk
+pub order-95 : Order95
 unfolding orderOf talkOrder
 order-95 home r = rw (and-false (eqb 31 (ownAddress home r)))
 
@@ -45,20 +43,6 @@ order-95 home r = rw (and-false (eqb 31 (ownAddress home r)))
 pub judged : (home : ℕ) (r : Role) (d : ℕ) → orderOf home (merelyAddressed r) d ≡ orderOf home r d
 unfolding orderOf ownAddress merelyAddressed
 judged home r d = refl
-
--- an order that makes nobody talker or listener
-abbrev pub Silent : Order → Type 0
-Silent Unlisten = Unit {0}
-Silent Listen = ⊥
-Silent Untalk = Unit {0}
-Silent Talk = ⊥
-Silent Clear = Unit {0}
-Silent Deselect = Unit {0}
-Silent Enable = Unit {0}
-Silent Disable = Unit {0}
-Silent Local = Unit {0}
-Silent Unassign = Unit {0}
-Silent Nothing = Unit {0}
 
 listen-31 : (n : ℕ) → Silent (listenOrder 31 n)
 unfolding listenOrder
@@ -78,8 +62,7 @@ other-silent l d =
     by-cond Silent (eqb d 1 && l) _ _ (λ e. tt) (λ e.
     by-cond Silent (eqb d 154) _ _ (λ e. tt) (λ e. tt))))))
 
--- unassigned and with home address 31, no command makes a talker or listener
-pub unassigned-silent : (r : Role) (d : ℕ) → r .address ≡ 31 → Silent (orderOf 31 r d)
+pub unassigned-silent : UnassignedSilent
 unfolding orderOf
 unassigned-silent r d h =
     let a : ownAddress 31 r ≡ 31 = own-31 r ∙ h in

@@ -3,3 +3,4 @@ pub mod Orders
 pub mod Commands
 pub mod ReadyFrames
 pub mod Fit
+pub mod Laws
