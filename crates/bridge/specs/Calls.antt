@@ -79,6 +79,7 @@ doneWith s = record { state = s; answer = answer.Done }
 abbrev pub refusedWith : State → ℕ → Outcome
 refusedWith s n = record { state = s; answer = answer.Refused n }
 
+-- the state and the answer; of showing only the state, since its answer is a part, which `step` gives
 unfoldable pub outcome : Call → World → Outcome
 outcome (create m) w = doneWith (startState m (length (w .rx)) (length (w .tx)))
 outcome reset w = doneWith (startState (w .state .sizes .margin) (length (w .rx)) (length (w .tx)))

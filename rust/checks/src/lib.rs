@@ -1,0 +1,18 @@
+//! What the tests share: the archive's C functions and the model, side by side on equal buffers,
+//! and a watcher that holds both to demand 3 by history of its own.
+//!
+//! The tests are in the folder `tests`, each with a word at its top; all print what they counted:
+//! `sh rust/cargo.sh test --release --manifest-path rust/checks/Cargo.toml -- --nocapture`.
+
+pub mod answer;
+pub mod archive;
+pub mod call;
+pub mod explore;
+pub mod lent;
+pub mod pair;
+pub mod promises;
+pub mod rule;
+pub mod run;
+pub mod second;
+pub mod seen;
+pub mod watch;

@@ -1,0 +1,131 @@
+//! A watcher that goes along every path of an exploration, small enough to be part of its states.
+
+use crate::promises::Promises;
+use crate::rule::Rule;
+use crate::seen::Seen;
+use model::{Bridge, Ring};
+
+/// At most eight bytes in their order.
+#[derive(Clone, Copy, Debug, Default, PartialEq, Eq, Hash)]
+struct Few {
+    bytes: [u8; 8],
+    len: u8,
+}
+
+impl Few {
+    fn bytes(&self) -> &[u8] {
+        &self.bytes[..usize::from(self.len)]
+    }
+
+    fn push(&mut self, byte: u8) {
+        self.bytes[usize::from(self.len)] = byte;
+        self.len += 1;
+    }
+
+    /// Removes the first bytes; places behind the last byte are 0 again.
+    fn remove(&mut self, count: usize) {
+        let left = self.bytes().len() - count;
+        self.bytes.rotate_left(count);
+        self.bytes[left..].fill(0);
+        self.len = left as u8;
+    }
+}
+
+/// What is known of a run from its calls and answers.
+#[derive(Clone, Copy, Debug, PartialEq, Eq, Hash)]
+pub struct Watch {
+    /// Accepted from the line and not read off by the reading rule.
+    unread: Few,
+    /// Added by frames and not handed out.
+    waiting: Few,
+    promises: Promises,
+}
+
+impl Watch {
+    /// After create.
+    pub fn starting(bridge: &Bridge) -> Watch {
+        Watch {
+            unread: Few::default(),
+            waiting: Few::default(),
+            promises: Promises::starting(bridge),
+        }
+    }
+
+    /// Takes note of a call and holds the state after it to demand 3. A frame sent must be the
+    /// first that the rule gives for what is unread, and what is left unread must be what is held:
+    /// so frames sent, then those of the bytes held, are those of all bytes accepted.
+    pub fn note(
+        &mut self,
+        before: &Bridge,
+        seen: Seen,
+        after: &Bridge,
+        stores: (&[u8], &[u8]),
+    ) -> Result<(), String> {
+        let read = Rule::of(&before.registers).send(self.unread.bytes());
+        match (seen, read) {
+            (Seen::Accepted(byte), _) => self.unread.push(byte),
+            (Seen::Sent(frame), (gone, Some(first))) if frame == first => self.unread.remove(gone),
+            (Seen::SentNone, (gone, None)) => self.unread.remove(gone),
+            (Seen::Sent(_) | Seen::SentNone, _) => return Err("another frame is due".into()),
+            (Seen::Added(bytes, len), _) => bytes[..len].iter().for_each(|&b| self.waiting.push(b)),
+            (Seen::HandedOut(byte), _) if self.waiting.bytes().first() == Some(&byte) => {
+                self.waiting.remove(1)
+            }
+            (Seen::HandedOut(_), _) => return Err("another line byte is due".into()),
+            (Seen::DeviceClear | Seen::Reset, _) => {
+                self.unread = Few::default();
+                self.waiting = Few::default();
+            }
+            _ => {}
+        }
+        holds(after.receive, stores.0, self.unread.bytes())?;
+        holds(after.transmit, stores.1, self.waiting.bytes())?;
+        counted(seen, before, after)?;
+        self.promises.note(before, seen, after)
+    }
+
+    /// Holds a shown part, given as start and length, to what the side holds.
+    pub fn shown(&self, side: u32, part: u64, stores: (&[u8], &[u8])) -> Result<(), String> {
+        let (held, store) = match side {
+            0 => (self.unread.bytes(), stores.0),
+            1 => (self.waiting.bytes(), stores.1),
+            _ => (&[][..], &[][..]),
+        };
+        let (start, len) = ((part >> 32) as usize, (part & 0xffff_ffff) as usize);
+        let bytes = store.get(start..start + len);
+        let longest = len == held.len() || len > 0 && start + len == store.len();
+        match bytes {
+            Some(bytes) if longest && held.starts_with(bytes) => Ok(()),
+            _ => Err("another part is due".into()),
+        }
+    }
+}
+
+/// Whether a ring holds exactly these bytes.
+fn holds(ring: Ring, store: &[u8], bytes: &[u8]) -> Result<(), String> {
+    let place = |i| store[(ring.oldest + i) % store.len()];
+    if ring.held == bytes.len() && (0..ring.held).all(|i| place(i) == bytes[i]) {
+        Ok(())
+    } else {
+        Err(format!("by history {bytes:?} is held"))
+    }
+}
+
+/// Whether the three counts moved by what was seen, and by nothing else.
+pub fn counted(seen: Seen, before: &Bridge, after: &Bridge) -> Result<(), String> {
+    let from = match seen {
+        Seen::Reset => [0; 3],
+        _ => [before.stored, before.lost, before.sent],
+    };
+    let happened = [
+        matches!(seen, Seen::Accepted(_)),
+        seen == Seen::Lost,
+        matches!(seen, Seen::Sent(_)),
+    ];
+    let due = [0, 1, 2].map(|i: usize| from[i].wrapping_add(u32::from(happened[i])));
+    if due == [after.stored, after.lost, after.sent] {
+        Ok(())
+    } else {
+        Err(format!("stored, lost, sent: {due:?} are due"))
+    }
+}

@@ -1,0 +1,182 @@
+//! Numbers, lengths and blocks at their edges and beyond, one by one. What is refused is written
+//! from the paper, and the model is asked too.
+
+use checks::answer::{framed, refused, DONE};
+use checks::archive;
+use checks::call::{frame, Call};
+use checks::pair::Pair;
+use model::block::LEN;
+use model::boundary::{kind, value, REFUSED};
+
+/// Makes a call of which only the comparison with the model counts.
+fn ask(pair: &mut Pair, call: Call) -> u64 {
+    pair.call(call)
+        .unwrap_or_else(|finding| panic!("{finding}"))
+}
+
+#[test]
+fn sizes_of_create() {
+    assert_eq!(archive::block_len(), LEN);
+    let (mut made, mut broken) = (0, 0);
+    for margin in [0, 1, 2, 1023, 1024, 1025, 1 << 16 | 1, 1 << 31, u32::MAX] {
+        let least = (2 * u64::from(margin) + 2).min(40_000) as usize;
+        for rx_len in [0, 3, 4, least - 1, least, 32_767, 32_768, 32_769, 65_540] {
+            for tx_len in [0, 2, 3, 32_768, 32_769, 65_539] {
+                for block_len in [0, 54, 55, 56] {
+                    let obeyed = (1..=1024).contains(&margin)
+                        && (least..=32_768).contains(&rx_len)
+                        && (3..=32_768).contains(&tx_len)
+                        && block_len == 55;
+                    let due = if obeyed { DONE } else { refused(1) };
+                    let (block, stores) = (vec![7; block_len], (vec![1; rx_len], vec![2; tx_len]));
+                    let mut pair = Pair::holding(&block, &stores.0, &stores.1);
+                    assert_eq!(pair.recreate(margin), Ok(due), "{rx_len} {tx_len} {margin}");
+                    *(if obeyed { &mut made } else { &mut broken }) += 1;
+                }
+            }
+        }
+    }
+    assert!(made > 0 && broken > 0);
+    println!("edges, create: {made} sizes taken, {broken} refused 1");
+}
+
+/// The refusal that the paper's table gives for a write at the start, or 0.
+fn due(number: u32, value: u32) -> u64 {
+    let bits = match number {
+        0 => 0b1001,
+        1 => 0b1111,
+        2 => 0b0101,
+        10 => 0b1100,
+        11 => 0b1000,
+        16..=21 => 255,
+        _ => return 5,
+    };
+    let largest = if number < 16 { 15 } else { 255 };
+    match (number, value) {
+        _ if value > largest => 6,
+        _ if value | bits != bits => 7,
+        (20, 19) | (21, 17) => 8,
+        _ => 0,
+    }
+}
+
+#[test]
+fn register_numbers_and_values() {
+    let numbers = (0..40).chain([255, 256, 272, 1 << 16 | 10, 1 << 31, u32::MAX]);
+    let mut met = [0; 9];
+    for number in numbers {
+        for value in (0..300).chain([1 << 8 | 8, 1 << 16 | 8, 1 << 31, u32::MAX]) {
+            let mut pair = Pair::create(4, 3, 1);
+            let due = due(number, value);
+            let answer = if due == 0 { DONE } else { refused(due) };
+            pair.expect(Call::Register(number, value), answer);
+            met[due as usize] += 1;
+        }
+    }
+    let [taken, _, _, _, _, five, six, seven, eight] = met;
+    println!(
+        "edges, registers: {taken} taken; refused 5: {five}, 6: {six}, 7: {seven}, 8: {eight}"
+    );
+}
+
+#[test]
+fn every_frame_and_frames_that_do_not_exist() {
+    let mut pair = Pair::create(4, 3, 1);
+    let (mut taken, mut none) = (0, 0);
+    for number in 0..2048 {
+        assert_ne!(kind(ask(&mut pair, Call::Frame(number))), REFUSED);
+        taken += 1;
+    }
+    let beyond = [1 << 16, 1 << 16 | 0x560, 1 << 31, u32::MAX - 1, u32::MAX];
+    for number in (2048..4096).chain(beyond) {
+        pair.expect(Call::Frame(number), refused(3));
+        none += 1;
+    }
+    println!("edges, frames: {taken} taken, {none} refused 3");
+}
+
+#[test]
+fn sides_that_do_not_exist() {
+    let mut pair = Pair::create(4, 3, 1);
+    pair.expect(frame(5, 129), framed(5, 130));
+    pair.expect(frame(4, 33), framed(4, 33));
+    pair.expect(frame(0, 65), framed(0, 65));
+    pair.expect(Call::Line(50), DONE);
+    let mut neither = 0;
+    for side in (0..300).chain([1 << 8, 1 << 16, 1 << 16 | 1, 1 << 31, u32::MAX]) {
+        pair.expect(Call::Show(side), u64::from(side < 2));
+        neither += usize::from(side >= 2);
+    }
+    println!("edges, show: 2 sides, {neither} that are neither");
+}
+
+/// Whether these buffers hold a state that fits: then no call is refused 2, and else every call is.
+fn fits(block: &[u8], rx: &[u8], tx: &[u8]) -> bool {
+    let mut pair = Pair::holding(block, rx, tx);
+    for side in 0..2 {
+        ask(&mut pair, Call::Show(side));
+    }
+    let calls = [
+        Call::Break,
+        frame(0, 9),
+        Call::Next,
+        Call::Line(13),
+        Call::Reset,
+    ];
+    let misfits = calls.map(|call| ask(&mut pair, call) == refused(2));
+    assert_eq!(misfits, [misfits[0]; 5], "{}", pair.script());
+    !misfits[0]
+}
+
+#[test]
+fn every_byte_of_the_block_at_every_value() {
+    let (mut states, mut misfits) = (0, 0);
+    // The second has room for a margin of 1,025.
+    for (rx_len, tx_len) in [(4, 3), (2052, 300)] {
+        let mut good = Pair::create(rx_len, tx_len, 1);
+        for call in [frame(5, 129), frame(4, 33), frame(2, 65), Call::Line(50)] {
+            ask(&mut good, call);
+        }
+        let buffers = good.buffers();
+        let mut block = buffers.block().to_vec();
+        for place in 0..LEN {
+            for byte in 0..=255 {
+                block[place] = byte;
+                if fits(&block, buffers.rx(), buffers.tx()) {
+                    states += 1;
+                } else {
+                    misfits += 1;
+                }
+            }
+            block[place] = buffers.block()[place];
+        }
+    }
+    assert!(states > 0 && misfits > 0);
+    println!("edges, blocks: {states} are states that fit, {misfits} refused 2 by every call");
+}
+
+#[test]
+fn lengths_other_than_recorded() {
+    let good = Pair::create(4, 3, 1);
+    let block = good.buffers().block();
+    let (mut fit, mut misfits) = (0, 0);
+    for rx_len in [0, 1, 3, 4, 5, 65_540] {
+        for tx_len in [0, 2, 3, 4, 65_539] {
+            for block_len in [0, 1, 54, 55, 56, 110] {
+                let mut other = block.to_vec();
+                other.resize(block_len, 0);
+                let mut pair = Pair::holding(&other, &vec![0; rx_len], &vec![0; tx_len]);
+                let fits = (rx_len, tx_len, block_len) == (4, 3, 55);
+                let answer = ask(&mut pair, Call::Next);
+                assert_eq!(answer == refused(2), !fits);
+                for call in [Call::Reset, Call::Register(3, 99), Call::Frame(2048)] {
+                    let answer = ask(&mut pair, call);
+                    assert_eq!(kind(answer) == REFUSED && value(answer) == 2, !fits);
+                }
+                fit += usize::from(fits);
+                misfits += usize::from(!fits);
+            }
+        }
+    }
+    println!("edges, lengths: {fit} that fits, {misfits} refused 2");
+}

@@ -1,0 +1,277 @@
+//! Every order of calls on the smallest stores, the archive beside the model at every transition.
+//!
+//! Each test takes an alphabet of calls and goes through all states that it can reach, however
+//! long the way there, the nearest first; the two widest alphabets stop at a limit. With
+//! `EVERY_ORDER=long` in the environment that limit is wide, and the run takes minutes. At every
+//! transition answer, block and both stores are compared, and demand 3 is held by a history that
+//! is carried beside the bridge.
+
+use checks::call::{frame, Call};
+use checks::explore::{explore, Found, Letter, Plan};
+use Call::{Break, Frame, Key, Line, Next, Register, Reset, Show};
+use Letter::{Back, Make};
+
+/// A correct return, one with another service bit, and two damaged ones.
+const RETURNS: [Letter; 4] = [Back(0), Back(1 << 8), Back(1), Back(2 << 8)];
+/// Address 1, then addressed to talk or to listen.
+const ASSIGN: Call = frame(5, 129);
+const TALK: Call = frame(4, 65);
+const LISTEN: Call = frame(4, 33);
+const UNTALK: Call = frame(4, 95);
+const UNLISTEN: Call = frame(4, 63);
+/// Device clear, and a command that only ends an active talker's sending.
+const CLEAR: Call = frame(4, 20);
+const OTHER_COMMAND: Call = frame(4, 0);
+/// Ready frames: send data, send status, finish.
+const SEND: Call = frame(5, 96);
+const SEND_STATUS: Call = frame(5, 97);
+const FINISH: Call = frame(5, 66);
+const IDENTIFY: Call = frame(6, 0);
+
+/// No limit: the alphabet is small enough to reach all its states.
+const EVERY_STATE: usize = usize::MAX;
+
+/// A limit on transitions where all states are too many for every day.
+fn first_states() -> usize {
+    match std::env::var("EVERY_ORDER").as_deref() {
+        Ok("long") => 20_000_000,
+        _ => 600_000,
+    }
+}
+
+/// Explores on a transmit store of 3 with these calls and all returns, and prints what was found.
+fn run(name: &str, receive: (usize, u32), start: &[Call], calls: &[Call], limit: usize) -> Found {
+    let letters: Vec<Letter> = calls.iter().copied().map(Make).chain(RETURNS).collect();
+    let found = explore(&Plan {
+        rx_len: receive.0,
+        tx_len: 3,
+        margin: receive.1,
+        start,
+        letters: &letters,
+        limit,
+    });
+    let (states, transitions) = (found.states, found.transitions);
+    let reached = if found.complete { "all" } else { "first" };
+    println!("every order, {name}: {reached} {states} states, {transitions} transitions compared");
+    println!("    {found}");
+    assert!(found.complete || limit < EVERY_STATE);
+    found
+}
+
+#[test]
+fn reading_off() {
+    let bytes = [Line(13), Line(10), Line(50)];
+    let calls = [SEND, FINISH, OTHER_COMMAND, Next, Show(0)];
+    let start = [Register(10, 8), ASSIGN, TALK];
+    let found = run(
+        "reading off",
+        (4, 1),
+        &start,
+        &[&bytes[..], &calls].concat(),
+        EVERY_STATE,
+    );
+    assert!(found.sent > 0 && found.lost > 0);
+}
+
+#[test]
+fn reading_off_a_pair_of_equal_bytes() {
+    let start = [Register(10, 8), Register(16, 10), ASSIGN, TALK];
+    let calls = [Line(10), Line(50), SEND, FINISH, Next, Show(0)];
+    let found = run(
+        "reading off, pair 10, 10, store 6",
+        (6, 2),
+        &start,
+        &calls,
+        EVERY_STATE,
+    );
+    assert!(found.sent > 0 && found.lost > 0);
+}
+
+#[test]
+fn status_under_way() {
+    let start = [Register(0, 9), Register(2, 5), ASSIGN, TALK];
+    let calls = [
+        Line(50),
+        Break,
+        Key,
+        SEND_STATUS,
+        SEND,
+        OTHER_COMMAND,
+        CLEAR,
+        Next,
+        IDENTIFY,
+    ];
+    let found = run("status under way", (4, 1), &start, &calls, EVERY_STATE);
+    assert!(found.lost > 0 && found.status_back > 0 && found.status_gone > 0);
+}
+
+#[test]
+fn listening() {
+    let start = [Register(10, 4), ASSIGN];
+    let roles = [LISTEN, UNLISTEN, TALK, CLEAR, frame(4, 4)];
+    let calls = [
+        frame(0, 65),
+        frame(1, 65),
+        frame(3, 66),
+        Line(17),
+        Line(19),
+        Next,
+        SEND,
+        Show(1),
+    ];
+    let found = run(
+        "listening",
+        (4, 1),
+        &start,
+        &[&roles[..], &calls].concat(),
+        EVERY_STATE,
+    );
+    assert!(found.added > 0 && found.refused[4] > 0);
+}
+
+#[test]
+fn roles() {
+    let start = [Line(50), Line(51)];
+    let addresses = [ASSIGN, frame(5, 158), frame(5, 159), frame(4, 154)];
+    let talking = [TALK, frame(4, 66), UNTALK, SEND, SEND_STATUS, FINISH];
+    let listening = [LISTEN, frame(4, 62), UNLISTEN, frame(2, 50), frame(4, 4)];
+    let both = [
+        frame(4, 144),
+        frame(4, 146),
+        frame(4, 147),
+        frame(4, 1),
+        Reset,
+        Frame(2048),
+    ];
+    let calls = [&addresses[..], &talking, &listening, &both].concat();
+    let found = run("roles", (4, 1), &start, &calls, EVERY_STATE);
+    assert!(found.refused[3] > 0 && found.refused[4] > 0);
+}
+
+#[test]
+fn requests_by_break_overrun_and_key() {
+    let enable = [
+        Register(0, 0),
+        Register(0, 9),
+        Register(2, 0),
+        Register(2, 5),
+    ];
+    let refused = [
+        Register(3, 0),
+        Register(11, 16),
+        Register(11, 4),
+        Register(20, 19),
+    ];
+    let calls = [Line(50), Break, Key, SEND_STATUS, frame(7, 1), CLEAR];
+    let calls = [&enable[..], &refused, &calls].concat();
+    let name = "requests by break, overrun and key";
+    let found = run(name, (4, 1), &[ASSIGN, TALK], &calls, EVERY_STATE);
+    assert!(found.refused[5..].iter().all(|&count| count > 0));
+}
+
+#[test]
+fn requests_by_the_stores() {
+    let start = [
+        ASSIGN,
+        LISTEN,
+        frame(0, 65),
+        frame(0, 66),
+        frame(0, 67),
+        TALK,
+    ];
+    let enable = [
+        Register(0, 0),
+        Register(0, 8),
+        Register(1, 0),
+        Register(1, 15),
+    ];
+    let calls = [Line(50), SEND, SEND_STATUS, IDENTIFY, Next];
+    let calls = [&enable[..], &calls].concat();
+    let found = run(
+        "requests by the stores",
+        (4, 1),
+        &start,
+        &calls,
+        EVERY_STATE,
+    );
+    assert!(found.sent > 0 && found.status_back > 0);
+}
+
+#[test]
+fn holding_off() {
+    let line = [Line(50), Line(17), Line(19), Next];
+    let calls = [SEND, Register(11, 0), Register(11, 8), CLEAR];
+    let calls = [&line[..], &calls].concat();
+    let found = run("holding off", (4, 1), &[ASSIGN, TALK], &calls, EVERY_STATE);
+    assert!(found.sent > 0 && found.lost > 0);
+}
+
+#[test]
+fn holding_off_with_more_room() {
+    let start = [ASSIGN, LISTEN, frame(0, 65), TALK];
+    let line = [Line(50), Line(17), Line(19), Next];
+    let calls = [
+        SEND,
+        FINISH,
+        OTHER_COMMAND,
+        Register(11, 8),
+        Reset,
+        ASSIGN,
+        TALK,
+    ];
+    let calls = [&line[..], &calls].concat();
+    let found = run("holding off, store 6", (6, 2), &start, &calls, EVERY_STATE);
+    assert!(found.sent > 0 && found.lost > 0);
+}
+
+#[test]
+fn reading_off_with_more_room() {
+    let bytes = [Line(13), Line(10), Line(50)];
+    let calls = [SEND, SEND_STATUS, FINISH, OTHER_COMMAND, Next, Show(0)];
+    let start = [Register(10, 8), ASSIGN, TALK];
+    let calls = [&bytes[..], &calls].concat();
+    let name = "reading off and status, store 6";
+    let found = run(name, (6, 2), &start, &calls, first_states());
+    assert!(found.sent > 0 && found.status_back > 0);
+}
+
+#[test]
+fn all_together() {
+    let line = [
+        Line(13),
+        Line(10),
+        Line(50),
+        Line(17),
+        Line(19),
+        Break,
+        Key,
+        Next,
+    ];
+    let roles = [ASSIGN, TALK, LISTEN, UNTALK, UNLISTEN, CLEAR];
+    let frames = [
+        SEND,
+        SEND_STATUS,
+        FINISH,
+        IDENTIFY,
+        frame(0, 65),
+        frame(3, 66),
+        Frame(2048),
+    ];
+    let writes = [
+        Register(0, 9),
+        Register(1, 15),
+        Register(2, 5),
+        Register(10, 12),
+    ];
+    let more = [
+        Register(11, 0),
+        Register(11, 8),
+        Register(21, 17),
+        Reset,
+        Show(0),
+        Show(1),
+    ];
+    let calls = [&line[..], &roles, &frames, &writes, &more].concat();
+    let found = run("all together", (6, 2), &[], &calls, first_states());
+    assert!(found.sent > 0 && found.added > 0 && found.status_back > 0);
+}

@@ -1,0 +1,268 @@
+//! What the user could not test: a buffer that fills in the very call that drains it, an end of
+//! line cut between its two characters, damage on the loop while the status byte is under way, and
+//! every order of meter bytes, loop frames and key presses. Answers are written from the paper.
+
+use checks::answer::{byte, framed, refused, DONE, NONE};
+use checks::call::{frame, Call};
+use checks::pair::Pair;
+use Call::{Key, Line, Next, Register};
+
+const SEND: Call = frame(5, 96);
+const SEND_STATUS: Call = frame(5, 97);
+/// The end of a sending: all well, or our frame came back damaged.
+const OVER: u64 = framed(5, 64);
+const DAMAGED: u64 = framed(5, 65);
+
+/// A bridge with address 1, addressed to talk, that detects ends of line; transmit store 3.
+fn talker(rx_len: usize, margin: u32) -> Pair {
+    let mut pair = Pair::create(rx_len, 3, margin);
+    pair.expect(Register(10, 8), DONE);
+    pair.expect(frame(5, 129), framed(5, 130));
+    pair.expect(frame(4, 65), framed(4, 65));
+    pair
+}
+
+fn lines(pair: &mut Pair, bytes: &[u8]) {
+    for &byte in bytes {
+        pair.expect(Line(byte), DONE);
+    }
+}
+
+#[test]
+fn receive_store_fills_in_the_call_that_drains_it() {
+    let mut pair = talker(4, 1);
+    lines(&mut pair, b"0123");
+    pair.expect(Next, byte(19));
+    pair.expect(SEND, framed(0, 48));
+    // Three times round: the meter's next byte takes the place that the sending has just left.
+    for number in 0..12 {
+        pair.expect(Line(52 + number), DONE);
+        pair.expect(
+            frame(0, 48 + u32::from(number)),
+            framed(0, 49 + u64::from(number)),
+        );
+    }
+    let state = pair.state().expect("a state");
+    assert_eq!((state.stored, state.lost, state.sent), (16, 0, 13));
+    // One byte fills it again, the next is lost and told.
+    lines(&mut pair, b"@A");
+    let state = pair.state().expect("a state");
+    assert_eq!(
+        (state.stored, state.lost, state.overrun_seen),
+        (17, 1, true)
+    );
+    println!(
+        "the very call, receive store: {} answers as written",
+        pair.asked()
+    );
+}
+
+#[test]
+fn an_end_byte_drains_three_and_a_send_without_a_frame_the_rest() {
+    let mut pair = talker(4, 1);
+    lines(&mut pair, b"2\r\n\r");
+    pair.expect(Next, byte(19));
+    pair.expect(SEND, framed(2, 50));
+    pair.expect(Next, byte(17));
+    // Full again while the frame is under way: held are CR LF 5 CR.
+    lines(&mut pair, b"\n5\r");
+    pair.expect(Next, byte(19));
+    // Its return removes the pair, has no frame yet, and holding off ends in that call.
+    pair.expect(frame(2, 50), OVER);
+    pair.expect(Next, byte(17));
+    lines(&mut pair, b"\n");
+    pair.expect(SEND, framed(2, 53));
+    pair.expect(frame(2, 53), OVER);
+    let state = pair.state().expect("a state");
+    assert_eq!((state.receive.held, state.lost, state.sent), (0, 0, 2));
+    println!(
+        "the very call, end bytes: {} answers as written",
+        pair.asked()
+    );
+}
+
+#[test]
+fn transmit_store_fills_in_the_call_that_follows_the_drain() {
+    let mut pair = talker(4, 1);
+    pair.expect(Register(10, 4), DONE);
+    pair.expect(frame(4, 33), framed(4, 33));
+    pair.expect(frame(2, 50), framed(2, 50));
+    // Held are 2 CR LF: full, so busy, until the line takes a byte.
+    for (data, given) in [(51, 50), (52, 13), (53, 10)] {
+        pair.expect(frame(0, data), refused(4));
+        pair.expect(Next, byte(given));
+        pair.expect(frame(0, data), framed(0, data.into()));
+    }
+    for given in [51, 52, 53] {
+        pair.expect(Next, byte(given));
+    }
+    pair.expect(Next, NONE);
+    println!(
+        "the very call, transmit store: {} answers as written",
+        pair.asked()
+    );
+}
+
+#[test]
+fn end_of_line_cut_between_its_two_characters() {
+    let mut pair = talker(8, 3);
+    lines(&mut pair, b"2.5\r");
+    pair.expect(SEND, framed(0, 50));
+    pair.expect(frame(0, 50), framed(0, 46));
+    // The 5 and its CR are undecided, however often one asks.
+    pair.expect(frame(0, 46), OVER);
+    pair.expect(SEND, OVER);
+    pair.expect(SEND, OVER);
+    lines(&mut pair, b"\n");
+    pair.expect(SEND, framed(2, 53));
+    pair.expect(frame(2, 53), OVER);
+    // A CR that no LF follows is data.
+    lines(&mut pair, b"7\r");
+    pair.expect(SEND, OVER);
+    lines(&mut pair, b"8");
+    pair.expect(SEND, framed(0, 55));
+    pair.expect(frame(0, 55), framed(0, 13));
+    pair.expect(frame(0, 13), OVER);
+    println!("cut end of line: {} answers as written", pair.asked());
+}
+
+#[test]
+fn end_of_line_cut_by_a_full_store() {
+    let mut pair = talker(4, 1);
+    // The LF is lost, so the 5 is no end byte any more; the status byte tells of it.
+    lines(&mut pair, b"2.5\r\n");
+    pair.expect(SEND_STATUS, framed(0, 0b0010_1111));
+    pair.expect(frame(0, 0b0010_1111), OVER);
+    pair.expect(SEND, framed(0, 50));
+    pair.expect(frame(0, 50), framed(0, 46));
+    pair.expect(frame(0, 46), OVER);
+    lines(&mut pair, b"9");
+    pair.expect(SEND, framed(0, 53));
+    pair.expect(frame(0, 53), framed(0, 13));
+    println!(
+        "end of line cut by a full store: {} answers as written",
+        pair.asked()
+    );
+}
+
+/// A talker with a full receive store that has lost one byte.
+fn lost_one() -> Pair {
+    let mut pair = talker(4, 1);
+    lines(&mut pair, b"01234");
+    pair
+}
+
+/// Its status byte: overrun, receive full and not empty, transmit not full and empty.
+const LOST_ONE: u32 = 0b0010_1111;
+
+#[test]
+fn every_damage_while_the_status_byte_is_under_way() {
+    let (mut damaged, mut unchanged) = (0, 0);
+    for back in 0..1024 {
+        let mut pair = lost_one();
+        pair.expect(SEND_STATUS, framed(0, LOST_ONE.into()));
+        // Control 1 is the same with another device's service request.
+        if back == LOST_ONE || back == 256 + LOST_ONE {
+            pair.expect(Call::Frame(back), OVER);
+            pair.expect(SEND_STATUS, framed(0, 0b0000_1111));
+            unchanged += 1;
+        } else {
+            pair.expect(Call::Frame(back), DAMAGED);
+            pair.expect(SEND_STATUS, framed(0, LOST_ONE.into()));
+            damaged += 1;
+        }
+    }
+    assert_eq!((damaged, unchanged), (1022, 2));
+    println!("status under way: {damaged} damages kept the bit, {unchanged} returns cleared it");
+}
+
+#[test]
+fn loss_and_commands_while_the_status_byte_is_under_way() {
+    // A byte lost in between: the return is unchanged, the bit stays.
+    let mut pair = lost_one();
+    pair.expect(SEND_STATUS, framed(0, LOST_ONE.into()));
+    lines(&mut pair, b"5");
+    pair.expect(frame(0, LOST_ONE), OVER);
+    pair.expect(SEND_STATUS, framed(0, LOST_ONE.into()));
+    pair.expect(frame(0, LOST_ONE), OVER);
+    pair.expect(SEND_STATUS, framed(0, 0b0000_1111));
+    // Any command: the status byte is forgotten, passes when it comes round, and the bit stays.
+    let mut forgotten = 0;
+    for command in (0..256).filter(|&command| command != 20) {
+        let mut pair = lost_one();
+        pair.expect(SEND_STATUS, framed(0, LOST_ONE.into()));
+        pair.expect(frame(4, command), framed(4, command.into()));
+        pair.expect(frame(0, LOST_ONE), framed(0, LOST_ONE.into()));
+        assert!(pair.state().expect("a state").overrun_seen);
+        forgotten += 1;
+    }
+    println!("status under way: 1 loss in between, {forgotten} times forgotten by a command");
+}
+
+/// The moves of three parties, each of which keeps its own order.
+#[derive(Clone, Copy)]
+enum Move {
+    Meter,
+    Loop,
+    Key,
+}
+
+/// Calls `each` with every order of so many moves of each party.
+fn every_order(left: [usize; 3], order: &mut Vec<Move>, each: &mut dyn FnMut(&[Move])) {
+    if left == [0; 3] {
+        return each(order);
+    }
+    for (party, next) in [Move::Meter, Move::Loop, Move::Key].into_iter().enumerate() {
+        if left[party] > 0 {
+            let mut less = left;
+            less[party] -= 1;
+            order.push(next);
+            every_order(less, order, each);
+            order.pop();
+        }
+    }
+}
+
+/// One move of the loop: asks for data, or returns the frame under way. Data frames are heard.
+fn turn(pair: &mut Pair, heard: &mut Vec<u64>) -> bool {
+    let under_way = heard
+        .last()
+        .filter(|_| pair.state().map_or(0, |s| s.talker) == 2);
+    let call = under_way.map_or(SEND, |&frame| Call::Frame(frame as u32 & 0x7ff));
+    let answer = pair
+        .call(call)
+        .unwrap_or_else(|finding| panic!("{finding}"));
+    if answer != OVER {
+        heard.push(answer);
+    }
+    answer != OVER
+}
+
+#[test]
+fn every_order_of_meter_bytes_loop_frames_and_key_presses() {
+    let (mut orders, mut whole, mut told) = (0, 0, 0);
+    for (rx_len, margin) in [(4, 1), (8, 3)] {
+        every_order([5, 5, 1], &mut Vec::new(), &mut |order| {
+            let mut pair = talker(rx_len, margin);
+            let (mut meter, mut heard) = (b"2.5\r\n".iter(), Vec::new());
+            for next in order {
+                match next {
+                    Move::Meter => pair.expect(Line(*meter.next().expect("5 bytes")), DONE),
+                    Move::Loop => drop(turn(&mut pair, &mut heard)),
+                    Move::Key => pair.expect(Key, DONE),
+                }
+            }
+            while turn(&mut pair, &mut heard) {}
+            // Only five bytes into four places can lose one, the last; then the bit is set.
+            let all = [framed(0, 50), framed(0, 46), framed(2, 53)];
+            let state = pair.state().expect("a state");
+            assert!(state.key_seen && state.overrun_seen == (state.lost > 0));
+            assert_eq!(heard == all, state.lost == 0, "{}", pair.script());
+            orders += 1;
+            whole += usize::from(heard == all);
+            told += usize::from(state.overrun_seen);
+        });
+    }
+    assert!(whole + told == orders && told > 0);
+    println!("every order: {orders} orders, {whole} whole readings, {told} losses told");
+}
