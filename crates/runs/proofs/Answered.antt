@@ -1,17 +1,19 @@
 -- The frames that we answer with. Assumes nothing.
-use Prim.Native.Nat.{ℕ, _+_, _/_, _%_, _≤_, _<_}
+use Prim.Native.Nat.{ℕ, _≤_, _<_}
 use native.Mathlib.Omega.{arith}
-use mathlib.Core.Path.{_≡_, refl, _∙_}
+use mathlib.Core.Path.{_≡_, refl, ap, _∙_}
 use mathlib.Core.Bool.{Bool, true, false, cond}
-use borrow.Author.Tests.{lt-ltb, eq-eqb, ne-eqb}
+use mathlib.Core.List.{[], _∷_}
+use borrow.Author.Tests.{lt-ltb}
+use Rattle.cases.proofs.Cases.{cond-true}
 use Rattle.frame.specs.Frame.{controlOf, made, isData, stripped, withService}
-use Rattle.frame.proofs.Laws.{kind-service, stripped-service}
-use Rattle.status.specs.Status.{statusByte, showed}
+use Rattle.frame.proofs.Laws.{made-parts, kind-service, stripped-service}
+use Rattle.status.specs.Status.{statusByte}
 use Rattle.state.specs.declared.State.{State}
 use Rattle.state.specs.declared.Answer.the-variants.{Frame}
 use Rattle.state.specs.Answers.{said}
 use Rattle.state.specs.Status.{conditions, shows, serviced, statusOf}
-use Rattle.runs.specs.Observers.{isDataFrame}
+use Rattle.runs.specs.Observers.{dataFrame}
 
 -- the service bit leaves the rest of a frame alone
 pub serviced-kind : (s : State) (f : ℕ) → isData (serviced s f) ≡ isData f
@@ -31,7 +33,7 @@ serviced-rest s f = go (shows s)
     go false = refl
 
 -- the status byte is a byte
-weight : (t : Bool) (n : ℕ) → cond t n 0 ≤ n
+pub weight : (t : Bool) (n : ℕ) → cond t n 0 ≤ n
 weight true n = omega arith
 weight false n = omega arith
 
@@ -42,26 +44,9 @@ status-small s =
     omega
     (arith, weight (c .txempty) 1, weight (c .txroom) 2, weight (c .rxsome) 4, weight (c .rxfull) 8, weight (c .brk) 16, weight (c .overrun) 32, weight (shows s) 64, weight (c .key) 128)
 
--- bit 5 of it is overrun
-bit-five : (low next : ℕ) (o r k : Bool) → low ≤ 15 → next ≤ 16 → showed (low + ((next + cond o 32 0) + cond r 64 0 + cond k 128 0)) 32 ≡ o
-bit-five low next true true true h g = eq-eqb ((low + ((next + 32) + 64 + 128)) / 32 % 2) 1 (omega arith)
-bit-five low next true true false h g = eq-eqb ((low + ((next + 32) + 64 + 0)) / 32 % 2) 1 (omega arith)
-bit-five low next true false true h g = eq-eqb ((low + ((next + 32) + 0 + 128)) / 32 % 2) 1 (omega arith)
-bit-five low next true false false h g = eq-eqb ((low + ((next + 32) + 0 + 0)) / 32 % 2) 1 (omega arith)
-bit-five low next false true true h g = ne-eqb ((low + ((next + 0) + 64 + 128)) / 32 % 2) 1 (λ e. omega arith)
-bit-five low next false true false h g = ne-eqb ((low + ((next + 0) + 64 + 0)) / 32 % 2) 1 (λ e. omega arith)
-bit-five low next false false true h g = ne-eqb ((low + ((next + 0) + 0 + 128)) / 32 % 2) 1 (λ e. omega arith)
-bit-five low next false false false h g = ne-eqb ((low + ((next + 0) + 0 + 0)) / 32 % 2) 1 (λ e. omega arith)
-
-pub overrun-shown : (s : State) → showed (statusOf s) 32 ≡ s .notes .seen .overrun
-unfolding statusOf statusByte conditions
-overrun-shown s =
-    let c = conditions s in
-    bit-five ((cond (c .txempty) 1 0 + cond (c .txroom) 2 0) + cond (c .rxsome) 4 0 + cond (c .rxfull) 8 0) (cond (c .brk) 16 0) (c .overrun) (shows s) (c .key)
-    (omega (arith, weight (c .txempty) 1, weight (c .txroom) 2, weight (c .rxsome) 4, weight (c .rxfull) 8))
-    (weight (c .brk) 16)
-
--- and its frame a data frame
-pub status-frame : (s : State) → isDataFrame (said (Frame (serviced s (made 0 (statusOf s))))) ≡ true
+-- its frame, "the service bit aside", is what it is
+pub status-frame : (s : State) → dataFrame (said (Frame (serviced s (made 0 (statusOf s))))) ≡ stripped (made 0 (statusOf s)) ∷ []
 unfolding said
-status-frame s = serviced-kind s (made 0 (statusOf s)) ∙ lt-ltb (controlOf (made 0 (statusOf s))) 4 (omega (arith, status-small s))
+status-frame s =
+    cond-true _ _ _ (serviced-kind s (made 0 (statusOf s)) ∙ lt-ltb (controlOf (made 0 (statusOf s))) 4 (omega (arith, status-small s)))
+    ∙ ap (λ n. n ∷ []) (ap stripped (made-parts (serviced s (made 0 (statusOf s)))) ∙ serviced-rest s (made 0 (statusOf s)))

@@ -17,7 +17,7 @@ use Rattle.runs.specs.Observers.{accepted, lost, sent}
 use Rattle.runs.specs.Run.{answer, after, end, all, begins}
 use Rattle.runs.specs.Worlds.{heldToSend, Bytes}
 use Rattle.runs.specs.Counts.{wrapped, Small, CountsGo, CountsSince}
-use Rattle.runs.proofs.Shapes.{Seen, seen, Heart, heart, Shape, isStill, isBegun, isWritten, isCleared, isStored, isLost, isSent, isNone, isAsked, isBack, isLeft, isHanded}
+use Rattle.runs.proofs.Shapes.{Seen, seen, Heart, heart, Shape, isStill, isBegun, isWritten, isCleared, isStored, isLost, isSent, isNone, isLeft, isHanded}
 use Rattle.runs.proofs.View.{view}
 use Rattle.runs.proofs.Bytes.{bytes-first, sent-plain}
 use Rattle.runs.proofs.Sends.{seen-plain}
@@ -57,8 +57,6 @@ module _ (w : World) (S : Small w) where
         sent = ap (λ k. wrapped (w .state .counts .sent + length k)) (sym (seen-plain (w .state) f (sent-plain (ruleOf (w .state .regs)) (heldToSend w) f r e B)));
       }
   stepped x h rx tx (isNone r F e) n B = same x refl refl refl
-  stepped x h rx tx isAsked n B = same x refl refl refl
-  stepped x h rx tx (isBack d) n B = same x refl refl refl
   stepped x h rx tx (isLeft l F e) n B = same x refl refl refl
   stepped x h rx tx (isHanded F e) n B = same x refl refl refl
 
@@ -105,8 +103,6 @@ begun-zero w x h rx tx (isStored b F l) n = absurd (false≢true n)
 begun-zero w x h rx tx (isLost b l) n = absurd (false≢true n)
 begun-zero w x h rx tx (isSent f r F e) n = absurd (false≢true n)
 begun-zero w x h rx tx (isNone r F e) n = absurd (false≢true n)
-begun-zero w x h rx tx isAsked n = absurd (false≢true n)
-begun-zero w x h rx tx (isBack d) n = absurd (false≢true n)
 begun-zero w x h rx tx (isLeft l F e) n = absurd (false≢true n)
 begun-zero w x h rx tx (isHanded F e) n = absurd (false≢true n)
 

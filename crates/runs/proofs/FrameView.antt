@@ -33,18 +33,15 @@ use Rattle.loops.specs.Sending.{ruleOf, removedState, sendState, sendFrom, send
 use Rattle.loops.specs.Frames.{isClear, orderIn, obeyed, cleared, commandState, command, finishing, readied, ready, returned, dataPassed, identify, frameTaken, deviceClear, leavesBytes, frameBytes}
 use Rattle.bridge.specs.Calls.{loopFrame, World, outcome, settledBy, rxAfter, txAfter}
 use Rattle.bridge.specs.Calls as calls
-use Rattle.runs.specs.Observers.{dataFrame, isDataFrame, equalReturn, isSend, asksStatus, statusReturn, isDeviceClear, arrived, accepted, sent, statusSent, statusBack, left, handedOut, restarts, writes, clears}
-use Rattle.runs.proofs.Answered.{status-frame}
-use Rattle.runs.proofs.Shapes.{seen, Heart, heart, frames, Fits, Shape, isStill, isCleared, isSent, isNone, isAsked, isBack, isLeft}
+use Rattle.runs.specs.Observers.{dataFrame, equalReturn, isSend, isDeviceClear, arrived, sent, left, handedOut, restarts, writes, clears}
+use Rattle.runs.proofs.Shapes.{seen, Heart, heart, frames, Fits, Shape, isStill, isCleared, isSent, isNone, isLeft}
 use Rattle.runs.proofs.Quiet.{Shaped, quietly}
 
 -- ---- frames
 
 -- what a frame is to us
-record Marks (s : State) (f : ℕ) (p q r l c : Bool) : Type 0 where
+record Marks (s : State) (f : ℕ) (p l c : Bool) : Type 0 where
   send : isSend s f ≡ p
-  asks : asksStatus s f ≡ q
-  back : statusReturn s f ≡ r
   adds : (isData f && s .role .listener) ≡ l
   clear : isDeviceClear s f ≡ c
 
@@ -53,36 +50,31 @@ abbrev FrameShaped : (w : World) → ℕ → List ℕ → Outcome → Type 0
 FrameShaped w f tx o = Shape w (seen (loopFrame f) w (said (o .answer))) (heart (o .state)) (w .rx) tx
 
 module _ (w : World) (f : ℕ) where
-  marked : (x : ℕ) (send asks back adds clear : Bool) (h : Heart) (tx : List ℕ) → Marks (w .state) f send asks back adds clear →
-      Shape w (frames (cond send (dataFrame (said (Frame x))) []) (asks && isDataFrame (said (Frame x))) back (cond adds (leaves (w .state .regs) f) []) clear) h (w .rx) tx →
+  marked : (x : ℕ) (send adds clear : Bool) (h : Heart) (tx : List ℕ) → Marks (w .state) f send adds clear →
+      Shape w (frames (cond send (dataFrame (said (Frame x))) []) (cond adds (leaves (w .state .regs) f) []) clear) h (w .rx) tx →
       Shape w (seen (loopFrame f) w (said (Frame x))) h (w .rx) tx
-  unfolding arrived sent statusSent statusBack left handedOut restarts writes clears said
-  marked x p q r l c h tx m sh =
+  unfolding arrived sent left handedOut restarts writes clears said
+  marked x p l c h tx m sh =
       quietly (loopFrame f) w (said (Frame x)) h (w .rx) tx refl
       (subst (λ z. Shape w z h (w .rx) tx)
-      (λ i. frames (cond (sym (m .send) i) (dataFrame (said (Frame x))) []) (sym (m .asks) i && isDataFrame (said (Frame x))) (sym (m .back) i) (cond (sym (m .adds) i) (leaves (w .state .regs) f) []) (sym (m .clear) i))
+      (λ i. frames (cond (sym (m .send) i) (dataFrame (said (Frame x))) []) (cond (sym (m .adds) i) (leaves (w .state .regs) f) []) (sym (m .clear) i))
       sh)
 
   -- nothing of note
-  other : (o : Outcome) (x : ℕ) → o .answer ≡ Frame x → heart (o .state) ≡ heart (w .state) → Marks (w .state) f false false false false false → FrameShaped w f (w .tx) o
+  other : (o : Outcome) (x : ℕ) → o .answer ≡ Frame x → heart (o .state) ≡ heart (w .state) → Marks (w .state) f false false false → FrameShaped w f (w .tx) o
   other o x e h m =
       subst (λ a. Shape w (seen (loopFrame f) w (said a)) (heart (o .state)) (w .rx) (w .tx)) (sym e)
       (subst (λ z. Shape w (seen (loopFrame f) w (said (Frame x))) z (w .rx) (w .tx)) (sym h)
-      (marked x false false false false false (heart (w .state)) (w .tx) m isStill))
+      (marked x false false false (heart (w .state)) (w .tx) m isStill))
 
   -- a send
-  send-shape : Fits w → Marks (w .state) f true false false false false → FrameShaped w f (w .tx) (sendFrom (w .state) (w .rx))
+  send-shape : Fits w → Marks (w .state) f true false false → FrameShaped w f (w .tx) (sendFrom (w .state) (w .rx))
   unfolding sendFrom sendState ended talking removedState resumed said
   send-shape F m = go (sendHeld (ruleOf (w .state .regs)) (w .rx) (w .state .rx)) refl
     where
       go : (x : Sent ℕ ℕ) → sendHeld (ruleOf (w .state .regs)) (w .rx) (w .state .rx) ≡ x → FrameShaped w f (w .tx) (sendState (w .state) (removedState (w .state) (w .rx)) (givenOf x))
-      go (none r) e = marked (made 5 64) true false false false false _ (w .tx) m (isNone r F e)
-      go (one g r) e = marked (status.serviced (w .state) g) true false false false false _ (w .tx) m (isSent g r F e)
-
-  -- a status byte
-  status-shape : Marks (w .state) f false true false false false → FrameShaped w f (w .tx) (sendStatus (w .state))
-  unfolding sendStatus talking status.statusSent
-  status-shape m = marked _ false true false false false _ (w .tx) m (subst (λ q. Shape w (frames [] q false [] false) (heart (sendStatus (w .state) .state)) (w .rx) (w .tx)) (sym (status-frame (w .state))) isAsked)
+      go (none r) e = marked (made 5 64) true false false _ (w .tx) m (isNone r F e)
+      go (one g r) e = marked (status.serviced (w .state) g) true false false _ (w .tx) m (isSent g r F e)
 
 -- ---- data frames
 
@@ -94,10 +86,6 @@ module _ (w : World) (F : Fits w) (f : ℕ) (D : isData f ≡ true) where
   no-clear : isDeviceClear (w .state) f ≡ false
   unfolding isDeviceClear
   no-clear = simp (ne-eqb (controlOf f) 4 (λ h. omega (arith, ltb-true (controlOf f) 4 D)))
-
-  no-asks : asksStatus (w .state) f ≡ false
-  unfolding asksStatus
-  no-asks = simp no-ready
 
   role-fits : role-fit.Fit (w .state .role)
   role-fits = role-laws.fit-true (w .state .role) (tests (w .state) (length (w .rx)) (length (w .tx)) F .role)
@@ -111,14 +99,12 @@ module _ (w : World) (F : Fits w) (f : ℕ) (D : isData f ≡ true) where
         go true e = absurd (omega (arith, leb-true 2 (w .state .role .talker) A, role-fits .apart e))
         go false e = refl
 
-    return-marks : (m p e k : Bool) → sameApart f (w .state .under .frame) ≡ m → eqb (w .state .role .talker) 2 ≡ p → w .state .under .finishing ≡ e → eqb (w .state .role .talker) 3 ≡ k →
-        Marks (w .state) f (m && (p && not e)) false (m && k) false false
-    unfolding isSend statusReturn equalReturn
-    return-marks m p e k hm hp he hk =
+    return-marks : (m p e : Bool) → sameApart f (w .state .under .frame) ≡ m → eqb (w .state .role .talker) 2 ≡ p → w .state .under .finishing ≡ e →
+        Marks (w .state) f (m && (p && not e)) false false
+    unfolding isSend equalReturn
+    return-marks m p e hm hp he =
         record {
           send = simp (no-ready, D, A, hm, hp, he);
-          asks = no-asks;
-          back = simp (D, A, hm, hk);
           adds = simp (D, no-listener);
           clear = no-clear;
         }
@@ -134,30 +120,27 @@ module _ (w : World) (F : Fits w) (f : ℕ) (D : isData f ≡ true) where
         go : (m k e : Bool) → sameApart f (w .state .under .frame) ≡ m → eqb (w .state .role .talker) 3 ≡ k → w .state .under .finishing ≡ e →
             FrameShaped w f (w .tx) (cond m (cond k (ended (status.statusBack s (dataOf (s .under .frame))) 64) (cond e (ended s 64) (sendFrom s (w .rx)))) (ended s 65))
         go false k e hm hk he =
-            other w f (ended s 65) (made 5 65) refl refl (return-marks false (eqb (s .role .talker) 2) e k hm refl he hk)
+            other w f (ended s 65) (made 5 65) refl refl (return-marks false (eqb (s .role .talker) 2) e hm refl he)
         go true true e hm hk he =
-            marked w f (made 5 64) false false true false false _ (w .tx)
-            (return-marks true false e true hm (ne-eqb (s .role .talker) 2 (λ h. omega (arith, eqb-true (s .role .talker) 3 hk))) he hk)
-            (isBack (dataOf (s .under .frame)))
+            other w f (ended (status.statusBack s (dataOf (s .under .frame))) 64) (made 5 64) refl refl
+            (return-marks true false e hm (ne-eqb (s .role .talker) 2 (λ h. omega (arith, eqb-true (s .role .talker) 3 hk))) he)
         go true false true hm hk he =
-            other w f (ended s 64) (made 5 64) refl refl (return-marks true true true false hm two he hk)
+            other w f (ended s 64) (made 5 64) refl refl (return-marks true true true hm two he)
           where
             two : eqb (s .role .talker) 2 ≡ true
             two = eq-eqb (s .role .talker) 2 (omega (arith, leb-true 2 (s .role .talker) A, role-fits .phase, eqb-false (s .role .talker) 3 hk))
-        go true false false hm hk he = send-shape w f F (return-marks true true false false hm two he hk)
+        go true false false hm hk he = send-shape w f F (return-marks true true false hm two he)
           where
             two : eqb (s .role .talker) 2 ≡ true
             two = eq-eqb (s .role .talker) 2 (omega (arith, leb-true 2 (s .role .talker) A, role-fits .phase, eqb-false (s .role .talker) 3 hk))
 
   -- a data frame that passes
   module _ (A : isActive (w .state .role) ≡ false) (B : busy (w .state) f ≡ false) where
-    pass-marks : (l : Bool) → w .state .role .listener ≡ l → Marks (w .state) f false false false l false
-    unfolding isSend statusReturn equalReturn
+    pass-marks : (l : Bool) → w .state .role .listener ≡ l → Marks (w .state) f false l false
+    unfolding isSend equalReturn
     pass-marks l e =
         record {
           send = simp (no-ready, D, A);
-          asks = no-asks;
-          back = simp (D, A);
           adds = simp (D, e);
           clear = no-clear;
         }
@@ -174,13 +157,13 @@ module _ (w : World) (F : Fits w) (f : ℕ) (D : isData f ≡ true) where
     pass-shape = go (w .state .role .listener) refl
       where
         go : (l : Bool) → w .state .role .listener ≡ l → Shape w (seen (loopFrame f) w (said (Frame (status.serviced (w .state) f)))) (heart (cond l (leftState (w .state) f) (w .state))) (w .rx) (cond l (leftBytes (w .state) (w .tx) f) (w .tx))
-        go true e = marked w f (status.serviced (w .state) f) false false false true false _ _ (pass-marks true e) (isLeft (leaves (w .state .regs) f) F (room e))
-        go false e = marked w f (status.serviced (w .state) f) false false false false false _ _ (pass-marks false e) isStill
+        go true e = marked w f (status.serviced (w .state) f) false true false _ _ (pass-marks true e) (isLeft (leaves (w .state .regs) f) F (room e))
+        go false e = marked w f (status.serviced (w .state) f) false false false _ _ (pass-marks false e) isStill
 
 -- ---- other frames
 
 -- which commands are a device clear
-clear-order : (r : Role) (d : ℕ) → isClear (orderOf 31 r d) ≡ (eqb d 20 || (eqb d 4 && r .listener))
+pub clear-order : (r : Role) (d : ℕ) → isClear (orderOf 31 r d) ≡ (eqb d 20 || (eqb d 4 && r .listener))
 unfolding orderOf listenOrder talkOrder otherOrder
 clear-order r d =
     by-cond (λ o. isClear o ≡ rest) (eqb (d - d % 32) 32) _ _
@@ -204,16 +187,19 @@ clear-order r d =
     high : 32 ≤ d → rest ≡ false
     high h = λ i. ne-eqb d 20 (λ e. omega arith) i || (ne-eqb d 4 (λ e. omega arith) i && r .listener)
 
+-- a ready frame that gives an address is no other
+pub address-high : (r : Role) (d n : ℕ) → n < 128 → givesAddress r d ≡ true → d ≡ n → ⊥
+address-high r d n h e q =
+    let b : eqb (d - d % 32) 128 ≡ true = and-left _ _ (and-left _ _ e) in
+    omega (arith, eqb-true (d - d % 32) 128 b)
+
 module _ (w : World) (f : ℕ) (D : isData f ≡ false) where
   -- no data frame is a return
-  other-marks : (r c : Bool) (d q : Bool) → eqb (controlOf f) 5 ≡ r → isDeviceClear (w .state) f ≡ c → (eqb (dataOf f) 96 && eqb (w .state .role .talker) 1) ≡ d →
-      (eqb (dataOf f) 97 && eqb (w .state .role .talker) 1) ≡ q → Marks (w .state) f (r && d) (r && q) false false c
-  unfolding isSend asksStatus statusReturn equalReturn
-  other-marks r c d q hr hc hd hq =
+  other-marks : (r c d : Bool) → eqb (controlOf f) 5 ≡ r → isDeviceClear (w .state) f ≡ c → (eqb (dataOf f) 96 && eqb (w .state .role .talker) 1) ≡ d → Marks (w .state) f (r && d) false c
+  unfolding isSend equalReturn
+  other-marks r c d hr hc hd =
       record {
         send = simp (hr, D, hd) (no-more (r && d));
-        asks = simp (hr, hq);
-        back = simp D;
         adds = simp D;
         clear = hc;
       }
@@ -237,8 +223,8 @@ module _ (w : World) (f : ℕ) (D : isData f ≡ false) where
       o = obeyed (w .state) (orderIn (w .state) f)
 
       go : (c : Bool) → isClear (orderIn (w .state) f) ≡ c → FrameShaped w f (w .tx) (record { state = cond c (cleared o) o; answer = Frame f })
-      go true e = marked w f f false false false false true _ (w .tx) (other-marks false true _ _ no-ready5 (clear-is true e) refl refl) isCleared
-      go false e = marked w f f false false false false false _ (w .tx) (other-marks false false _ _ no-ready5 (clear-is false e) refl refl) isStill
+      go true e = marked w f f false false true _ (w .tx) (other-marks false true _ no-ready5 (clear-is true e) refl) isCleared
+      go false e = marked w f f false false false _ (w .tx) (other-marks false false _ no-ready5 (clear-is false e) refl) isStill
 
   module _ (C : eqb (controlOf f) 4 ≡ false) where
     no-clear4 : isDeviceClear (w .state) f ≡ false
@@ -247,9 +233,9 @@ module _ (w : World) (f : ℕ) (D : isData f ≡ false) where
 
     -- a ready frame
     ready-shape : Fits w → eqb (controlOf f) 5 ≡ true → FrameShaped w f (w .tx) (ready (w .state) (w .rx) f)
-    unfolding ready readied readyOf finishing
+    unfolding ready readied readyOf finishing sendStatus talking status.statusSent
     ready-shape F R =
-        go (givesAddress r d) (eqb d 96 && eqb (r .talker) 1) (eqb d 97 && eqb (r .talker) 1) (eqb d 66 && eqb (r .talker) 2) refl refl refl
+        go (givesAddress r d) (eqb d 96 && eqb (r .talker) 1) (eqb d 97 && eqb (r .talker) 1) (eqb d 66 && eqb (r .talker) 2) refl refl
       where
         r : Role
         r = w .state .role
@@ -257,25 +243,20 @@ module _ (w : World) (f : ℕ) (D : isData f ≡ false) where
         d : ℕ
         d = dataOf f
 
-        address-not : (n : ℕ) → n < 128 → givesAddress r d ≡ true → (eqb d n && eqb (r .talker) 1) ≡ false
-        address-not n h e =
-            let b : eqb (d - d % 32) 128 ≡ true = and-left _ _ (and-left _ _ e) in
-            ap (λ t. t && eqb (r .talker) 1) (ne-eqb d n (λ q. omega (arith, eqb-true (d - d % 32) 128 b)))
+        address-not : givesAddress r d ≡ true → (eqb d 96 && eqb (r .talker) 1) ≡ false
+        address-not e = ap (λ t. t && eqb (r .talker) 1) (ne-eqb d 96 (address-high r d 96 (omega arith) e))
 
-        not-both : (eqb d 96 && eqb (r .talker) 1) ≡ true → (eqb d 97 && eqb (r .talker) 1) ≡ false
-        not-both e = ap (λ t. t && eqb (r .talker) 1) (ne-eqb d 97 (λ q. omega (arith, eqb-true d 96 (and-left _ _ e))))
-
-        go : (a x y z : Bool) → givesAddress r d ≡ a → (eqb d 96 && eqb (r .talker) 1) ≡ x → (eqb d 97 && eqb (r .talker) 1) ≡ y →
+        go : (a x y z : Bool) → givesAddress r d ≡ a → (eqb d 96 && eqb (r .talker) 1) ≡ x →
             FrameShaped w f (w .tx) (readied (w .state) (w .rx) f (cond a Address (cond x Data (cond y Status (cond z Finish Pass)))))
-        go true x y z ha hx hy = other w f (readied (w .state) (w .rx) f Address) (made 5 (d + 1)) refl refl (other-marks true false false false R no-clear4 (address-not 96 (omega arith) ha) (address-not 97 (omega arith) ha))
-        go false true y z ha hx hy = send-shape w f F (other-marks true false true false R no-clear4 hx (not-both hx))
-        go false false true z ha hx hy = status-shape w f (other-marks true false false true R no-clear4 hx hy)
-        go false false false true ha hx hy = other w f (readied (w .state) (w .rx) f Finish) f refl refl (other-marks true false false false R no-clear4 hx hy)
-        go false false false false ha hx hy = other w f (readied (w .state) (w .rx) f Pass) f refl refl (other-marks true false false false R no-clear4 hx hy)
+        go true x y z ha hx = other w f (readied (w .state) (w .rx) f Address) (made 5 (d + 1)) refl refl (other-marks true false false R no-clear4 (address-not ha))
+        go false true y z ha hx = send-shape w f F (other-marks true false true R no-clear4 hx)
+        go false false true z ha hx = other w f (readied (w .state) (w .rx) f Status) _ refl refl (other-marks true false false R no-clear4 hx)
+        go false false false true ha hx = other w f (readied (w .state) (w .rx) f Finish) f refl refl (other-marks true false false R no-clear4 hx)
+        go false false false false ha hx = other w f (readied (w .state) (w .rx) f Pass) f refl refl (other-marks true false false R no-clear4 hx)
 
     identify-shape : eqb (controlOf f) 5 ≡ false → FrameShaped w f (w .tx) (identify (w .state) f)
     unfolding identify
-    identify-shape R = other w f (identify (w .state) f) (status.serviced (w .state) f) refl refl (other-marks false false _ _ R no-clear4 refl refl)
+    identify-shape R = other w f (identify (w .state) f) (status.serviced (w .state) f) refl refl (other-marks false false _ R no-clear4 refl)
 
 -- ---- every frame
 

@@ -24,7 +24,7 @@ use Rattle.runs.specs.Observers.{accepted, sent}
 use Rattle.runs.specs.Run.{answer, after, all, Without, changes}
 use Rattle.runs.specs.Worlds.{heldToSend, reading, Bytes}
 use Rattle.runs.specs.Demands.{lineToLoop, FramesRead}
-use Rattle.runs.proofs.Shapes.{Seen, seen, Heart, heart, Fits, Shape, isStill, isBegun, isWritten, isCleared, isStored, isLost, isSent, isNone, isAsked, isBack, isLeft, isHanded}
+use Rattle.runs.proofs.Shapes.{Seen, seen, Heart, heart, Fits, Shape, isStill, isBegun, isWritten, isCleared, isStored, isLost, isSent, isNone, isLeft, isHanded}
 use Rattle.runs.proofs.View.{view}
 use Rattle.runs.proofs.Bytes.{bytes-first, bytes-second, bytes-both, bytes-drop, sent-plain}
 use Rattle.runs.proofs.Sends.{held-sent, seen-plain}
@@ -71,8 +71,6 @@ module _ (w : World) where
       ∙ ap (λ l. l ++ reading w (afterSend w ++ ys))
       (sym (seen-plain (w .state) f (sent-plain (ruleOf (w .state .regs)) (heldToSend w) f r e B)))
   keeps x h rx tx (isNone r F e) n B ys = send-reads (none r) ys F e
-  keeps x h rx tx isAsked n B ys = refl
-  keeps x h rx tx (isBack d) n B ys = refl
   keeps x h rx tx (isLeft l F e) n B ys = refl
   keeps x h rx tx (isHanded F e) n B ys = refl
 
@@ -94,8 +92,6 @@ module _ (w : World) where
   bytes-kept x h rx tx (isLost b l) ys B = B
   bytes-kept x h rx tx (isSent f r F e) ys B = bytes-both (afterSend w) ys (send-bytes (one f r) F e (bytes-first (heldToSend w) ys B)) (bytes-second (heldToSend w) ys B)
   bytes-kept x h rx tx (isNone r F e) ys B = bytes-both (afterSend w) ys (send-bytes (none r) F e (bytes-first (heldToSend w) ys B)) (bytes-second (heldToSend w) ys B)
-  bytes-kept x h rx tx isAsked ys B = B
-  bytes-kept x h rx tx (isBack d) ys B = B
   bytes-kept x h rx tx (isLeft l F e) ys B = B
   bytes-kept x h rx tx (isHanded F e) ys B = B
 

@@ -1,5 +1,6 @@
--- `Shapes` names the kinds of change, `View` finds the kind of every call: with its parts `Quiet`, `LineView` and `FrameView` it is all
--- that knows the conditions of a step. Then each statement by the kinds: `FramesRead`, `Overrun` and `Margin` are demand 3.
+-- `Shapes` names the kinds of change of the stores, `View` finds the kind of every call, with its parts `Quiet`, `LineView` and `FrameView`;
+-- `StatusView` does the same for the status byte. They are all that knows the conditions of a step. Then each statement by the kinds:
+-- `FramesRead`, `Events` and `Margin` are demand 3.
 pub mod Answered
 pub mod Shapes
 pub mod Quiet
@@ -10,7 +11,9 @@ pub mod Bytes
 pub mod Sends
 pub mod Runs
 pub mod FramesRead
-pub mod Overrun
+pub mod StatusView
+pub mod Bits
+pub mod Events
 pub mod Margin
 pub mod LineBytes
 pub mod Counts

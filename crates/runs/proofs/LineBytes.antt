@@ -19,7 +19,7 @@ use Rattle.runs.specs.Observers.{left, handedOut}
 use Rattle.runs.specs.Run.{answer, after, all, Without, empties}
 use Rattle.runs.specs.Worlds.{heldForLine}
 use Rattle.runs.specs.LineBytes.{loopToLine, LineKept, LineSince}
-use Rattle.runs.proofs.Shapes.{Seen, seen, Heart, heart, Fits, Shape, isStill, isBegun, isWritten, isCleared, isStored, isLost, isSent, isNone, isAsked, isBack, isLeft, isHanded}
+use Rattle.runs.proofs.Shapes.{Seen, seen, Heart, heart, Fits, Shape, isStill, isBegun, isWritten, isCleared, isStored, isLost, isSent, isNone, isLeft, isHanded}
 use Rattle.runs.proofs.View.{view}
 use Rattle.runs.proofs.Runs.{first-not, in-plain-words}
 
@@ -54,8 +54,6 @@ keeps w x h rx tx (isStored b F l) n ys = refl
 keeps w x h rx tx (isLost b l) n ys = refl
 keeps w x h rx tx (isSent f r F e) n ys = refl
 keeps w x h rx tx (isNone r F e) n ys = refl
-keeps w x h rx tx isAsked n ys = refl
-keeps w x h rx tx (isBack d) n ys = refl
 keeps w x h rx tx (isLeft l F e) n ys = sym (append-assoc (heldForLine w) l ys) ∙ ap (λ k. k ++ ys) (sym (held-left w F l e))
 keeps w x h rx tx (isHanded F e) n ys = ap (λ k. k ++ ys) (held-handed w F e)
 
@@ -84,8 +82,6 @@ emptied w x h rx tx (isStored b F l) n = absurd (false≢true n)
 emptied w x h rx tx (isLost b l) n = absurd (false≢true n)
 emptied w x h rx tx (isSent f r F e) n = absurd (false≢true n)
 emptied w x h rx tx (isNone r F e) n = absurd (false≢true n)
-emptied w x h rx tx isAsked n = absurd (false≢true n)
-emptied w x h rx tx (isBack d) n = absurd (false≢true n)
 emptied w x h rx tx (isLeft l F e) n = absurd (false≢true n)
 emptied w x h rx tx (isHanded F e) n = absurd (false≢true n)
 

@@ -19,7 +19,7 @@ use Rattle.state.proofs.Fits.{rx-fits}
 use Rattle.line.specs.HoldingOff.{isFlow, flowed, lostState, storedState, lineState, lineBytes, setAfresh, afterWrite, owed, nextOut, goneState, outAnswer}
 use Rattle.line.proofs.Parts.{some-held}
 use Rattle.bridge.specs.Calls.{write, lineByte, nextLineByte, World}
-use Rattle.runs.specs.Observers.{arrived, accepted, lost, sent, statusSent, statusBack, left, handedOut, restarts, writes, clears}
+use Rattle.runs.specs.Observers.{arrived, accepted, lost, sent, left, handedOut, restarts, writes, clears}
 use Rattle.runs.proofs.Shapes.{seen, heart, Fits, Shape, isStill, isWritten, isStored, isLost, isHanded}
 use Rattle.runs.proofs.Quiet.{quiet, quietly}
 
@@ -27,7 +27,7 @@ use Rattle.runs.proofs.Quiet.{quiet, quietly}
 
 module _ (w : World) (F : Fits w) (b : ℕ) where
   pub line-shape : Shape w (seen (lineByte b) w done) (heart (lineState (w .state) b)) (lineBytes (w .state) (w .rx) b) (w .tx)
-  unfolding arrived accepted lost sent statusSent statusBack left handedOut restarts writes clears lineState lineBytes flowed lostState
+  unfolding arrived accepted lost sent left handedOut restarts writes clears lineState lineBytes flowed lostState
   line-shape = by-tests (isFlow (w .state .regs) b) (full (w .state .sizes .rx) (w .state .rx)) refl refl
     where
       by-tests : (t u : Bool) → isFlow (w .state .regs) b ≡ t → full (w .state .sizes .rx) (w .state .rx) ≡ u →
@@ -44,7 +44,7 @@ module _ (w : World) (F : Fits w) (b : ℕ) where
 
 module _ (w : World) (F : Fits w) where
   pub next-shape : Shape w (seen nextLineByte w (said (outAnswer (nextOut (w .state) (w .tx))))) (heart (goneState (w .state) (nextOut (w .state) (w .tx)))) (w .rx) (w .tx)
-  unfolding arrived sent statusSent statusBack left handedOut restarts writes clears nextOut goneState outAnswer said
+  unfolding arrived sent left handedOut restarts writes clears nextOut goneState outAnswer said
   next-shape =
       quietly nextLineByte w _ _ _ _ refl (by-tests (owed (w .state .line)) (w .state .line .forbidden || eqb (w .state .tx .len) 0) refl refl)
     where
@@ -60,7 +60,7 @@ module _ (w : World) (F : Fits w) where
 -- ---- register writes
 
 pub write-shape : (w : World) (n v : ℕ) → Shape w (seen (write n v) w done) (heart (afterWrite (w .state) n (written (w .state .regs) n v))) (w .rx) (w .tx)
-unfolding arrived sent statusSent statusBack left handedOut restarts writes clears afterWrite setAfresh
+unfolding arrived sent left handedOut restarts writes clears afterWrite setAfresh
 write-shape w n v = quietly (write n v) w done _ _ _ refl (by-test (eqb n 11))
   where
     g : Registers

@@ -20,7 +20,7 @@ use Rattle.bridge.specs.Calls.{Call, World}
 use Rattle.runs.specs.Observers.{arrived, lost}
 use Rattle.runs.specs.Run.{answer, after, all, Without, changes, holdsOff, spells, AtMost}
 use Rattle.runs.specs.Demands.{NoneLost}
-use Rattle.runs.proofs.Shapes.{Seen, seen, Heart, heart, Fits, Shape, isStill, isBegun, isWritten, isCleared, isStored, isLost, isSent, isNone, isAsked, isBack, isLeft, isHanded}
+use Rattle.runs.proofs.Shapes.{Seen, seen, Heart, heart, Fits, Shape, isStill, isBegun, isWritten, isCleared, isStored, isLost, isSent, isNone, isLeft, isHanded}
 use Rattle.runs.proofs.View.{view}
 use Rattle.runs.proofs.Sends.{sent-less}
 use Rattle.runs.proofs.Runs.{first-not}
@@ -107,8 +107,6 @@ calm w x h rx tx (isStored b F l) n m k c i = (
 calm w x h rx tx (isLost b l) n m k c i = absurd (never-full (holdsOff w) m k (free (w .state)) (omega arith) (c .room) i)
 calm w x h rx tx (isSent f r F e) n m k c i = (refl, record { on = c .on; margin = c .margin; room = sent-room w m k F c })
 calm w x h rx tx (isNone r F e) n m k c i = (refl, record { on = c .on; margin = c .margin; room = sent-room w m k F c })
-calm w x h rx tx isAsked n m k c i = (refl, record { on = c .on; margin = c .margin; room = still-room (holdsOff w) m k (free (w .state)) (c .room) })
-calm w x h rx tx (isBack d) n m k c i = (refl, record { on = c .on; margin = c .margin; room = still-room (holdsOff w) m k (free (w .state)) (c .room) })
 calm w x h rx tx (isLeft l F e) n m k c i = (refl, record { on = c .on; margin = c .margin; room = still-room (holdsOff w) m k (free (w .state)) (c .room) })
 calm w x h rx tx (isHanded F e) n m k c i = (refl, record { on = c .on; margin = c .margin; room = still-room (holdsOff w) m k (free (w .state)) (c .room) })
 

@@ -6,7 +6,7 @@ use mathlib.Core.List.{List, []}
 use Rattle.store.specs.Ring.{full}
 use Rattle.state.specs.Answers.{Said, said}
 use Rattle.bridge.specs.Calls.{Call, World, Did}
-use Rattle.runs.specs.Observers.{arrived, accepted, lost, sent, statusSent, statusBack, left, handedOut}
+use Rattle.runs.specs.Observers.{arrived, accepted, lost, sent, left, handedOut}
 use Rattle.runs.specs.Run.{changes, empties, begins}
 use Rattle.runs.proofs.Shapes.{Seen, seen, Heart, heart, Shape}
 
@@ -28,8 +28,6 @@ quiet c w a =
       accepted = [];
       lost = [];
       sent = sent c w a;
-      asked = statusSent c w a;
-      back = statusBack c w a;
       left = left c w a;
       handed = handedOut c w a;
       changes = changes c w a;
@@ -56,8 +54,6 @@ quietly c w a h rx tx e = subst (λ x. Shape w x h rx tx) same
           accepted = sym (none-accepted c w a e) i;
           lost = sym (none-lost c w a e) i;
           sent = sent c w a;
-          asked = statusSent c w a;
-          back = statusBack c w a;
           left = left c w a;
           handed = handedOut c w a;
           changes = changes c w a;

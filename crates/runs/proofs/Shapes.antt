@@ -7,7 +7,6 @@ use lib.ListN.{length, getD}
 use Rattle.registers.specs.declared.Registers.{Registers}
 use Rattle.store.specs.declared.Ring.{Ring}
 use Rattle.store.specs.Ring.{held, emptyRing, putBytes, putsRing, putsBytes, dropRing}
-use Rattle.status.specs.Status.{stays, showed}
 use Rattle.reading.specs.Reading.{none, one}
 use Rattle.sending.specs.Sending.{sendHeld, sentRing}
 use Rattle.state.specs.declared.State.{State}
@@ -21,7 +20,7 @@ use Rattle.state.specs.Status.{serviced}
 use Rattle.line.specs.HoldingOff.{storedState}
 use Rattle.loops.specs.Sending.{ruleOf, removedState}
 use Rattle.bridge.specs.Calls.{Call, World}
-use Rattle.runs.specs.Observers.{dataFrame, arrived, accepted, lost, sent, statusSent, statusBack, left, handedOut}
+use Rattle.runs.specs.Observers.{dataFrame, arrived, accepted, lost, sent, left, handedOut}
 use Rattle.runs.specs.Run.{changes, empties, begins}
 
 -- all that is seen of a call
@@ -30,8 +29,6 @@ pub record Seen : Type 0 where
   pub accepted : List ℕ
   pub lost : List ℕ
   pub sent : List ℕ
-  pub asked : Bool
-  pub back : Bool
   pub left : List ℕ
   pub handed : List ℕ
   pub changes : Bool
@@ -45,8 +42,6 @@ seen c w a =
       accepted = accepted c w a;
       lost = lost c w a;
       sent = sent c w a;
-      asked = statusSent c w a;
-      back = statusBack c w a;
       left = left c w a;
       handed = handedOut c w a;
       changes = changes c w a;
@@ -61,8 +56,6 @@ pub record Heart : Type 0 where
   pub rx : Ring
   pub tx : Ring
   pub holding : Bool
-  pub over : Bool
-  pub again : Bool
   pub counts : Counts
 
 abbrev pub heart : State → Heart
@@ -73,38 +66,32 @@ heart s =
       rx = s .rx;
       tx = s .tx;
       holding = s .line .holding;
-      over = s .notes .seen .overrun;
-      again = s .notes .again .overrun;
       counts = s .counts;
     }
 
 -- nothing is seen
 abbrev pub still : Seen
 still =
-    record { arrived = []; accepted = []; lost = []; sent = []; asked = false; back = false; left = []; handed = []; changes = false; empties = false; begins = false }
+    record { arrived = []; accepted = []; lost = []; sent = []; left = []; handed = []; changes = false; empties = false; begins = false }
 
 abbrev pub takes : List ℕ → List ℕ → List ℕ → Seen
 takes n a l =
-    record { arrived = n; accepted = a; lost = l; sent = []; asked = false; back = false; left = []; handed = []; changes = false; empties = false; begins = false }
+    record { arrived = n; accepted = a; lost = l; sent = []; left = []; handed = []; changes = false; empties = false; begins = false }
 
-abbrev pub frames : List ℕ → Bool → Bool → List ℕ → Bool → Seen
-frames s q b l c =
-    record { arrived = []; accepted = []; lost = []; sent = s; asked = q; back = b; left = l; handed = []; changes = c; empties = c; begins = false }
+abbrev pub frames : List ℕ → List ℕ → Bool → Seen
+frames s l c =
+    record { arrived = []; accepted = []; lost = []; sent = s; left = l; handed = []; changes = c; empties = c; begins = false }
 
 abbrev pub hands : List ℕ → Seen
 hands l =
-    record { arrived = []; accepted = []; lost = []; sent = []; asked = false; back = false; left = []; handed = l; changes = false; empties = false; begins = false }
+    record { arrived = []; accepted = []; lost = []; sent = []; left = []; handed = l; changes = false; empties = false; begins = false }
 
 abbrev pub begun : Bool → Bool → Seen
 begun x r =
-    record { arrived = []; accepted = []; lost = []; sent = []; asked = false; back = false; left = []; handed = []; changes = x; empties = r; begins = r }
+    record { arrived = []; accepted = []; lost = []; sent = []; left = []; handed = []; changes = x; empties = r; begins = r }
 
 abbrev pub Fits : World → Type 0
 Fits w = fits (w .state) (length (w .rx)) (length (w .tx)) ≡ true
-
-abbrev pub withFlags : State → Bool → Bool → Heart
-withFlags s over again =
-    record { sizes = s .sizes; regs = s .regs; rx = s .rx; tx = s .tx; holding = s .line .holding; over = over; again = again; counts = s .counts }
 
 abbrev pub withTransmit : State → Ring → Heart
 withTransmit s r =
@@ -114,8 +101,6 @@ withTransmit s r =
       rx = s .rx;
       tx = r;
       holding = s .line .holding;
-      over = s .notes .seen .overrun;
-      again = s .notes .again .overrun;
       counts = s .counts;
     }
 
@@ -127,8 +112,6 @@ withReceive s r h n =
       rx = r;
       tx = s .tx;
       holding = h;
-      over = s .notes .seen .overrun;
-      again = s .notes .again .overrun;
       counts = n;
     }
 
@@ -143,21 +126,17 @@ pub data Shape (w : World) : Seen → Heart → List ℕ → List ℕ → Type 0
         rx = w .state .rx;
         tx = w .state .tx;
         holding = h;
-        over = w .state .notes .seen .overrun;
-        again = w .state .notes .again .overrun;
         counts = w .state .counts;
       })
       (w .rx) (w .tx)
   isCleared :
-      Shape w (frames [] false false [] true)
+      Shape w (frames [] [] true)
       (record {
         sizes = w .state .sizes;
         regs = w .state .regs;
         rx = emptyRing;
         tx = emptyRing;
         holding = false;
-        over = false;
-        again = false;
         counts = w .state .counts;
       })
       (w .rx) (w .tx)
@@ -173,13 +152,11 @@ pub data Shape (w : World) : Seen → Heart → List ℕ → List ℕ → Type 0
         rx = w .state .rx;
         tx = w .state .tx;
         holding = w .state .line .holding;
-        over = true;
-        again = true;
         counts = record { stored = w .state .counts .stored; lost = counted (w .state .counts .lost); sent = w .state .counts .sent };
       })
       (w .rx) (w .tx)
   isSent : (f : ℕ) (r : List ℕ) → Fits w → sendHeld (ruleOf (w .state .regs)) (w .rx) (w .state .rx) ≡ one f r →
-      Shape w (frames (dataFrame (said (Frame (serviced (w .state) f)))) false false [] false)
+      Shape w (frames (dataFrame (said (Frame (serviced (w .state) f)))) [] false)
       (withReceive (w .state) (sentRing (ruleOf (w .state .regs)) (w .rx) (w .state .rx))
       (removedState (w .state) (w .rx) .line .holding)
       (record { stored = w .state .counts .stored; lost = w .state .counts .lost; sent = counted (w .state .counts .sent) }))
@@ -190,12 +167,7 @@ pub data Shape (w : World) : Seen → Heart → List ℕ → List ℕ → Type 0
       (removedState (w .state) (w .rx) .line .holding)
       (w .state .counts))
       (w .rx) (w .tx)
-  isAsked : Shape w (frames [] true false [] false) (withFlags (w .state) (w .state .notes .seen .overrun) false) (w .rx) (w .tx)
-  isBack : (d : ℕ) →
-      Shape w (frames [] false true [] false)
-      (withFlags (w .state) (stays (w .state .notes .seen .overrun) (showed d 32) (w .state .notes .again .overrun)) (w .state .notes .again .overrun))
-      (w .rx) (w .tx)
   isLeft : (l : List ℕ) → Fits w → w .state .tx .len + length l ≤ w .state .sizes .tx →
-      Shape w (frames [] false false l false) (withTransmit (w .state) (putsRing (w .state .sizes .tx) (w .state .tx) l)) (w .rx) (putsBytes (w .tx) (w .state .tx) l)
+      Shape w (frames [] l false) (withTransmit (w .state) (putsRing (w .state .sizes .tx) (w .state .tx) l)) (w .rx) (putsBytes (w .tx) (w .state .tx) l)
   isHanded : Fits w → 0 < w .state .tx .len →
       Shape w (hands (getD (held (w .tx) (w .state .tx)) 0 0 ∷ [])) (withTransmit (w .state) (dropRing (w .state .sizes .tx) (w .state .tx) 1)) (w .rx) (w .tx)

@@ -2,7 +2,7 @@
 use Prim.Native.Nat.{ℕ}
 use native.Mathlib.Omega.{arith}
 use mathlib.Core.Path.{_≡_, refl}
-use mathlib.Core.Bool.{Bool, true, false, cond, _&&_, not}
+use mathlib.Core.Bool.{Bool, true, false, cond, not}
 use mathlib.Core.List.{[]}
 use lib.Dec.{eqb, ltb}
 use borrow.Author.Tests.{eqb-true}
@@ -14,7 +14,7 @@ use Rattle.line.specs.HoldingOff.{owed}
 use Rattle.loops.specs.LoopToLine.{busy}
 use Rattle.bridge.specs.Calls.{Call, create, reset, write, lineByte, lineBreak, key, nextLineByte, loopFrame, show, World, Did, checks, outcome, settledBy, rxAfter, txAfter, refusedOr, step}
 use Rattle.bridge.specs.Calls as calls
-use Rattle.runs.specs.Observers.{isSend, asksStatus, arrived, accepted, sent, statusSent, statusBack, left, handedOut, restarts, writes, clears}
+use Rattle.runs.specs.Observers.{isSend, arrived, sent, left, handedOut, restarts, writes, clears}
 use Rattle.runs.proofs.Shapes.{heart, frames, hands, Shape, isStill, isBegun}
 use Rattle.runs.proofs.Quiet.{Shaped, quietly}
 use Rattle.runs.proofs.LineView.{line-shape, next-shape, write-shape}
@@ -24,7 +24,7 @@ use Rattle.runs.proofs.FrameView.{frame-shape}
 
 module _ (w : World) where
   refused-still : (c : Call) (n : ℕ) → Shaped w c (record { said = refused n; world = w })
-  unfolding arrived sent statusSent statusBack left handedOut restarts writes clears
+  unfolding arrived sent left handedOut restarts writes clears
   refused-still (create m) n = quietly (create m) w (refused n) _ _ _ refl isStill
   refused-still reset n = quietly reset w (refused n) _ _ _ refl isStill
   refused-still (write a v) n = quietly (write a v) w (refused n) _ _ _ refl isStill
@@ -36,13 +36,11 @@ module _ (w : World) where
       go : (t : Bool) → Shape w (hands (cond t [] [])) (heart (w .state)) (w .rx) (w .tx)
       go true = isStill
       go false = isStill
-  refused-still (loopFrame f) n = quietly (loopFrame f) w (refused n) _ _ _ refl (go (isSend (w .state) f) (asksStatus (w .state) f))
+  refused-still (loopFrame f) n = quietly (loopFrame f) w (refused n) _ _ _ refl (go (isSend (w .state) f))
     where
-      go : (t u : Bool) → Shape w (frames (cond t [] []) (u && false) false [] false) (heart (w .state)) (w .rx) (w .tx)
-      go true true = isStill
-      go true false = isStill
-      go false true = isStill
-      go false false = isStill
+      go : (t : Bool) → Shape w (frames (cond t [] []) [] false) (heart (w .state)) (w .rx) (w .tx)
+      go true = isStill
+      go false = isStill
   refused-still (show side) n = quietly (show side) w (refused n) _ _ _ refl isStill
 
   refused-or : (c : Call) (n : ℕ) (d : Did) → (n ≡ 0 → Shaped w c d) → Shaped w c (refusedOr n d w)
@@ -64,7 +62,7 @@ fitting false k e = absurd (omega arith)
 -- ---- every call
 
 pub view : (c : Call) (w : World) → Shaped w c (step c w)
-unfolding step checks calls.accepted outcome settledBy rxAfter txAfter settled said arrived sent statusSent statusBack left handedOut restarts writes clears breakState keyState
+unfolding step checks calls.accepted outcome settledBy rxAfter txAfter settled said arrived sent left handedOut restarts writes clears breakState keyState
 view (create m) w = refused-or w (create m) _ _ (λ e. quietly (create m) w done _ _ _ refl (isBegun m))
 view reset w = refused-or w reset _ _ (λ e. quietly reset w done _ _ _ refl (isBegun (w .state .sizes .margin)))
 view (write n v) w = refused-or w (write n v) _ _ (λ e. write-shape w n v)

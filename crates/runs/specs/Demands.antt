@@ -2,15 +2,15 @@
 use Prim.Native.Nat.{ℕ, _<_}
 use mathlib.Core.Path.{_≡_}
 use mathlib.Core.Bool.{true, false}
-use mathlib.Core.Logic.{_⊎_}
-use mathlib.Core.List.{List, [], _∷_, _++_}
+use mathlib.Core.List.{List, [], _++_}
 use Rattle.registers.specs.Meanings.{protocolOn}
 use Rattle.reading.specs.Product.{Product}
 use Rattle.line.specs.HoldingOff.{free}
 use Rattle.bridge.specs.Calls.{Call, loopFrame, World}
 use Rattle.runs.specs.Observers.{taken, isFrame, accepted, lost, sent}
-use Rattle.runs.specs.Run.{answer, after, end, all, Without, changes, sentAndBack, holdsOff, spells, AtMost}
-use Rattle.runs.specs.Worlds.{heldToSend, reading, overrunBit, Bytes, over}
+use Rattle.runs.specs.Run.{answer, after, end, all, Without, changes, holdsOff, spells, AtMost}
+use Rattle.runs.specs.Worlds.{heldToSend, reading, Bytes, over}
+use Rattle.runs.specs.Events.{overrun, Stays}
 
 -- ---- demand 1, for the calls of a run
 
@@ -36,11 +36,10 @@ FramesRead =
     (cs : List Call) (w : World) → Without changes cs w → Bytes (heldToSend w ++ all accepted cs w) →
     all sent cs w ++ reading (end cs w) (heldToSend (end cs w)) ≡ reading w (heldToSend w ++ all accepted cs w)
 
--- "If a byte is lost, the overrun bit stays set until a status byte sent after that loss has come back unchanged."
+-- "If a byte is lost, the overrun bit stays set until a status byte sent after that loss has come back unchanged.": also where registers
+-- are written
 abbrev pub OverrunStays : Type 0
-OverrunStays =
-    (c : Call) (w : World) (b : ℕ) → lost c w (answer c w) ≡ b ∷ [] → (cs : List Call) → Without changes cs (after c w) →
-    (overrunBit (end cs (after c w)) ≡ true) ⊎ (sentAndBack cs (after c w) ≡ true)
+OverrunStays = Stays overrun
 
 -- "If the run starts with the receiver protocol on, not holding off, and more room than the margin, and at most a margin of data bytes
 -- arrives in each spell of holding off, no byte is lost."

@@ -1,7 +1,9 @@
 -- Runs of calls, what is seen of each call from outside, and what holds of every run.
 pub mod Observers
 pub mod Run
+pub mod StatusWay
 pub mod Worlds
+pub mod Events
 pub mod Demands
 pub mod LineBytes
 pub mod Counts

@@ -4,7 +4,7 @@ use mathlib.Core.Bool.{Bool, true, false, cond, _&&_, _||_, not}
 use mathlib.Core.List.{List, [], _∷_}
 use lib.Dec.{eqb, ltb}
 use Rattle.frame.specs.Frame.{controlOf, dataOf, made, isData, stripped, sameApart}
-use Rattle.role.specs.Parts.{addressed, activeData, activeStatus, isActive}
+use Rattle.role.specs.Parts.{addressed, activeData, isActive}
 use Rattle.store.specs.Ring.{full}
 use Rattle.state.specs.declared.State.{State}
 use Rattle.state.specs.Answers.{Said, done, none, byte, frame, refused, part}
@@ -40,15 +40,6 @@ dataFrame done = []
 dataFrame none = []
 dataFrame (byte b) = []
 dataFrame (part l) = []
-
--- the answer is a data frame
-abbrev pub isDataFrame : Said → Bool
-isDataFrame (frame k d) = ltb k 4
-isDataFrame (refused n) = false
-isDataFrame done = false
-isDataFrame none = false
-isDataFrame (byte b) = false
-isDataFrame (part l) = false
 
 -- the line byte answered
 abbrev pub lineByteOf : Said → List ℕ
@@ -91,10 +82,6 @@ isSend s f =
 unfoldable pub asksStatus : State → ℕ → Bool
 asksStatus s f = isAsked 97 s f
 
--- the status byte under way comes back unchanged
-unfoldable pub statusReturn : State → ℕ → Bool
-statusReturn s f = equalReturn s f && eqb (s .role .talker) activeStatus
-
 -- "Other data frames pass", those that are no return; and identify frames
 unfoldable pub passesOn : State → ℕ → Bool
 passesOn s f = (isData f && not (isActive (s .role))) || ltb 5 (controlOf f)
@@ -130,13 +117,9 @@ lost c w a = cond (full (w .state .sizes .rx) (w .state .rx)) (arrived c w a) []
 unfoldable pub sent : Call → World → Said → List ℕ
 sent c w a = onFrame (λ f. cond (isSend (w .state) f) (dataFrame a) []) [] c
 
--- a status byte was sent
-unfoldable pub statusSent : Call → World → Said → Bool
-statusSent c w a = onFrame (λ f. asksStatus (w .state) f && isDataFrame a) false c
-
--- a status byte has come back unchanged
-unfoldable pub statusBack : Call → World → Said → Bool
-statusBack c w a = onFrame (λ f. taken a && statusReturn (w .state) f) false c
+-- the status byte sent
+unfoldable pub statusSent : Call → World → Said → List ℕ
+statusSent c w a = onFrame (λ f. cond (asksStatus (w .state) f) (dataFrame a) []) [] c
 
 -- ---- loop to line
 

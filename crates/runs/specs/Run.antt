@@ -6,7 +6,7 @@ use mathlib.Core.List.{List, [], _∷_, _++_}
 use lib.ListN.{length}
 use Rattle.state.specs.Answers.{Said}
 use Rattle.bridge.specs.Calls.{Call, World, step}
-use Rattle.runs.specs.Observers.{arrived, statusSent, statusBack, restarts, writes, clears}
+use Rattle.runs.specs.Observers.{arrived, restarts, writes, clears}
 
 -- the answer of a call, and the world that it leaves
 abbrev pub answer : Call → World → Said
@@ -29,11 +29,6 @@ all see (c ∷ cs) w = see c w (answer c w) ++ all see cs (after c w)
 unfoldable pub some : (Call → World → Said → Bool) → List Call → World → Bool
 some see [] w = false
 some see (c ∷ cs) w = see c w (answer c w) || some see cs (after c w)
-
--- a status byte was sent in the run, and after it one has come back unchanged
-unfoldable pub sentAndBack : List Call → World → Bool
-sentAndBack [] w = false
-sentAndBack (c ∷ cs) w = cond (statusSent c w (answer c w)) (some statusBack cs (after c w)) (sentAndBack cs (after c w))
 
 -- ---- what does not happen in a run
 

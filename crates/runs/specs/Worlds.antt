@@ -1,14 +1,11 @@
 -- What a world holds, and how it is read.
 use Prim.Native.Nat.{ℕ, _<_}
-use mathlib.Core.Bool.{Bool}
 use mathlib.Core.List.{List, [], _∷_}
 use Rattle.store.specs.Ring.{held}
-use Rattle.status.specs.Status.{showed}
 use Rattle.reading.specs.Reading.{frames}
 use Rattle.reading.specs.Steps.{cut}
 use Rattle.reading.specs.Product.{Product}
 use Rattle.state.specs.Answers.{Said}
-use Rattle.state.specs.Status.{statusOf}
 use Rattle.loops.specs.Sending.{ruleOf}
 use Rattle.bridge.specs.Calls.{Call, World}
 use Rattle.runs.specs.Run.{answer, after}
@@ -24,10 +21,6 @@ heldForLine w = held (w .tx) (w .state .tx)
 -- "those the reading rule gives"
 abbrev pub reading : World → List ℕ → List ℕ
 reading w = frames (cut (ruleOf (w .state .regs)))
-
--- "the overrun bit": bit 5 of the status byte
-unfoldable pub overrunBit : World → Bool
-overrunBit w = showed (statusOf (w .state)) 32
 
 -- numbers that a byte can be
 abbrev pub Bytes : List ℕ → Type 0

@@ -1,0 +1,304 @@
+-- What every call does to the notes of what happened and to the status byte under way. Assumes nothing.
+use Prim.Native.Nat.{ℕ}
+use native.Mathlib.Omega.{arith}
+use mathlib.Core.Path.{_≡_, refl, sym, ap, _∙_}
+use mathlib.Core.Bool.{Bool, true, false, cond, _&&_}
+use mathlib.Core.List.{List, [], _∷_}
+use lib.Dec.{eqb}
+use borrow.Author.Tests.{ne-eqb, leb-false}
+use Rattle.cases.proofs.Cases.{by-cond}
+use Rattle.frame.specs.Frame.{controlOf, dataOf, made, isData, stripped, sameApart}
+use Rattle.frame.proofs.Laws.{same-stripped, stripped-same, stripped-twice}
+use Rattle.registers.specs.Writing.{written}
+use Rattle.role.specs.declared.Role.{Role}
+use Rattle.role.specs.declared.Order.{Order}
+use Rattle.role.specs.declared.Order.the-variants.{Unlisten, Listen, Untalk, Talk, Clear, Deselect, Enable, Disable, Local, Unassign, Nothing}
+use Rattle.role.specs.declared.Ready.{Ready}
+use Rattle.role.specs.declared.Ready.the-variants.{Pass, Address, Finish}
+use Rattle.role.specs.Parts.{addressed, isActive}
+use Rattle.role.specs.Commands.{merelyAddressed, changedRole, obeyedRole}
+use Rattle.role.specs.ReadyFrames.{givesAddress, readyOf}
+use Rattle.store.specs.Ring.{full}
+use Rattle.status.specs.declared.Events.{Events}
+use Rattle.status.specs.Status.{showed, stays, acknowledged}
+use Rattle.reading.specs.Reading.{Sent, none, one}
+use Rattle.sending.specs.Sending.{givenOf, sendHeld}
+use Rattle.state.specs.declared.State.{State}
+use Rattle.state.specs.declared.Outcome.{Outcome}
+use Rattle.state.specs.declared.Out.{Out}
+use Rattle.state.specs.declared.Out.the-variants as out
+use Rattle.state.specs.declared.Answer.the-variants.{Frame}
+use Rattle.state.specs.Answers.{Said, said, refused}
+use Rattle.state.specs.Status.{settled, serviced, breakState, keyState}
+use Rattle.state.specs.Status as status
+use Rattle.line.specs.HoldingOff.{isFlow, flowed, lostState, storedWith, lineState, resumed, setAfresh, afterWrite, nextOut, goneState}
+use Rattle.loops.specs.LoopToLine.{leftState}
+use Rattle.loops.specs.Sending.{ruleOf, removedState, sendState, sendFrom, sendStatus, talking, ended}
+use Rattle.loops.specs.Frames.{isClear, orderIn, obeyed, commandState, command, finishing, readied, ready, returned, dataPassed, identify, frameTaken, deviceClear}
+use Rattle.bridge.specs.Calls.{Call, create, reset, write, lineByte, lineBreak, key, nextLineByte, loopFrame, show, World, Did, outcome, settledBy, refusedOr, step}
+use Rattle.bridge.specs.Calls as calls
+use Rattle.runs.specs.Observers.{taken, dataFrame, asksStatus, isDeviceClear, statusSent, restarts, clears}
+use Rattle.runs.specs.Run.{answer, after, empties}
+use Rattle.runs.specs.StatusWay.{endsWay, statusBack}
+use Rattle.runs.specs.Events.{Event, broken, overrun, pressed}
+use Rattle.runs.proofs.Answered.{status-frame}
+use Rattle.runs.proofs.FrameView.{clear-order, address-high}
+
+-- the part of a state that this is about
+pub record Part : Type 0 where
+  pub talker : ℕ
+  pub frame : ℕ
+  pub seen : Events
+  pub again : Events
+
+abbrev pub part : State → Part
+part s = record { talker = s .role .talker; frame = s .under .frame; seen = s .notes .seen; again = s .notes .again }
+
+abbrev pub noted : Event → Events → Bool
+noted broken x = x .brk
+noted overrun x = x .overrun
+noted pressed x = x .key
+
+-- what is noted there is noted here
+abbrev pub Keeps : Events → Events → Type 0
+Keeps x y = (e : Event) → noted e x ≡ true → noted e y ≡ true
+
+-- ---- the kinds of change
+
+-- the frame under way stays so, and no note is taken away
+pub record Left (s : State) (p : Part) : Type 0 where
+  pub talker : p .talker ≡ s .role .talker
+  pub frame : p .frame ≡ s .under .frame
+  pub seen : Keeps (s .notes .seen) (p .seen)
+  pub again : Keeps (s .notes .again) (p .again)
+
+pub data Kind (c : Call) (w : World) (a : Said) (p : Part) : Type 0 where
+  goesOn : statusSent c w a ≡ [] → endsWay c a ≡ false → Left (w .state) p → Kind c w a p
+  -- no status byte is under way any more, and none came back
+  idles : eqb (p .talker) 3 ≡ false → Keeps (w .state .notes .seen) (p .seen) → Kind c w a p
+  sends : statusSent c w a ≡ stripped (p .frame) ∷ [] → Keeps (w .state .notes .seen) (p .seen) → Kind c w a p
+  -- the status byte under way came back
+  returns : eqb (w .state .role .talker) 3 ≡ true → statusBack (stripped (w .state .under .frame) ∷ []) c a ≡ true → eqb (p .talker) 3 ≡ false →
+      ((e : Event) → noted e (w .state .notes .seen) ≡ true → noted e (w .state .notes .again) ≡ true → noted e (p .seen) ≡ true) → Kind c w a p
+  begins : empties c w a ≡ true → Kind c w a p
+
+-- ---- frames
+
+keeps : (x : Events) → Keeps x x
+keeps x e h = h
+
+same : (s : State) (p : Part) → p ≡ part s → Left s p
+same s p e =
+    record {
+      talker = ap (λ x. x .talker) e;
+      frame = ap (λ x. x .frame) e;
+      seen = λ k h. ap (λ x. noted k (x .seen)) e ∙ h;
+      again = λ k h. ap (λ x. noted k (x .again)) e ∙ h;
+    }
+
+-- one more note
+abbrev noting-of : Event → Events → Events
+noting-of broken x = record { brk = true; overrun = x .overrun; key = x .key }
+noting-of overrun x = record { brk = x .brk; overrun = true; key = x .key }
+noting-of pressed x = record { brk = x .brk; overrun = x .overrun; key = true }
+
+noting : (e : Event) (x : Events) → Keeps x (noting-of e x)
+noting broken x broken h = refl
+noting broken x overrun h = h
+noting broken x pressed h = h
+noting overrun x broken h = h
+noting overrun x overrun h = refl
+noting overrun x pressed h = h
+noting pressed x broken h = h
+noting pressed x overrun h = h
+noting pressed x pressed h = refl
+
+same-either : (t : Bool) → _≡_ {A = List ℕ} (cond t [] []) []
+same-either true = refl
+same-either false = refl
+
+stays-true : (set shown again : Bool) → set ≡ true → again ≡ true → stays set shown again ≡ true
+stays-true true true true p q = refl
+stays-true true false true p q = refl
+stays-true true shown false p q = cc
+stays-true false shown again p q = cc
+
+still-noted : (x y : Events) (d : ℕ) (e : Event) → noted e x ≡ true → noted e y ≡ true → noted e (acknowledged x y d) ≡ true
+still-noted x y d broken p q = stays-true (x .brk) (showed d 16) (y .brk) p q
+still-noted x y d overrun p q = stays-true (x .overrun) (showed d 32) (y .overrun) p q
+still-noted x y d pressed p q = stays-true (x .key) (showed d 128) (y .key) p q
+
+-- "an active talker becomes merely addressed", and no order makes one active
+merely : (r : Role) → eqb (merelyAddressed r .talker) 3 ≡ false
+unfolding merelyAddressed
+merely r = by-cond (λ (t : ℕ). eqb t 3 ≡ false) (isActive r) addressed (r .talker) (λ _. refl) (λ e. ne-eqb (r .talker) 3 (λ h. omega (arith, leb-false 2 (r .talker) e)))
+
+obeyed-idle : (r : Role) (o : Order) → eqb (obeyedRole r o .talker) 3 ≡ false
+unfolding obeyedRole changedRole
+obeyed-idle r Unlisten = merely r
+obeyed-idle r Listen = refl
+obeyed-idle r Untalk = refl
+obeyed-idle r Talk = refl
+obeyed-idle r Clear = merely r
+obeyed-idle r Deselect = refl
+obeyed-idle r Enable = merely r
+obeyed-idle r Disable = merely r
+obeyed-idle r Local = merely r
+obeyed-idle r Unassign = merely r
+obeyed-idle r Nothing = merely r
+
+module _ (w : World) (f : ℕ) where
+  abbrev FrameKind : Outcome → Type 0
+  FrameKind o = Kind (loopFrame f) w (said (o .answer)) (part (o .state))
+
+  send-kind : FrameKind (sendFrom (w .state) (w .rx))
+  unfolding sendFrom sendState ended talking removedState resumed
+  send-kind = go (sendHeld (ruleOf (w .state .regs)) (w .rx) (w .state .rx))
+    where
+      go : (x : Sent ℕ ℕ) → FrameKind (sendState (w .state) (removedState (w .state) (w .rx)) (givenOf x))
+      go (none r) = idles refl (keeps _)
+      go (one g r) = idles refl (keeps _)
+
+  return-kind : isData f ≡ true → FrameKind (returned (w .state) (w .rx) f)
+  unfolding returned ended talking status.statusBack statusBack said
+  return-kind D =
+      by-cond FrameKind (sameApart f (w .state .under .frame)) _ _
+      (λ m. by-cond FrameKind (eqb (w .state .role .talker) 3) _ _
+      (λ k. returns k (back m) refl (still-noted (w .state .notes .seen) (w .state .notes .again) (dataOf (w .state .under .frame))))
+      (λ _. by-cond FrameKind (w .state .under .finishing) _ _ (λ _. idles refl (keeps _)) (λ _. send-kind)))
+      (λ _. idles refl (keeps _))
+    where
+      back : sameApart f (w .state .under .frame) ≡ true → statusBack (stripped (w .state .under .frame) ∷ []) (loopFrame f) (said (Frame (made 5 64))) ≡ true
+      back m = λ i. D i && stripped-same f (stripped (w .state .under .frame)) (same-stripped f _ m ∙ sym (stripped-twice (w .state .under .frame))) i
+
+  pass-kind : isActive (w .state .role) ≡ false → FrameKind (dataPassed (w .state) f)
+  unfolding dataPassed leftState
+  pass-kind A =
+      by-cond (λ (t : State). Kind (loopFrame f) w (said (Frame (serviced (w .state) f))) (part t)) (w .state .role .listener) _ _
+      (λ _. idles off (keeps _))
+      (λ _. idles off (keeps _))
+    where
+      off : eqb (w .state .role .talker) 3 ≡ false
+      off = ne-eqb (w .state .role .talker) 3 (λ h. omega (arith, leb-false 2 (w .state .role .talker) A))
+
+  command-kind : eqb (controlOf f) 4 ≡ true → FrameKind (command (w .state) f)
+  unfolding command commandState obeyed restarts clears isDeviceClear said
+  command-kind C =
+      by-cond (λ (t : State). Kind (loopFrame f) w (said (Frame f)) (part t)) (isClear (orderIn (w .state) f)) _ _
+      (λ e. begins (clear e))
+      (λ _. idles (obeyed-idle (w .state .role) (orderIn (w .state) f)) (keeps _))
+    where
+      clear : isClear (orderIn (w .state) f) ≡ true → empties (loopFrame f) w (said (Frame f)) ≡ true
+      clear e = (λ i. C i && sym (clear-order (w .state .role) (dataOf f)) i) ∙ e
+
+  -- a frame that is neither data nor a command leaves what is under way
+  on-kind : (o : Outcome) → isData f ≡ false → eqb (controlOf f) 4 ≡ false → statusSent (loopFrame f) w (said (o .answer)) ≡ [] → part (o .state) ≡ part (w .state) →
+      FrameKind o
+  unfolding endsWay
+  on-kind o D C e p = goesOn e (simp (D, C) (never (taken (said (o .answer))))) (same (w .state) (part (o .state)) p)
+    where
+      never : (t : Bool) → (t && false) ≡ false
+      never true = refl
+      never false = refl
+
+  ready-kind : isData f ≡ false → eqb (controlOf f) 4 ≡ false → eqb (controlOf f) 5 ≡ true → FrameKind (ready (w .state) (w .rx) f)
+  unfolding ready readied readyOf finishing sendStatus talking status.statusSent statusSent asksStatus
+  ready-kind D C R =
+      by-cond Readied (givesAddress r d) _ _ (λ e. passes Address (λ i. ne-eqb d 97 (address-high r d 97 (omega arith) e) i && eqb (r .talker) 1) refl)
+      (λ _. by-cond Readied (eqb d 96 && eqb (r .talker) 1) _ _ (λ _. send-kind)
+      (λ _. by-cond Readied (eqb d 97 && eqb (r .talker) 1) _ _
+      (λ e. sends ((λ i. cond (R i && e i) (dataFrame (said (sendStatus (w .state) .answer))) []) ∙ status-frame (w .state)) (keeps _))
+      (λ n. by-cond Readied (eqb d 66 && eqb (r .talker) 2) _ _ (λ _. passes Finish n refl) (λ _. passes Pass n refl))))
+    where
+      r : Role
+      r = w .state .role
+
+      d : ℕ
+      d = dataOf f
+
+      Readied : Ready → Type 0
+      Readied x = FrameKind (readied (w .state) (w .rx) f x)
+
+      passes : (x : Ready) → (eqb d 97 && eqb (r .talker) 1) ≡ false → part (readied (w .state) (w .rx) f x .state) ≡ part (w .state) → Readied x
+      passes x n =
+          on-kind (readied (w .state) (w .rx) f x) D C
+          (λ i. cond (R i && n i) (dataFrame (said (readied (w .state) (w .rx) f x .answer))) [])
+
+  identify-kind : isData f ≡ false → eqb (controlOf f) 4 ≡ false → eqb (controlOf f) 5 ≡ false → FrameKind (identify (w .state) f)
+  unfolding identify statusSent asksStatus
+  identify-kind D C R =
+      on-kind (identify (w .state) f) D C (λ i. cond (R i && (eqb (dataOf f) 97 && eqb (w .state .role .talker) 1)) (dataFrame (said (Frame (serviced (w .state) f)))) []) refl
+
+  frame-taken : FrameKind (frameTaken (w .state) (w .rx) f)
+  unfolding frameTaken
+  frame-taken =
+      by-cond FrameKind (isData f) _ _
+      (λ D. by-cond FrameKind (isActive (w .state .role)) _ _ (λ _. return-kind D) pass-kind)
+      (λ D. by-cond FrameKind (eqb (controlOf f) 4) _ _ command-kind
+      (λ C. by-cond FrameKind (eqb (controlOf f) 5) _ _ (ready-kind D C) (identify-kind D C)))
+
+  frame-kind : Kind (loopFrame f) w (calls.accepted (loopFrame f) w .said) (part (calls.accepted (loopFrame f) w .world .state))
+  unfolding calls.accepted outcome settledBy settled
+  frame-kind = by-clear (deviceClear (w .state) f) frame-taken
+    where
+      o : Outcome
+      o = frameTaken (w .state) (w .rx) f
+
+      by-clear : (t : Bool) → FrameKind o → Kind (loopFrame f) w (said (o .answer)) (part (cond t (o .state) (settled (w .state) (o .state))))
+      by-clear true x = x
+      by-clear false x = x
+
+-- ---- every call
+
+line-left : (s : State) (b : ℕ) → Left s (part (lineState s b))
+unfolding lineState flowed lostState storedWith
+line-left s b =
+    by-cond (λ (t : State). Left s (part t)) (isFlow (s .regs) b) _ _ (λ _. same s _ refl)
+    (λ _. by-cond (λ (t : State). Left s (part t)) (full (s .sizes .rx) (s .rx)) _ _
+    (λ _. record { talker = refl; frame = refl; seen = noting overrun (s .notes .seen); again = noting overrun (s .notes .again) })
+    (λ _. same s _ refl))
+
+gone-left : (s : State) (o : Out) → Left s (part (goneState s o))
+unfolding goneState
+gone-left s (out.Own b) = same s _ refl
+gone-left s (out.Held b) = same s _ refl
+gone-left s out.Nothing = same s _ refl
+
+write-left : (s : State) (n v : ℕ) → Left s (part (afterWrite s n (written (s .regs) n v)))
+unfolding afterWrite setAfresh
+write-left s n v = by-cond (λ (t : State). Left s (part t)) (eqb n 11) _ _ (λ _. same s _ refl) (λ _. same s _ refl)
+
+refused-kind : (c : Call) (w : World) (n : ℕ) → Kind c w (refused n) (part (w .state))
+unfolding statusSent endsWay restarts
+refused-kind (create m) w n = goesOn refl refl (same _ _ refl)
+refused-kind reset w n = goesOn refl refl (same _ _ refl)
+refused-kind (write k v) w n = goesOn refl refl (same _ _ refl)
+refused-kind (lineByte b) w n = goesOn refl refl (same _ _ refl)
+refused-kind lineBreak w n = goesOn refl refl (same _ _ refl)
+refused-kind key w n = goesOn refl refl (same _ _ refl)
+refused-kind nextLineByte w n = goesOn refl refl (same _ _ refl)
+refused-kind (loopFrame f) w n = goesOn (same-either (asksStatus (w .state) f)) refl (same _ _ refl)
+refused-kind (show side) w n = goesOn refl refl (same _ _ refl)
+
+abbrev Did-kind : Call → World → Did → Type 0
+Did-kind c w d = Kind c w (d .said) (part (d .world .state))
+
+refused-or : (c : Call) (w : World) (n : ℕ) (d : Did) → Did-kind c w d → Did-kind c w (refusedOr n d w)
+unfolding refusedOr
+refused-or c w n d k = by-cond (Did-kind c w) (eqb n 0) d (record { said = refused n; world = w }) (λ _. k) (λ _. refused-kind c w n)
+
+pub kind : (c : Call) (w : World) → Kind c w (answer c w) (part (after c w .state))
+unfolding step calls.accepted outcome settledBy settled said statusSent endsWay restarts breakState keyState
+kind (create m) w = refused-or (create m) w _ _ (begins refl)
+kind reset w = refused-or reset w _ _ (begins refl)
+kind (write n v) w = refused-or (write n v) w _ _ (goesOn refl refl (write-left (w .state) n v))
+kind (lineByte b) w = refused-or (lineByte b) w _ _ (goesOn refl refl (line-left (w .state) b))
+kind lineBreak w =
+    refused-or lineBreak w _ _
+    (goesOn refl refl (record { talker = refl; frame = refl; seen = noting broken (w .state .notes .seen); again = noting broken (w .state .notes .again) }))
+kind key w =
+    refused-or key w _ _
+    (goesOn refl refl (record { talker = refl; frame = refl; seen = noting pressed (w .state .notes .seen); again = noting pressed (w .state .notes .again) }))
+kind nextLineByte w = refused-or nextLineByte w _ _ (goesOn refl refl (gone-left (w .state) (nextOut (w .state) (w .tx))))
+kind (loopFrame f) w = refused-or (loopFrame f) w _ _ (frame-kind w f)
+kind (show side) w = goesOn refl refl (same _ _ refl)
