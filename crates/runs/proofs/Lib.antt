@@ -16,6 +16,7 @@ pub mod Bits
 pub mod Events
 pub mod Margin
 pub mod LineBytes
+pub mod LastSent
 pub mod Counts
 pub mod Service
 pub mod Refused

@@ -55,7 +55,7 @@ first-none : (t : Bool) (n k : ℕ) → (n ≡ 0 → ⊥) → cond t n k ≡ 0 �
 first-none true n k h e = absurd (h e)
 first-none false n k h e = (refl, e)
 
-fitting : (t : Bool) (k : ℕ) → cond (not t) 2 k ≡ 0 → (t ≡ true) × (k ≡ 0)
+pub fitting : (t : Bool) (k : ℕ) → cond (not t) 2 k ≡ 0 → (t ≡ true) × (k ≡ 0)
 fitting true k e = (refl, e)
 fitting false k e = absurd (omega arith)
 

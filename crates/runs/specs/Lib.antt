@@ -6,5 +6,6 @@ pub mod Worlds
 pub mod Events
 pub mod Demands
 pub mod LineBytes
+pub mod LastSent
 pub mod Counts
 pub mod Service

@@ -1,0 +1,165 @@
+-- "the last of go and stop we sent" is what the bridge recorded. Assumes nothing.
+use Prim.Native.Nat.{ℕ}
+use mathlib.Core.Path.{_≡_, refl, sym, ap, _∙_}
+use mathlib.Core.Bool.{Bool, true, false, cond, _||_}
+use mathlib.Core.List.{List, [], _∷_}
+use lib.Dec.{eqb}
+use lib.ListN.{getD, length}
+use borrow.Author.Tests.{eqb-true, eq-eqb, ne-eqb}
+use Rattle.cases.proofs.Cases.{by-cond}
+use Rattle.frame.specs.Frame.{controlOf, dataOf, isData, sameApart}
+use Rattle.registers.specs.declared.Registers.{Registers}
+use Rattle.registers.specs.Meanings.{go, stop}
+use Rattle.registers.specs.Writing.{written}
+use Rattle.registers.proofs.Fits.{fit-differ}
+use Rattle.role.specs.declared.Ready.{Ready}
+use Rattle.role.specs.declared.Ready.the-variants.{Pass, Address, Data, Status, Finish}
+use Rattle.role.specs.Parts.{isActive}
+use Rattle.role.specs.ReadyFrames.{readyOf}
+use Rattle.store.specs.Ring.{full, held}
+use Rattle.sending.specs.declared.Given.{Given}
+use Rattle.sending.specs.declared.Given.the-variants as given
+use Rattle.sending.specs.Sending.{givenOf, sendHeld}
+use Rattle.state.specs.declared.State.{State}
+use Rattle.state.specs.declared.Outcome.{Outcome}
+use Rattle.state.specs.declared.Out.{Out}
+use Rattle.state.specs.declared.Out.the-variants.{Own, Held, Nothing}
+use Rattle.state.specs.Answers.{said, refused}
+use Rattle.state.specs.Sizes.{startState}
+use Rattle.state.specs.Status.{settled, breakState, keyState}
+use Rattle.state.specs.Status as status
+use Rattle.state.proofs.Fits.{tests}
+use Rattle.line.specs.HoldingOff.{isFlow, flowed, lostState, storedWith, lineState, resumed, setAfresh, afterWrite, owed, nextOut, goneState, outAnswer}
+use Rattle.loops.specs.LoopToLine.{leftState}
+use Rattle.loops.specs.Sending.{ruleOf, removedState, sendState, sendFrom, sendStatus, talking, ended}
+use Rattle.loops.specs.Frames.{isClear, orderIn, obeyed, cleared, commandState, command, finishing, readied, ready, returned, dataPassed, identify, frameTaken, deviceClear}
+use Rattle.bridge.specs.Calls.{Call, create, reset, write, lineByte, lineBreak, key, nextLineByte, loopFrame, show, World, Did, checks, outcome, settledBy, refusedOr, step}
+use Rattle.bridge.specs.Calls as calls
+use Rattle.runs.specs.Observers.{restarts}
+use Rattle.runs.specs.Run.{answer, after, end, Without, begins}
+use Rattle.runs.specs.LastSent.{afterOwn, lastOf, lastSent, recorded, LastKept, LastSince}
+use Rattle.runs.proofs.Shapes.{Fits}
+use Rattle.runs.proofs.View.{fitting}
+use Rattle.runs.proofs.Runs.{first-not}
+
+-- ---- calls that send nothing of our own
+
+-- the state has the same record
+abbrev Same : State → State → Type 0
+Same s t = t .line .stopped ≡ s .line .stopped
+
+line-same : (s : State) (b : ℕ) → Same s (lineState s b)
+unfolding lineState flowed lostState storedWith
+line-same s b = by-cond (Same s) (isFlow (s .regs) b) _ _ (λ _. refl) (λ _. by-cond (Same s) (full (s .sizes .rx) (s .rx)) _ _ (λ _. refl) (λ _. refl))
+
+write-same : (s : State) (n v : ℕ) → Same s (afterWrite s n (written (s .regs) n v))
+unfolding afterWrite setAfresh
+write-same s n v = by-cond (Same s) (eqb n 11) _ _ (λ _. refl) (λ _. refl)
+
+module _ (s : State) (rx : List ℕ) (f : ℕ) where
+  abbrev Kept : Outcome → Type 0
+  Kept o = Same s (o .state)
+
+  send-same : (g : Given) → Kept (sendState s (removedState s rx) g)
+  unfolding sendState ended talking removedState resumed
+  send-same given.Nothing = refl
+  send-same (given.One x) = refl
+
+  return-same : Kept (returned s rx f)
+  unfolding returned ended talking status.statusBack sendFrom
+  return-same =
+      by-cond Kept (sameApart f (s .under .frame)) _ _
+      (λ _. by-cond Kept (eqb (s .role .talker) 3) _ _ (λ _. refl) (λ _. by-cond Kept (s .under .finishing) _ _ (λ _. refl) (λ _. send-same (givenOf (sendHeld (ruleOf (s .regs)) rx (s .rx))))))
+      (λ _. refl)
+
+  ready-same : (r : Ready) → Kept (readied s rx f r)
+  unfolding readied finishing sendStatus talking status.statusSent sendFrom
+  ready-same Address = refl
+  ready-same Data = send-same (givenOf (sendHeld (ruleOf (s .regs)) rx (s .rx)))
+  ready-same Status = refl
+  ready-same Finish = refl
+  ready-same Pass = refl
+
+  frame-same : Kept (frameTaken s rx f)
+  unfolding frameTaken dataPassed leftState command commandState obeyed cleared ready identify
+  frame-same =
+      by-cond Kept (isData f) _ _
+      (λ _. by-cond Kept (isActive (s .role)) _ _ (λ _. return-same) (λ _. by-cond (Same s) (s .role .listener) _ _ (λ _. refl) (λ _. refl)))
+      (λ _. by-cond Kept (eqb (controlOf f) 4) _ _ (λ _. by-cond (Same s) (isClear (orderIn s f)) _ _ (λ _. refl) (λ _. refl))
+      (λ _. by-cond Kept (eqb (controlOf f) 5) _ _ (λ _. ready-same (readyOf (s .role) (dataOf f))) (λ _. refl)))
+
+-- ---- our own character
+
+-- "go and stop differ"
+own-character : (h : Bool) (x y : ℕ) → (x ≡ y → ⊥) → h ≡ eqb (cond h y x) y
+own-character true x y d = sym (eq-eqb y y refl)
+own-character false x y d = sym (ne-eqb x y d)
+
+module _ (w : World) where
+  abbrev NextKept : Out → Type 0
+  NextKept o = goneState (w .state) o .line .stopped ≡ lastOf (recorded w) nextLineByte w (said (outAnswer o))
+
+  next-same : Fits w → NextKept (nextOut (w .state) (w .tx))
+  unfolding nextOut goneState outAnswer said lastOf
+  next-same F =
+      by-tests (owed (w .state .line)) (w .state .line .forbidden || eqb (w .state .tx .len) 0) refl
+    where
+      g : Registers
+      g = w .state .regs
+
+      first : ℕ
+      first = getD (held (w .tx) (w .state .tx)) 0 0
+
+      differ : go (w .state .regs) ≡ stop (w .state .regs) → ⊥
+      differ = fit-differ (w .state .regs) (tests (w .state) (length (w .rx)) (length (w .tx)) F .regs)
+
+      by-tests : (t u : Bool) → owed (w .state .line) ≡ t → NextKept (cond t (Own (cond (w .state .line .holding) (stop g) (go g))) (cond u Nothing (Held first)))
+      by-tests true u e = own-character (w .state .line .holding) (go g) (stop g) differ ∙ (λ i. cond (sym e i) (afterOwn (recorded w) w (cond (w .state .line .holding) (stop g) (go g) ∷ [])) (recorded w))
+      by-tests false true e = λ i. cond (sym e i) (recorded w) (recorded w)
+      by-tests false false e = λ i. cond (sym e i) (afterOwn (recorded w) w (first ∷ [])) (recorded w)
+
+-- ---- every call
+
+module _ (c : Call) (w : World) where
+  -- "at start: go"
+  abbrev LastRight : Did → Type 0
+  LastRight d = recorded (d .world) ≡ cond (begins c w (d .said)) false (lastOf (recorded w) c w (d .said))
+
+  refused-or : (n : ℕ) (d : Did) → LastRight (record { said = refused n; world = w }) → (n ≡ 0 → LastRight d) → LastRight (refusedOr n d w)
+  unfolding refusedOr
+  refused-or n d r k = by-cond LastRight (eqb n 0) d (record { said = refused n; world = w }) (λ e. k (eqb-true n 0 e)) (λ _. r)
+
+same-either : (t k : Bool) → k ≡ cond t k k
+same-either true k = refl
+same-either false k = refl
+
+last-right : (c : Call) (w : World) → LastRight c w (step c w)
+unfolding step checks calls.accepted outcome settledBy settled said lastOf restarts startState breakState keyState
+last-right (create m) w = refused-or (create m) w _ _ refl (λ _. refl)
+last-right reset w = refused-or reset w _ _ refl (λ _. refl)
+last-right (write n v) w = refused-or (write n v) w _ _ refl (λ _. write-same (w .state) n v)
+last-right (lineByte b) w = refused-or (lineByte b) w _ _ refl (λ _. line-same (w .state) b)
+last-right lineBreak w = refused-or lineBreak w _ _ refl (λ _. refl)
+last-right key w = refused-or key w _ _ refl (λ _. refl)
+last-right nextLineByte w = refused-or nextLineByte w _ _ (same-either (owed (w .state .line)) (recorded w)) (λ e. next-same w (fitting _ 0 e .0))
+last-right (loopFrame f) w =
+    refused-or (loopFrame f) w _ _ refl
+    (λ _. by-cond (Same (w .state)) (deviceClear (w .state) f) _ _ (λ _. frame-same (w .state) (w .rx) f) (λ _. frame-same (w .state) (w .rx) f))
+last-right (show side) w = refl
+
+-- ---- runs
+
+pub last-kept : LastKept
+unfolding end lastSent
+last-kept [] w n = refl
+last-kept (c ∷ cs) w n =
+    last-kept cs (after c w) (m .1)
+    ∙ ap (λ k. lastSent k cs (after c w)) (last-right c w ∙ (λ i. cond (m .0 i) false (lastOf (recorded w) c w (answer c w))))
+  where
+    m : (begins c w (answer c w) ≡ false) × Without begins cs (after c w)
+    m = first-not begins c cs w n
+
+pub last-since : LastSince
+last-since c w b cs n =
+    last-kept cs (after c w) n
+    ∙ ap (λ k. lastSent k cs (after c w)) (last-right c w ∙ (λ i. cond (b i) false (lastOf (recorded w) c w (answer c w))))
