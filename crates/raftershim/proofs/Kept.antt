@@ -204,13 +204,16 @@ misfit-ranged key w e h = rw (misfit-step key w refl e) h
 misfit-ranged nextLineByte w e h = rw (misfit-step nextLineByte w refl e) h
 misfit-ranged (loopFrame f) w e h = rw (misfit-step (loopFrame f) w refl e) h
 
-pub typed-kept : (c : Call) (w : World) → isByteCall c ≡ true → Typed w → Typed (step c w .world)
-typed-kept c w b h =
-    record {
-      state = pick (fits (w .state) (length (w .rx)) (length (w .tx))) refl;
-      rx = after (λ (x : World). Bytes (x .rx)) c w (h .rx) (accepted-bytes c w b (h .rx));
-    }
+pub ranged-kept : (c : Call) (w : World) → Typed w → Ranged (step c w .world .state)
+ranged-kept c w h = pick (fits (w .state) (length (w .rx)) (length (w .tx))) refl
   where
     pick : (t : Bool) → fits (w .state) (length (w .rx)) (length (w .tx)) ≡ t → Ranged (step c w .world .state)
     pick true e = fits-ranged (step c w .world .state) (step c w .world .rx) (step c w .world .tx) (calls-keep-fit c w (h .rx) e) (counts-kept c w (h .state .counts))
     pick false e = misfit-ranged c w e (h .state)
+
+pub typed-kept : (c : Call) (w : World) → isByteCall c ≡ true → Typed w → Typed (step c w .world)
+typed-kept c w b h =
+    record {
+      state = ranged-kept c w h;
+      rx = after (λ (x : World). Bytes (x .rx)) c w (h .rx) (accepted-bytes c w b (h .rx));
+    }

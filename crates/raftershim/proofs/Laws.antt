@@ -7,6 +7,7 @@ use mathlib.Core.List.{List, [], _∷_}
 use lib.ListN.{length, take, drop}
 use lib.Dec.{eqb}
 use borrow.Author.Tests.{eqb-false, eqb-true}
+use Rattle.cases.proofs.Cases.{by-cond}
 use Rattle.state.specs.Answers.{Said, refused}
 use Rattle.block.specs.Packed.{blockLen, packed}
 use Rattle.block.specs.States.{fittingBlock, Ranged}
@@ -17,24 +18,37 @@ use Rattle.laws.proofs.Answers.{refused-exactly}
 use Rattle.raftershim.specs.Word.{word, kindOf, valueOf, placeWord, startOf, storeOf, shownWord}
 use Rattle.raftershim.specs.Calls.{Lent, lent, Returned, returned, opened, closed, createdFor, cStep, needsState}
 use Rattle.raftershim.specs.Runs.{packedWorld, answerWord}
+use Rattle.raftershim.specs.Laws.{OneResult, WordTells, ShownPlace, MisfitRefused, WrongBlockRefused, RefusalKeepsAll, SameCall}
 use Rattle.raftershim.proofs.Closing.{misfit-step, Shown, shown-part}
 
--- "For each public call, any two results allowed by its promise are equal": the number and every byte of the three buffers
-pub one-result : (x : Returned) {n m : ℕ} {b c rx ry tx ty : List ℕ} → returned n b rx tx ≡ x → returned m c ry ty ≡ x →
-    (n ≡ m) × ((b ≡ c) × ((rx ≡ ry) × (tx ≡ ty)))
-one-result x p q =
+-- every call is create, showing, or one on a state
+pub by-kind : (P : Call → Type 0) → ((m : ℕ) → P (create m)) → ((side : ℕ) → P (show side)) → ((c : Call) → needsState c ≡ true → P c) → (c : Call) → P c
+unfolding needsState
+by-kind P p q r (create m) = p m
+by-kind P p q r (show side) = q side
+by-kind P p q r reset = r reset refl
+by-kind P p q r (write k v) = r (write k v) refl
+by-kind P p q r (lineByte b) = r (lineByte b) refl
+by-kind P p q r lineBreak = r lineBreak refl
+by-kind P p q r key = r key refl
+by-kind P p q r nextLineByte = r nextLineByte refl
+by-kind P p q r (loopFrame f) = r (loopFrame f) refl
+
+-- ---- the answer
+
+pub one-result : OneResult
+one-result x n m b c rx ry tx ty p q =
     let e = p ∙ sym q in
     (ap (λ (r : Returned). r .word) e, (ap (λ (r : Returned). r .lent .block) e, (ap (λ (r : Returned). r .lent .rx) e, ap (λ (r : Returned). r .lent .tx) e)))
 
--- the number tells the kind and the value
-pub word-tells : (a : Said) → valueOf a < 65536 → (word a / 65536 ≡ kindOf a) × (word a % 65536 ≡ valueOf a)
+pub word-tells : WordTells
 unfolding word
 word-tells a h = (omega arith, omega arith)
 
 -- ---- refusals
 
 -- the calls on a state are closed in one way
-state-call : (c : Call) (l : Lent) → needsState c ≡ true → cStep c l ≡ closed l (step c (opened l))
+pub state-call : (c : Call) (l : Lent) → needsState c ≡ true → cStep c l ≡ closed l (step c (opened l))
 unfolding cStep needsState
 state-call (create m) l n = absurd (false≢true n)
 state-call (show side) l n = absurd (false≢true n)
@@ -46,15 +60,12 @@ state-call key l n = refl
 state-call nextLineByte l n = refl
 state-call (loopFrame f) l n = refl
 
--- "a block that is not a fitting state gets refusal 2", and nothing is written; a block of the wrong length is no state
-pub misfit-refused : (c : Call) (l : Lent) → needsState c ≡ true → fittingBlock (l .block) (length (l .rx)) (length (l .tx)) ≡ false →
-    cStep c l ≡ record { word = word (refused 2); lent = l }
+pub misfit-refused : MisfitRefused
 unfolding closed
 misfit-refused c l n e =
     state-call c l n ∙ ap (closed l) (misfit-step c (opened l) n (meaning-fits (l .block) (length (l .rx)) (length (l .tx)) ∙ e))
 
--- "or the lent block has the wrong length"
-pub wrong-block-refused : (m : ℕ) (l : Lent) → eqb (length (l .block)) blockLen ≡ false → cStep (create m) l ≡ record { word = word (refused 1); lent = l }
+pub wrong-block-refused : WrongBlockRefused
 unfolding cStep createdFor
 wrong-block-refused m l e = rw e
 
@@ -67,21 +78,21 @@ closed-keeps l d k e = rw (e, k e)
 refusal-keeps : (c : Call) (w : World) → isRefusal (step c w .said) ≡ true → step c w .world ≡ w
 refusal-keeps c w = refused-exactly c w .leaves
 
-pub refusal-keeps-all : (c : Call) (l : Lent) → isRefusal (step c (opened l) .said) ≡ true → cStep c l .lent ≡ l
+pub refusal-keeps-all : RefusalKeepsAll
 unfolding cStep createdFor
-refusal-keeps-all (create m) l e = pick (eqb (length (l .block)) blockLen) refl
+refusal-keeps-all c l = by-kind (λ (c : Call). isRefusal (step c (opened l) .said) ≡ true → cStep c l .lent ≡ l) creating showing calling c
   where
-    pick : (t : Bool) → eqb (length (l .block)) blockLen ≡ t → cond (eqb (length (l .block)) blockLen) (closed l (step (create m) (opened l))) (record { word = word (refused 1); lent = l }) .lent ≡ l
-    pick true q = rw q (closed-keeps l (step (create m) (opened l)) (refusal-keeps (create m) (opened l)) e)
-    pick false q = rw q
-refusal-keeps-all (show side) l e = refl
-refusal-keeps-all reset l e = closed-keeps l (step reset (opened l)) (refusal-keeps reset (opened l)) e
-refusal-keeps-all (write k v) l e = closed-keeps l (step (write k v) (opened l)) (refusal-keeps (write k v) (opened l)) e
-refusal-keeps-all (lineByte b) l e = closed-keeps l (step (lineByte b) (opened l)) (refusal-keeps (lineByte b) (opened l)) e
-refusal-keeps-all lineBreak l e = closed-keeps l (step lineBreak (opened l)) (refusal-keeps lineBreak (opened l)) e
-refusal-keeps-all key l e = closed-keeps l (step key (opened l)) (refusal-keeps key (opened l)) e
-refusal-keeps-all nextLineByte l e = closed-keeps l (step nextLineByte (opened l)) (refusal-keeps nextLineByte (opened l)) e
-refusal-keeps-all (loopFrame f) l e = closed-keeps l (step (loopFrame f) (opened l)) (refusal-keeps (loopFrame f) (opened l)) e
+    creating : (m : ℕ) → isRefusal (step (create m) (opened l) .said) ≡ true → cStep (create m) l .lent ≡ l
+    creating m e =
+        by-cond (λ (r : Returned). r .lent ≡ l) (eqb (length (l .block)) blockLen) _ _
+        (λ q. closed-keeps l (step (create m) (opened l)) (refusal-keeps (create m) (opened l)) e)
+        (λ q. refl)
+
+    showing : (side : ℕ) → isRefusal (step (show side) (opened l) .said) ≡ true → cStep (show side) l .lent ≡ l
+    showing side e = refl
+
+    calling : (c : Call) → needsState c ≡ true → isRefusal (step c (opened l) .said) ≡ true → cStep c l .lent ≡ l
+    calling c n e = ap (λ (r : Returned). r .lent) (state-call c l n) ∙ closed-keeps l (step c (opened l)) (refusal-keeps c (opened l)) e
 
 -- ---- showing
 
@@ -89,9 +100,7 @@ none-of : (xs : List ℕ) → length xs ≡ 0 → xs ≡ []
 none-of [] e = refl
 none-of (x ∷ xs) e = absurd (omega arith)
 
--- "the longest unbroken run of bytes from the oldest one, as a part of the receive or the transmit buffer": bits 0 to 31 of the number are
--- its length and bits 32 to 63 its start in the buffer of that side
-pub shown-place : (side : ℕ) (w : World) → shown side w ≡ take (shownWord side w % 4294967296) (drop (shownWord side w / 4294967296) (storeOf side w))
+pub shown-place : ShownPlace
 unfolding shownWord
 shown-place side w = pick (eqb (length p) 0) refl
   where
@@ -124,21 +133,31 @@ closed-packed w d k = pick (isRefusal (d .said)) refl
     pick true e = rw (e, k e)
     pick false e = rw e
 
-state-packed-call : (c : Call) (w : World) → needsState c ≡ true → Ranged (w .state) → cStep c (packedWorld w) ≡ record { word = word (step c w .said); lent = packedWorld (step c w .world) }
-state-packed-call c w n h =
-    state-call c (packedWorld w) n ∙ ap (λ (x : World). closed (packedWorld w) (step c x)) (opened-packed w h) ∙ closed-packed w (step c w) (refusal-keeps c w)
+-- the number that a call on a state is answered by
+pub state-word : (c : Call) (w : World) → needsState c ≡ true → word (step c w .said) ≡ answerWord c w
+unfolding answerWord needsState
+state-word (create m) w n = refl
+state-word (show side) w n = absurd (false≢true n)
+state-word reset w n = refl
+state-word (write k v) w n = refl
+state-word (lineByte b) w n = refl
+state-word lineBreak w n = refl
+state-word key w n = refl
+state-word nextLineByte w n = refl
+state-word (loopFrame f) w n = refl
 
--- a C call on the block of a state answers the number of what the call answers, and leaves the block of the state that the call leaves
-pub same-call : (c : Call) (w : World) → Ranged (w .state) → cStep c (packedWorld w) ≡ record { word = answerWord c w; lent = packedWorld (step c w .world) }
-unfolding cStep createdFor answerWord needsState step
-same-call (create m) w h =
-    rw (packed-length (w .state))
-    (ap (λ (x : World). closed (packedWorld w) (step (create m) x)) (opened-packed w h) ∙ closed-packed w (step (create m) w) (refusal-keeps (create m) w))
-same-call (show side) w h = ap (λ (x : World). record { word = shownWord side x; lent = packedWorld w }) (opened-packed w h)
-same-call reset w h = state-packed-call reset w refl h
-same-call (write k v) w h = state-packed-call (write k v) w refl h
-same-call (lineByte b) w h = state-packed-call (lineByte b) w refl h
-same-call lineBreak w h = state-packed-call lineBreak w refl h
-same-call key w h = state-packed-call key w refl h
-same-call nextLineByte w h = state-packed-call nextLineByte w refl h
-same-call (loopFrame f) w h = state-packed-call (loopFrame f) w refl h
+pub same-call : SameCall
+unfolding cStep createdFor answerWord step
+same-call c w h = by-kind (λ (c : Call). cStep c (packedWorld w) ≡ record { word = answerWord c w; lent = packedWorld (step c w .world) }) creating showing calling c
+  where
+    met : (c : Call) → closed (packedWorld w) (step c (opened (packedWorld w))) ≡ record { word = word (step c w .said); lent = packedWorld (step c w .world) }
+    met c = ap (λ (x : World). closed (packedWorld w) (step c x)) (opened-packed w h) ∙ closed-packed w (step c w) (refusal-keeps c w)
+
+    creating : (m : ℕ) → cStep (create m) (packedWorld w) ≡ record { word = answerWord (create m) w; lent = packedWorld (step (create m) w .world) }
+    creating m = rw (packed-length (w .state)) (met (create m))
+
+    showing : (side : ℕ) → cStep (show side) (packedWorld w) ≡ record { word = answerWord (show side) w; lent = packedWorld (step (show side) w .world) }
+    showing side = ap (λ (x : World). record { word = shownWord side x; lent = packedWorld w }) (opened-packed w h)
+
+    calling : (c : Call) → needsState c ≡ true → cStep c (packedWorld w) ≡ record { word = answerWord c w; lent = packedWorld (step c w .world) }
+    calling c n = state-call c (packedWorld w) n ∙ met c ∙ (λ i. record { word = state-word c w n i; lent = packedWorld (step c w .world) })

@@ -5,21 +5,21 @@ use mathlib.Core.List.{List, [], _∷_}
 use Prim.Native.Nat.{ℕ}
 use Rattle.cases.proofs.Cases.{and-left, and-right}
 use Rattle.bridge.specs.Calls.{Call, World, step}
+use Rattle.runs.specs.Run.{end}
 use Rattle.raftershim.specs.Calls.{Lent, Returned, cStep}
-use Rattle.raftershim.specs.Runs.{packedWorld, answerWord, end, words, cEnd, cWords, isByteCall, allByteCalls, Typed}
+use Rattle.raftershim.specs.Runs.{packedWorld, answerWord, words, cEnd, cWords, isByteCall, allByteCalls, Typed}
+use Rattle.raftershim.specs.Laws.{SameEnd, SameWords}
 use Rattle.raftershim.proofs.Kept.{typed-kept}
 use Rattle.raftershim.proofs.Laws.{same-call}
 
--- the buffers at the end are the world at the end
-pub same-end : (cs : List Call) (w : World) → allByteCalls cs ≡ true → Typed w → cEnd cs (packedWorld w) ≡ packedWorld (end cs w)
+pub same-end : SameEnd
 unfolding cEnd end allByteCalls
 same-end [] w b h = refl
 same-end (c ∷ cs) w b h =
     ap (λ (r : Returned). cEnd cs (r .lent)) (same-call c w (h .state))
     ∙ same-end cs (step c w .world) (and-right (isByteCall c) (allByteCalls cs) b) (typed-kept c w (and-left (isByteCall c) (allByteCalls cs) b) h)
 
--- the numbers answered are the answers
-pub same-words : (cs : List Call) (w : World) → allByteCalls cs ≡ true → Typed w → cWords cs (packedWorld w) ≡ words cs w
+pub same-words : SameWords
 unfolding cWords words allByteCalls
 same-words [] w b h = refl
 same-words (c ∷ cs) w b h =

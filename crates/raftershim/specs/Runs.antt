@@ -1,10 +1,11 @@
 -- Runs of C calls beside runs of the bridge's calls.
 use Prim.Native.Nat.{ℕ, _<_}
+use mathlib.Core.Path.{_≡_}
 use mathlib.Core.Bool.{Bool, true, _&&_}
 use mathlib.Core.List.{List, [], _∷_}
-use lib.ListN.{getD}
+use lib.ListN.{length, getD}
 use lib.Dec.{ltb}
-use Rattle.block.specs.Packed.{packed}
+use Rattle.block.specs.Packed.{blockLen, packed}
 use Rattle.block.specs.States.{Bytes, Ranged}
 use Rattle.bridge.specs.Calls.{Call, create, reset, write, lineByte, lineBreak, key, nextLineByte, loopFrame, show, World, Did, step}
 use Rattle.raftershim.specs.Word.{word, shownWord}
@@ -26,11 +27,7 @@ answerWord nextLineByte w = word (step nextLineByte w .said)
 answerWord (loopFrame f) w = word (step (loopFrame f) w .said)
 answerWord (show side) w = shownWord side w
 
--- a run of the bridge's calls: the world at its end, and the numbers that its answers are
-unfoldable pub end : List Call → World → World
-end [] w = w
-end (c ∷ cs) w = end cs (step c w .world)
-
+-- the numbers that the answers of a run of the bridge's calls are
 unfoldable pub words : List Call → World → List ℕ
 words [] w = []
 words (c ∷ cs) w = answerWord c w ∷ words cs (step c w .world)
@@ -64,3 +61,13 @@ allByteCalls (c ∷ cs) = isByteCall c && allByteCalls cs
 pub record Typed (w : World) : Type 0 where
   pub state : Ranged (w .state)
   pub rx : Bytes (w .rx)
+
+-- what the types of the C functions give of lent buffers: numbers that are bytes
+pub record OfBytes (l : Lent) : Type 0 where
+  pub block : Bytes (l .block)
+  pub rx : Bytes (l .rx)
+
+-- and "a lent block of bytes of one fixed length", a state or not
+pub record Whole (l : Lent) : Type 0 where
+  pub length : length (l .block) ≡ blockLen
+  pub bytes : OfBytes l

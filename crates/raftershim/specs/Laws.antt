@@ -1,0 +1,86 @@
+-- What holds of every C call, and of every run of C calls.
+use Prim.Native.Nat.{ℕ, _/_, _%_, _<_}
+use mathlib.Core.Path.{_≡_}
+use mathlib.Core.Bool.{true, false}
+use mathlib.Core.List.{List}
+use lib.ListN.{length, take, drop}
+use lib.Dec.{eqb}
+use Rattle.state.specs.Answers.{Said, refused}
+use Rattle.block.specs.Packed.{blockLen}
+use Rattle.block.specs.States.{fittingBlock, Ranged}
+use Rattle.bridge.specs.Calls.{Call, create, World, step, shown}
+use Rattle.laws.specs.Answers.{isRefusal}
+use Rattle.runs.specs.Run.{end}
+use Rattle.raftershim.specs.Word.{word, kindOf, valueOf, storeOf, shownWord}
+use Rattle.raftershim.specs.Calls.{Lent, Returned, returned, opened, cStep, needsState}
+use Rattle.raftershim.specs.Runs.{packedWorld, answerWord, words, cEnd, cWords, allByteCalls, Typed, Whole}
+
+-- ---- the answer
+
+-- "For each public call, any two results allowed by its promise are equal": the number and every byte of the three buffers
+abbrev pub OneResult : Type 0
+OneResult =
+    (x : Returned) (n m : ℕ) (b c rx ry tx ty : List ℕ) → returned n b rx tx ≡ x → returned m c ry ty ≡ x →
+    (n ≡ m) × ((b ≡ c) × ((rx ≡ ry) × (tx ≡ ty)))
+
+-- the number tells the kind and the value
+abbrev pub WordTells : Type 0
+WordTells = (a : Said) → valueOf a < 65536 → (word a / 65536 ≡ kindOf a) × (word a % 65536 ≡ valueOf a)
+
+-- "the longest unbroken run of bytes from the oldest one, as a part of the receive or the transmit buffer": bits 0 to 31 of the number are
+-- its length and bits 32 to 63 its start in the buffer of that side
+abbrev pub ShownPlace : Type 0
+ShownPlace = (side : ℕ) (w : World) → shown side w ≡ take (shownWord side w % 4294967296) (drop (shownWord side w / 4294967296) (storeOf side w))
+
+-- ---- refusals
+
+-- a call that answered this number and left the buffers as they were
+abbrev pub refusedBy : ℕ → Lent → Returned
+refusedBy n l = record { word = word (refused n); lent = l }
+
+-- "a block that is not a fitting state gets refusal 2", and nothing is written; a block of the wrong length is no state
+abbrev pub MisfitRefused : Type 0
+MisfitRefused =
+    (c : Call) (l : Lent) → needsState c ≡ true → fittingBlock (l .block) (length (l .rx)) (length (l .tx)) ≡ false → cStep c l ≡ refusedBy 2 l
+
+-- "or the lent block has the wrong length"
+abbrev pub WrongBlockRefused : Type 0
+WrongBlockRefused = (m : ℕ) (l : Lent) → eqb (length (l .block)) blockLen ≡ false → cStep (create m) l ≡ refusedBy 1 l
+
+-- "Each returns its number alone; state and stores stay as they were", and so does the block
+abbrev pub RefusalKeepsAll : Type 0
+RefusalKeepsAll = (c : Call) (l : Lent) → isRefusal (step c (opened l) .said) ≡ true → cStep c l .lent ≡ l
+
+-- ---- every C function is the call of its name
+
+-- "the state travels as a lent block": a C call on the block of a state answers the number of what the call answers, and leaves the
+-- block of the state that the call leaves
+abbrev pub SameCall : Type 0
+SameCall = (c : Call) (w : World) → Ranged (w .state) → cStep c (packedWorld w) ≡ record { word = answerWord c w; lent = packedWorld (step c w .world) }
+
+-- "each call given the state as the one before left it": the buffers at the end of a run are the world at its end
+abbrev pub SameEnd : Type 0
+SameEnd = (cs : List Call) (w : World) → allByteCalls cs ≡ true → Typed w → cEnd cs (packedWorld w) ≡ packedWorld (end cs w)
+
+-- and the numbers answered are the answers
+abbrev pub SameWords : Type 0
+SameWords = (cs : List Call) (w : World) → allByteCalls cs ≡ true → Typed w → cWords cs (packedWorld w) ≡ words cs w
+
+-- ---- the same of any block of the one length, a state or not
+
+-- the world after a C call is the one that the call leaves, and the number is its answer
+pub record Means (c : Call) (l : Lent) : Type 0 where
+  pub world : opened (cStep c l .lent) ≡ step c (opened l) .world
+  pub word : cStep c l .word ≡ answerWord c (opened l)
+
+abbrev pub CallMeans : Type 0
+CallMeans = (c : Call) (l : Lent) → Whole l → Means c l
+
+-- the same of a run
+pub record RunMeans (cs : List Call) (l : Lent) : Type 0 where
+  pub world : opened (cEnd cs l) ≡ end cs (opened l)
+  pub words : cWords cs l ≡ words cs (opened l)
+  pub whole : Whole (cEnd cs l)
+
+abbrev pub RunsMean : Type 0
+RunsMean = (cs : List Call) (l : Lent) → allByteCalls cs ≡ true → Whole l → RunMeans cs l
