@@ -75,7 +75,7 @@ unfolding closed
 closed-keeps l d k e = rw (e, k e)
 
 -- "Each returns its number alone; state and stores stay as they were"
-refusal-keeps : (c : Call) (w : World) → isRefusal (step c w .said) ≡ true → step c w .world ≡ w
+pub refusal-keeps : (c : Call) (w : World) → isRefusal (step c w .said) ≡ true → step c w .world ≡ w
 refusal-keeps c w = refused-exactly c w .leaves
 
 pub refusal-keeps-all : RefusalKeepsAll

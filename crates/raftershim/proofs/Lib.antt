@@ -3,3 +3,5 @@ pub mod Closing
 pub mod Kept
 pub mod Laws
 pub mod Runs
+pub mod Opened
+pub mod Fitting

@@ -1,0 +1,125 @@
+-- A C call does on lent buffers what the call does on the world that they stand for, and so does a run. Assumes nothing.
+use Prim.Native.Nat.{ℕ}
+use native.Mathlib.Omega.{arith}
+use mathlib.Core.Path.{_≡_, refl, sym, ap, subst, _∙_}
+use mathlib.Core.Bool.{Bool, true, false, cond}
+use mathlib.Core.List.{List, [], _∷_}
+use lib.ListN.{length}
+use lib.Dec.{eqb}
+use borrow.Author.Tests.{eq-eqb}
+use Rattle.cases.proofs.Cases.{and-left, and-right, by-cond, cond-true}
+use Rattle.state.specs.Answers.{Said}
+use Rattle.block.specs.Packed.{blockLen, packed}
+use Rattle.block.specs.States.{isState, meaning, noState, Bytes, Ranged}
+use Rattle.block.proofs.Laws.{packed-length, packed-bytes, packed-means, unpacked-ranged, start-ranged}
+use Rattle.block.proofs.Same.{means, means-none}
+use Rattle.bridge.specs.Calls.{Call, create, show, World, world, Did, step}
+use Rattle.laws.specs.Answers.{isRefusal}
+use Rattle.runs.specs.Run.{end}
+use Rattle.raftershim.specs.Word.{word}
+use Rattle.raftershim.specs.Calls.{Lent, lent, Returned, returned, opened, blockAfter, closed, createdFor, cStep, needsState}
+use Rattle.raftershim.specs.Runs.{answerWord, words, cEnd, cWords, isByteCall, allByteCalls, Typed, OfBytes, Whole}
+use Rattle.raftershim.specs.Laws.{Means, CallMeans, RunMeans, RunsMean}
+use Rattle.raftershim.proofs.Kept.{ranged-kept, typed-kept}
+use Rattle.raftershim.proofs.Laws.{by-kind, state-call, state-word, refusal-keeps}
+
+-- what a block of bytes means is ranged, also where it is no state
+meaning-ranged : (b : List ℕ) → Bytes b → Ranged (meaning b)
+meaning-ranged b h = pick (isState b) refl
+  where
+    pick : (t : Bool) → isState b ≡ t → Ranged (meaning b)
+    pick true e = subst Ranged (means b true (sym e) refl) (unpacked-ranged b h)
+    pick false e = subst Ranged (means-none b false (sym e) refl) (start-ranged 0 0 0 (omega arith) (omega arith) (omega arith))
+
+pub opened-typed : (l : Lent) → OfBytes l → Typed (opened l)
+opened-typed l h = record { state = meaning-ranged (l .block) (h .block); rx = h .rx }
+
+-- ---- one call
+
+-- every call but showing is closed in one way, where the block has the one length
+pub create-call : (m : ℕ) (l : Lent) → length (l .block) ≡ blockLen → cStep (create m) l ≡ closed l (step (create m) (opened l))
+unfolding cStep createdFor
+create-call m l e = cond-true (eqb (length (l .block)) blockLen) _ _ (eq-eqb (length (l .block)) blockLen e)
+
+-- what a call that is closed leaves
+module _ (l : Lent) (d : Did) (k : isRefusal (d .said) ≡ true → d .world ≡ opened l) (r : Ranged (d .world .state)) where
+  pub closed-world : opened (closed l d .lent) ≡ d .world
+  unfolding closed
+  closed-world = pick (isRefusal (d .said)) refl
+    where
+      pick : (t : Bool) → isRefusal (d .said) ≡ t → world (meaning (cond (isRefusal (d .said)) (l .block) (packed (d .world .state)))) (d .world .rx) (d .world .tx) ≡ d .world
+      pick true e = rw (e, k e)
+      pick false e = rw (e, packed-means (d .world .state) r)
+
+  pub closed-block : length (l .block) ≡ blockLen → Bytes (l .block) → (length (closed l d .lent .block) ≡ blockLen) × Bytes (closed l d .lent .block)
+  unfolding closed
+  closed-block e h =
+      by-cond (λ (b : List ℕ). (length b ≡ blockLen) × Bytes b) (isRefusal (d .said)) _ _
+      (λ q. (e, h))
+      (λ q. (packed-length (d .world .state), packed-bytes (d .world .state) r))
+
+module _ (l : Lent) (h : Whole l) where
+  typed : Typed (opened l)
+  typed = opened-typed l (h .bytes)
+
+  meant : (c : Call) → Means c l
+  unfolding cStep answerWord step closed
+  meant = by-kind (λ (c : Call). Means c l) creating (λ side. record { world = refl; word = refl }) calling
+    where
+      closing : (c : Call) → cStep c l ≡ closed l (step c (opened l)) → word (step c (opened l) .said) ≡ answerWord c (opened l) → Means c l
+      closing c q a =
+          record {
+            world = ap (λ (x : Returned). opened (x .lent)) q ∙ closed-world l (step c (opened l)) (refusal-keeps c (opened l)) (ranged-kept c (opened l) typed);
+            word = ap (λ (x : Returned). x .word) q ∙ a;
+          }
+
+      creating : (m : ℕ) → Means (create m) l
+      creating m = closing (create m) (create-call m l (h .length)) refl
+
+      calling : (c : Call) → needsState c ≡ true → Means c l
+      calling c n = closing c (state-call c l n) (state-word c (opened l) n)
+
+  -- the block stays one of the one length, and of bytes
+  block-kept : (c : Call) → (length (cStep c l .lent .block) ≡ blockLen) × Bytes (cStep c l .lent .block)
+  unfolding cStep
+  block-kept = by-kind (λ (c : Call). (length (cStep c l .lent .block) ≡ blockLen) × Bytes (cStep c l .lent .block)) creating (λ side. (h .length, h .bytes .block)) calling
+    where
+      closing : (c : Call) → cStep c l ≡ closed l (step c (opened l)) → (length (cStep c l .lent .block) ≡ blockLen) × Bytes (cStep c l .lent .block)
+      closing c q =
+          subst (λ (x : Returned). (length (x .lent .block) ≡ blockLen) × Bytes (x .lent .block)) (sym q)
+          (closed-block l (step c (opened l)) (refusal-keeps c (opened l)) (ranged-kept c (opened l) typed) (h .length) (h .bytes .block))
+
+      creating : (m : ℕ) → (length (cStep (create m) l .lent .block) ≡ blockLen) × Bytes (cStep (create m) l .lent .block)
+      creating m = closing (create m) (create-call m l (h .length))
+
+      calling : (c : Call) → needsState c ≡ true → (length (cStep c l .lent .block) ≡ blockLen) × Bytes (cStep c l .lent .block)
+      calling c n = closing c (state-call c l n)
+
+  pub whole-kept : (c : Call) → isByteCall c ≡ true → Whole (cStep c l .lent)
+  whole-kept c b =
+      record {
+        length = block-kept c .0;
+        bytes =
+            record {
+              block = block-kept c .1;
+              rx = subst (λ (w : World). Bytes (w .rx)) (sym (meant c .world)) (typed-kept c (opened l) b typed .rx);
+            };
+      }
+
+pub call-means : CallMeans
+call-means c l h = meant l h c
+
+-- ---- runs
+
+pub runs-mean : RunsMean
+unfolding cEnd cWords end words allByteCalls
+runs-mean [] l b h = record { world = refl; words = refl; whole = h }
+runs-mean (c ∷ cs) l b h =
+    let k : Whole (cStep c l .lent) = whole-kept l h c (and-left (isByteCall c) (allByteCalls cs) b) in
+    let r : RunMeans cs (cStep c l .lent) = runs-mean cs (cStep c l .lent) (and-right (isByteCall c) (allByteCalls cs) b) k in
+    let m : Means c l = call-means c l h in
+    record {
+      world = r .world ∙ ap (end cs) (m .world);
+      words = λ i. m .word i ∷ (r .words ∙ ap (words cs) (m .world)) i;
+      whole = r .whole;
+    }
