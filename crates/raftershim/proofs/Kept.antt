@@ -1,15 +1,16 @@
--- What every call keeps: counts in 32 bits, numbers that fit their places, and a receive store of bytes. Assumes nothing.
-use Prim.Native.Nat.{ℕ, zero, suc, _+_, _%_, _<_}
+-- What every call keeps: counts in 32 bits, numbers that fit their places, and stores of bytes. Assumes nothing.
+use Prim.Native.Nat.{ℕ, _+_, _%_, _<_}
 use native.Mathlib.Omega.{arith}
 use mathlib.Core.Path.{_≡_, refl, sym, ap, subst, _∙_}
-use mathlib.Core.Bool.{Bool, true, false, cond, not}
+use mathlib.Core.Bool.{Bool, true, false, cond, _&&_, not}
 use mathlib.Core.List.{List, [], _∷_}
-use lib.ListN.{length, getD, set}
+use lib.ListN.{length, getD}
 use lib.Dec.{eqb, ltb}
 use borrow.Author.Tests.{ltb-true}
 use Rattle.cases.specs.Refusals.{firstRefusal}
 use Rattle.cases.proofs.Cases.{by-cond}
-use Rattle.frame.specs.Frame.{controlOf, dataOf, isData, sameApart}
+use Rattle.frame.specs.Frame.{controlOf, dataOf, isData, isEnd, sameApart}
+use Rattle.registers.specs.Meanings.{endInserted}
 use Rattle.registers.specs.Writing.{written}
 use Rattle.role.specs.declared.Order.{Order}
 use Rattle.role.specs.declared.Ready.{Ready}
@@ -20,7 +21,7 @@ use Rattle.sending.specs.declared.Given.{Given}
 use Rattle.sending.specs.declared.Given.the-variants.{Nothing, One}
 use Rattle.sending.specs.Sending.{givenOf, sendHeld}
 use Rattle.store.specs.declared.Ring.{Ring}
-use Rattle.store.specs.Ring.{full, putBytes}
+use Rattle.store.specs.Ring.{full, putBytes, putsBytes}
 use Rattle.state.specs.declared.State.{State}
 use Rattle.state.specs.declared.Outcome.{Outcome}
 use Rattle.state.specs.declared.Out.{Out}
@@ -29,11 +30,13 @@ use Rattle.state.specs.Counts.{counted}
 use Rattle.state.specs.Sizes.{sizesObeyed, startState, fits}
 use Rattle.state.specs.Status.{settled, statusBack, statusSent, breakState, keyState}
 use Rattle.line.specs.HoldingOff.{isFlow, flowed, storedWith, storedState, lostState, lineState, lineBytes, resumed, setAfresh, afterWrite, nextOut, goneState}
-use Rattle.loops.specs.LoopToLine.{leftState}
+use Rattle.loops.specs.LoopToLine.{leaves, leftState, leftBytes}
 use Rattle.loops.specs.Sending.{talking, ended, ruleOf, removedState, sendState, sendFrom, sendStatus}
-use Rattle.loops.specs.Frames.{cleared, isClear, obeyed, orderIn, commandState, command, finishing, readied, ready, returned, dataPassed, identify, frameTaken, deviceClear}
-use Rattle.laws.proofs.Fitting.{calls-keep-fit}
-use Rattle.block.specs.States.{Bytes, CountsRanged, Ranged}
+use Rattle.loops.specs.Frames.{cleared, isClear, obeyed, orderIn, commandState, command, finishing, readied, ready, returned, dataPassed, identify, frameTaken, deviceClear, leavesBytes, frameBytes}
+use Rattle.laws.specs.Fitting.{ByteCall}
+use Rattle.laws.proofs.Fitting.{calls-keep-fit, calls-keep-bytes}
+use Rattle.laws.proofs.Small.{put-bytes}
+use Rattle.block.specs.States.{Bytes, RegistersRanged, CountsRanged, Ranged}
 use Rattle.block.proofs.Laws.{fits-ranged, obeyed-ranged}
 use Rattle.bridge.specs.Calls.{Call, create, reset, write, lineByte, lineBreak, key, nextLineByte, loopFrame, show, World, Did, checks, outcome, settledBy, rxAfter, txAfter, accepted, refusedOr, step}
 use Rattle.raftershim.specs.Calls.{needsState}
@@ -156,34 +159,45 @@ after P (show side) w p q = p
 pub counts-kept : (c : Call) (w : World) → Counted (w .state) → Counted (step c w .world .state)
 counts-kept c w k = after (λ (x : World). Counted (x .state)) c w k (accepted-counts c w k)
 
--- ---- the receive store
+-- ---- the stores
 
-set-bytes : (xs : List ℕ) (i b : ℕ) → b < 256 → Bytes xs → Bytes (set xs i b)
-set-bytes [] i b h k j = k j
-set-bytes (x ∷ xs) zero b h k zero = h
-set-bytes (x ∷ xs) zero b h k (suc j) = k (suc j)
-set-bytes (x ∷ xs) (suc i) b h k zero = k 0
-set-bytes (x ∷ xs) (suc i) b h k (suc j) = set-bytes xs i b h (λ n. k (suc n)) j
+byte-call : (c : Call) → isByteCall c ≡ true → ByteCall c
+unfolding isByteCall
+byte-call (lineByte b) h = ltb-true b 256 h
+byte-call (create m) h = tt
+byte-call reset h = tt
+byte-call (write n v) h = tt
+byte-call lineBreak h = tt
+byte-call key h = tt
+byte-call nextLineByte h = tt
+byte-call (loopFrame f) h = tt
+byte-call (show side) h = tt
 
-put-bytes : (xs : List ℕ) (r : Ring) (b : ℕ) → b < 256 → Bytes xs → Bytes (putBytes xs r b)
-unfolding putBytes
-put-bytes xs r b h k = by-cond Bytes (full (length xs) r) _ _ (λ e. k) (λ e. set-bytes xs _ b h k)
+-- what a data frame adds to the transmit store is bytes
+left-bytes : (s : State) (tx : List ℕ) (f : ℕ) → RegistersRanged (s .regs) → Bytes tx → Bytes (leftBytes s tx f)
+unfolding leftBytes leaves putsBytes
+left-bytes s tx f h k =
+    by-cond (λ (l : List ℕ). Bytes (putsBytes tx (s .tx) l)) (isEnd f && endInserted (s .regs)) _ _
+    (λ e. put-bytes _ _ (s .regs .c03) (h .c03) (put-bytes _ _ (s .regs .c02) (h .c02) first))
+    (λ e. first)
+  where
+    first : Bytes (putBytes tx (s .tx) (dataOf f))
+    first = put-bytes tx (s .tx) (dataOf f) (omega arith) k
 
-line-bytes : (s : State) (rx : List ℕ) (b : ℕ) → b < 256 → Bytes rx → Bytes (lineBytes s rx b)
-unfolding lineBytes
-line-bytes s rx b h k = by-cond Bytes (isFlow (s .regs) b) _ _ (λ e. k) (λ e. put-bytes rx (s .rx) b h k)
+accepted-tx : (c : Call) (w : World) → Ranged (w .state) → Bytes (w .tx) → Bytes (accepted c w .world .tx)
+unfolding accepted txAfter frameBytes
+accepted-tx (loopFrame f) w h k = by-cond Bytes (leavesBytes (w .state) f) _ _ (λ e. left-bytes (w .state) (w .tx) f (h .regs) k) (λ e. k)
+accepted-tx (create m) w h k = k
+accepted-tx reset w h k = k
+accepted-tx (write n v) w h k = k
+accepted-tx (lineByte b) w h k = k
+accepted-tx lineBreak w h k = k
+accepted-tx key w h k = k
+accepted-tx nextLineByte w h k = k
+accepted-tx (show side) w h k = k
 
-accepted-bytes : (c : Call) (w : World) → isByteCall c ≡ true → Bytes (w .rx) → Bytes (accepted c w .world .rx)
-unfolding accepted rxAfter isByteCall
-accepted-bytes (lineByte b) w h k = line-bytes (w .state) (w .rx) b (ltb-true b 256 h) k
-accepted-bytes (create m) w h k = k
-accepted-bytes reset w h k = k
-accepted-bytes (write n v) w h k = k
-accepted-bytes lineBreak w h k = k
-accepted-bytes key w h k = k
-accepted-bytes nextLineByte w h k = k
-accepted-bytes (loopFrame f) w h k = k
-accepted-bytes (show side) w h k = k
+pub tx-kept : (c : Call) (w : World) → Ranged (w .state) → Bytes (w .tx) → Bytes (step c w .world .tx)
+tx-kept c w h k = after (λ (x : World). Bytes (x .tx)) c w k (accepted-tx c w h k)
 
 -- ---- all numbers
 
@@ -215,5 +229,5 @@ pub typed-kept : (c : Call) (w : World) → isByteCall c ≡ true → Typed w �
 typed-kept c w b h =
     record {
       state = ranged-kept c w h;
-      rx = after (λ (x : World). Bytes (x .rx)) c w (h .rx) (accepted-bytes c w b (h .rx));
+      rx = calls-keep-bytes c w (byte-call c b) (h .rx);
     }

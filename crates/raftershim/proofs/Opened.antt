@@ -20,7 +20,7 @@ use Rattle.raftershim.specs.Word.{word}
 use Rattle.raftershim.specs.Calls.{Lent, lent, Returned, returned, opened, blockAfter, closed, createdFor, cStep, needsState}
 use Rattle.raftershim.specs.Runs.{answerWord, words, cEnd, cWords, isByteCall, allByteCalls, Typed, OfBytes, Whole}
 use Rattle.raftershim.specs.Laws.{Means, CallMeans, RunMeans, RunsMean}
-use Rattle.raftershim.proofs.Kept.{ranged-kept, typed-kept}
+use Rattle.raftershim.proofs.Kept.{tx-kept, ranged-kept, typed-kept}
 use Rattle.raftershim.proofs.Laws.{by-kind, state-call, state-word, refusal-keeps}
 
 -- what a block of bytes means is ranged, also where it is no state
@@ -103,6 +103,7 @@ module _ (l : Lent) (h : Whole l) where
             record {
               block = block-kept c .1;
               rx = subst (λ (w : World). Bytes (w .rx)) (sym (meant c .world)) (typed-kept c (opened l) b typed .rx);
+              tx = subst (λ (w : World). Bytes (w .tx)) (sym (meant c .world)) (tx-kept c (opened l) (typed .state) (h .bytes .tx));
             };
       }
 

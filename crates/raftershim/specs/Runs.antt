@@ -66,6 +66,7 @@ pub record Typed (w : World) : Type 0 where
 pub record OfBytes (l : Lent) : Type 0 where
   pub block : Bytes (l .block)
   pub rx : Bytes (l .rx)
+  pub tx : Bytes (l .tx)
 
 -- and "a lent block of bytes of one fixed length", a state or not
 pub record Whole (l : Lent) : Type 0 where
