@@ -3,5 +3,7 @@ pub mod Closing
 pub mod Kept
 pub mod Laws
 pub mod Runs
+pub mod Small
 pub mod Opened
+pub mod Told
 pub mod Fitting

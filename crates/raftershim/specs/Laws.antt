@@ -14,6 +14,7 @@ use Rattle.runs.specs.Run.{end}
 use Rattle.raftershim.specs.Word.{word, kindOf, valueOf, storeOf, shownWord}
 use Rattle.raftershim.specs.Calls.{Lent, Returned, returned, opened, cStep, needsState}
 use Rattle.raftershim.specs.Runs.{packedWorld, answerWord, words, cEnd, cWords, allByteCalls, Typed, Whole}
+use Rattle.raftershim.specs.Told.{cAnswer}
 
 -- ---- the answer
 
@@ -84,3 +85,7 @@ pub record RunMeans (cs : List Call) (l : Lent) : Type 0 where
 
 abbrev pub RunsMean : Type 0
 RunsMean = (cs : List Call) (l : Lent) → allByteCalls cs ≡ true → Whole l → RunMeans cs l
+
+-- "Where an answer is an enum, a definition gives this paper's number and values": the number of a C call tells its whole answer
+abbrev pub AnswersTold : Type 0
+AnswersTold = (c : Call) (l : Lent) → Whole l → cAnswer c l ≡ step c (opened l) .said
