@@ -52,7 +52,7 @@ create-done m w e = pick (sizesObeyed m (length (w .rx)) (length (w .tx))) refl
     pick true q = q
     pick false q = let z : _≡_ {A = ℕ} (word (refused 1)) (word done) = rw q at e in absurd (omega (arith, z))
 
-obeyed-done : (m : ℕ) (w : World) → sizesObeyed m (length (w .rx)) (length (w .tx)) ≡ true → (step (create m) w .said ≡ done) × Ranged (step (create m) w .world .state)
+pub obeyed-done : (m : ℕ) (w : World) → sizesObeyed m (length (w .rx)) (length (w .tx)) ≡ true → (step (create m) w .said ≡ done) × Ranged (step (create m) w .world .state)
 unfolding step refusedOr checks accepted outcome settledBy said
 obeyed-done m w e = rw e (refl, obeyed-ranged m (length (w .rx)) (length (w .tx)) e)
 

@@ -7,3 +7,4 @@ pub mod Small
 pub mod Opened
 pub mod Told
 pub mod Fitting
+pub mod Demands
