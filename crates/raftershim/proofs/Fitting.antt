@@ -2,25 +2,24 @@
 use Prim.Native.Nat.{ℕ}
 use native.Mathlib.Omega.{arith}
 use mathlib.Core.Path.{_≡_, refl, sym, ap, subst, _∙_}
-use mathlib.Core.Bool.{Bool, true, false, cond}
+use mathlib.Core.Bool.{Bool, true, false}
 use mathlib.Core.List.{List}
 use lib.ListN.{length}
 use lib.Dec.{eqb}
 use borrow.Author.Tests.{eqb-true}
 use Rattle.cases.proofs.Cases.{and-left, by-cond}
-use Rattle.state.specs.Answers.{Said, said, done, refused}
-use Rattle.state.specs.Sizes.{sizesObeyed, fits}
-use Rattle.block.specs.Packed.{blockLen, packed}
+use Rattle.state.specs.Answers.{said, done, refused}
+use Rattle.state.specs.Sizes.{sizesObeyed}
+use Rattle.block.specs.Packed.{blockLen}
 use Rattle.block.specs.States.{isState, fittingBlock, Ranged}
 use Rattle.block.proofs.Laws.{packed-length, meaning-fits, obeyed-ranged}
 use Rattle.block.proofs.Same.{state-length}
-use Rattle.bridge.specs.Calls.{Call, create, show, World, Did, checks, outcome, settledBy, accepted, refusedOr, step}
+use Rattle.bridge.specs.Calls.{Call, create, World, checks, outcome, settledBy, accepted, refusedOr, step}
 use Rattle.laws.specs.Answers.{isRefusal}
 use Rattle.laws.specs.Fitting.{Fits, SameStores}
 use Rattle.laws.proofs.Fitting.{calls-keep-fit, create-makes-fit, calls-keep-stores}
 use Rattle.raftershim.specs.Word.{word, kindOf, valueOf}
-use Rattle.raftershim.specs.Calls.{Lent, Returned, opened, closed, createdFor, cStep, needsState}
-use Rattle.raftershim.specs.Runs.{OfBytes, Whole}
+use Rattle.raftershim.specs.Calls.{Lent, Returned, opened, closed, cStep, needsState}
 use Rattle.raftershim.specs.Fitting.{FitsStores, BlockKeepsFit, CreateFits, SameLengths, LengthsStay}
 use Rattle.raftershim.proofs.Laws.{by-kind, state-call, refusal-keeps, misfit-refused, wrong-block-refused}
 use Rattle.raftershim.proofs.Opened.{create-call, closed-world, call-means}

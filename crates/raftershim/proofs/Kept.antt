@@ -1,11 +1,11 @@
 -- What every call keeps: counts in 32 bits, numbers that fit their places, and stores of bytes. Assumes nothing.
-use Prim.Native.Nat.{ℕ, _+_, _%_, _<_}
+use Prim.Native.Nat.{ℕ, _<_}
 use native.Mathlib.Omega.{arith}
-use mathlib.Core.Path.{_≡_, refl, sym, ap, subst, _∙_}
-use mathlib.Core.Bool.{Bool, true, false, cond, _&&_, not}
-use mathlib.Core.List.{List, [], _∷_}
-use lib.ListN.{length, getD}
-use lib.Dec.{eqb, ltb}
+use mathlib.Core.Path.{_≡_, refl}
+use mathlib.Core.Bool.{Bool, true, false, _&&_}
+use mathlib.Core.List.{List}
+use lib.ListN.{length}
+use lib.Dec.{eqb}
 use borrow.Author.Tests.{ltb-true}
 use Rattle.cases.specs.Refusals.{firstRefusal}
 use Rattle.cases.proofs.Cases.{by-cond}
@@ -20,7 +20,6 @@ use Rattle.role.specs.ReadyFrames.{readyOf}
 use Rattle.sending.specs.declared.Given.{Given}
 use Rattle.sending.specs.declared.Given.the-variants.{Nothing, One}
 use Rattle.sending.specs.Sending.{givenOf, sendHeld}
-use Rattle.store.specs.declared.Ring.{Ring}
 use Rattle.store.specs.Ring.{full, putBytes, putsBytes}
 use Rattle.state.specs.declared.State.{State}
 use Rattle.state.specs.declared.Outcome.{Outcome}
@@ -29,7 +28,7 @@ use Rattle.state.specs.declared.Out.the-variants as out
 use Rattle.state.specs.Counts.{counted}
 use Rattle.state.specs.Sizes.{sizesObeyed, startState, fits}
 use Rattle.state.specs.Status.{settled, statusBack, statusSent, breakState, keyState}
-use Rattle.line.specs.HoldingOff.{isFlow, flowed, storedWith, storedState, lostState, lineState, lineBytes, resumed, setAfresh, afterWrite, nextOut, goneState}
+use Rattle.line.specs.HoldingOff.{isFlow, flowed, storedWith, lostState, lineState, resumed, setAfresh, afterWrite, nextOut, goneState}
 use Rattle.loops.specs.LoopToLine.{leaves, leftState, leftBytes}
 use Rattle.loops.specs.Sending.{talking, ended, ruleOf, removedState, sendState, sendFrom, sendStatus}
 use Rattle.loops.specs.Frames.{cleared, isClear, obeyed, orderIn, commandState, command, finishing, readied, ready, returned, dataPassed, identify, frameTaken, deviceClear, leavesBytes, frameBytes}

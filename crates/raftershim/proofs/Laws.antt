@@ -1,5 +1,5 @@
 -- The laws of one C call. Assumes nothing.
-use Prim.Native.Nat.{ℕ, _/_, _%_, _<_}
+use Prim.Native.Nat.{ℕ, _/_, _%_}
 use native.Mathlib.Omega.{arith}
 use mathlib.Core.Path.{_≡_, refl, sym, ap, _∙_}
 use mathlib.Core.Bool.{Bool, true, false, cond, false≢true}
@@ -8,14 +8,13 @@ use lib.ListN.{length, take, drop}
 use lib.Dec.{eqb}
 use borrow.Author.Tests.{eqb-false, eqb-true}
 use Rattle.cases.proofs.Cases.{by-cond}
-use Rattle.state.specs.Answers.{Said, refused}
 use Rattle.block.specs.Packed.{blockLen, packed}
-use Rattle.block.specs.States.{fittingBlock, Ranged}
+use Rattle.block.specs.States.{Ranged}
 use Rattle.block.proofs.Laws.{packed-length, packed-means, meaning-fits}
 use Rattle.bridge.specs.Calls.{Call, create, reset, write, lineByte, lineBreak, key, nextLineByte, loopFrame, show, World, world, Did, step, shown}
 use Rattle.laws.specs.Answers.{isRefusal}
 use Rattle.laws.proofs.Answers.{refused-exactly}
-use Rattle.raftershim.specs.Word.{word, kindOf, valueOf, placeWord, startOf, storeOf, shownWord}
+use Rattle.raftershim.specs.Word.{word, placeWord, startOf, storeOf, shownWord}
 use Rattle.raftershim.specs.Calls.{Lent, lent, Returned, returned, opened, closed, createdFor, cStep, needsState}
 use Rattle.raftershim.specs.Runs.{packedWorld, answerWord}
 use Rattle.raftershim.specs.Laws.{OneResult, WordTells, ShownPlace, MisfitRefused, WrongBlockRefused, RefusalKeepsAll, SameCall}

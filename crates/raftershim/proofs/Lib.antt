@@ -1,10 +1,12 @@
--- `Closing` serves the proofs of the functions, `Laws` and `Runs` are the laws of the C calls.
+-- `Closing` serves the proofs of the functions. `Laws` and `Runs` are the laws of the C calls on the block of a state, `Opened`, `Told` and
+-- `Fitting` those on any block, `Demands` is demand 3; `Kept`, `Small` and `Idle` serve them.
 pub mod Closing
 pub mod Kept
 pub mod Laws
 pub mod Runs
-pub mod Small
 pub mod Opened
+pub mod Small
 pub mod Told
 pub mod Fitting
+pub mod Idle
 pub mod Demands

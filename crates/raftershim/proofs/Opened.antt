@@ -8,16 +8,15 @@ use lib.ListN.{length}
 use lib.Dec.{eqb}
 use borrow.Author.Tests.{eq-eqb}
 use Rattle.cases.proofs.Cases.{and-left, and-right, by-cond, cond-true}
-use Rattle.state.specs.Answers.{Said}
 use Rattle.block.specs.Packed.{blockLen, packed}
-use Rattle.block.specs.States.{isState, meaning, noState, Bytes, Ranged}
+use Rattle.block.specs.States.{isState, meaning, Bytes, Ranged}
 use Rattle.block.proofs.Laws.{packed-length, packed-bytes, packed-means, unpacked-ranged, start-ranged}
 use Rattle.block.proofs.Same.{means, means-none}
-use Rattle.bridge.specs.Calls.{Call, create, show, World, world, Did, step}
+use Rattle.bridge.specs.Calls.{Call, create, World, world, Did, step}
 use Rattle.laws.specs.Answers.{isRefusal}
 use Rattle.runs.specs.Run.{end}
 use Rattle.raftershim.specs.Word.{word}
-use Rattle.raftershim.specs.Calls.{Lent, lent, Returned, returned, opened, blockAfter, closed, createdFor, cStep, needsState}
+use Rattle.raftershim.specs.Calls.{Lent, lent, Returned, opened, closed, createdFor, cStep, needsState}
 use Rattle.raftershim.specs.Runs.{answerWord, words, cEnd, cWords, isByteCall, allByteCalls, Typed, OfBytes, Whole}
 use Rattle.raftershim.specs.Laws.{Means, CallMeans, RunMeans, RunsMean}
 use Rattle.raftershim.proofs.Kept.{tx-kept, ranged-kept, typed-kept}

@@ -1,13 +1,12 @@
 -- A run of C calls is the run of the bridge's calls, packed: what is proved of runs of `step` holds of runs of C calls. Assumes nothing.
-use mathlib.Core.Path.{_≡_, refl, sym, ap, _∙_}
-use mathlib.Core.Bool.{true}
+use mathlib.Core.Path.{refl, ap, _∙_}
 use mathlib.Core.List.{List, [], _∷_}
 use Prim.Native.Nat.{ℕ}
 use Rattle.cases.proofs.Cases.{and-left, and-right}
-use Rattle.bridge.specs.Calls.{Call, World, step}
+use Rattle.bridge.specs.Calls.{step}
 use Rattle.runs.specs.Run.{end}
-use Rattle.raftershim.specs.Calls.{Lent, Returned, cStep}
-use Rattle.raftershim.specs.Runs.{packedWorld, answerWord, words, cEnd, cWords, isByteCall, allByteCalls, Typed}
+use Rattle.raftershim.specs.Calls.{Returned}
+use Rattle.raftershim.specs.Runs.{answerWord, words, cEnd, cWords, isByteCall, allByteCalls}
 use Rattle.raftershim.specs.Laws.{SameEnd, SameWords}
 use Rattle.raftershim.proofs.Kept.{typed-kept}
 use Rattle.raftershim.proofs.Laws.{same-call}

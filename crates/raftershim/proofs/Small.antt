@@ -1,15 +1,15 @@
 -- The value of every answer fits its 16 bits of the number, and so the number tells the answer. Assumes nothing.
-use Prim.Native.Nat.{ℕ, _+_, _*_, _/_, _%_, _≤_, _<_}
+use Prim.Native.Nat.{ℕ, _<_}
 use native.Mathlib.Omega.{arith}
-use mathlib.Core.Path.{_≡_, refl, sym, ap, _∙_}
-use mathlib.Core.Bool.{Bool, true, false, cond, not, _&&_, _||_}
+use mathlib.Core.Path.{_≡_, refl, ap, _∙_}
+use mathlib.Core.Bool.{Bool, true, false, cond, not, _||_}
 use mathlib.Core.List.{List, [], _∷_}
-use lib.ListN.{length, getD}
+use lib.ListN.{length}
 use lib.Dec.{eqb, ltb}
 use borrow.Author.Tests.{eqb-true, ltb-false}
 use Rattle.cases.specs.Refusals.{Check, firstRefusal}
 use Rattle.cases.proofs.Cases.{by-cond}
-use Rattle.frame.specs.Frame.{controlOf, dataOf, made, isData, sameApart, withService}
+use Rattle.frame.specs.Frame.{controlOf, dataOf, made, isData, sameApart}
 use Rattle.frame.proofs.Laws.{service-small}
 use Rattle.registers.specs.Writing.{writeChecks}
 use Rattle.role.specs.declared.Ready.{Ready}
@@ -19,17 +19,16 @@ use Rattle.role.specs.ReadyFrames.{readyOf}
 use Rattle.sending.specs.declared.Given.{Given}
 use Rattle.sending.specs.declared.Given.the-variants.{Nothing, One}
 use Rattle.sending.specs.Sending.{givenOf, sendHeld}
-use Rattle.store.specs.Ring.{Fit, held}
+use Rattle.store.specs.Ring.{Fit}
 use Rattle.state.specs.declared.State.{State}
 use Rattle.state.specs.declared.Outcome.{Outcome}
 use Rattle.state.specs.declared.Answer.{Answer}
 use Rattle.state.specs.declared.Answer.the-variants as answer
-use Rattle.state.specs.Answers.{Said, said, done, none, byte, frame, refused, part}
+use Rattle.state.specs.Answers.{Said, said, done, none, byte, frame, refused}
 use Rattle.state.specs.Sizes.{fits}
 use Rattle.state.specs.Status.{shows, serviced, statusOf}
 use Rattle.state.proofs.Fits.{rx-fits, tx-fits}
 use Rattle.line.specs.HoldingOff.{owed, nextOut, outAnswer}
-use Rattle.loops.specs.LoopToLine.{busy}
 use Rattle.loops.specs.Sending.{ended, ruleOf, sendState, removedState, sendFrom, sendStatus}
 use Rattle.loops.specs.Frames.{command, readied, ready, returned, dataPassed, identify, frameTaken}
 use Rattle.block.specs.States.{Bytes, Ranged}

@@ -2,22 +2,22 @@
 -- Assumes nothing.
 use Prim.Native.Nat.{ℕ, _+_}
 use mathlib.Core.Path.{_≡_, refl, sym, ap, _∙_}
-use mathlib.Core.Bool.{Bool, true, false, cond, _||_}
+use mathlib.Core.Bool.{Bool, true, cond, _||_}
 use mathlib.Core.List.{List, [], _∷_, _++_}
 use lib.ListN.{length}
 use Rattle.cases.proofs.Cases.{and-left, and-right}
 use Rattle.state.specs.Answers.{Said, part}
-use Rattle.bridge.specs.Calls.{Call, create, reset, write, lineByte, lineBreak, key, nextLineByte, loopFrame, show, World, outcome, step, shown}
+use Rattle.bridge.specs.Calls.{Call, create, reset, write, lineByte, lineBreak, key, nextLineByte, loopFrame, show, World, outcome, step}
 use Rattle.runs.specs.Observers.{arrived, statusSent, statusBack}
 use Rattle.runs.specs.Run.{all, some, sentAndBack, spells, holdsOff}
-use Rattle.raftershim.specs.Word.{word, shownWord}
+use Rattle.raftershim.specs.Word.{word}
 use Rattle.raftershim.specs.Calls.{Lent, opened, cStep}
 use Rattle.raftershim.specs.Runs.{answerWord, isByteCall, allByteCalls, Typed, Whole}
 use Rattle.raftershim.specs.Told.{told, toldPart, cAnswer, cAll, cSome, cSentAndBack, cSpells}
 use Rattle.raftershim.specs.Laws.{AnswersTold}
 use Rattle.raftershim.proofs.Laws.{shown-place}
 use Rattle.raftershim.proofs.Opened.{opened-typed, whole-kept, call-means}
-use Rattle.raftershim.proofs.Small.{Small, Tells, told-or, next-told, frame-told}
+use Rattle.raftershim.proofs.Small.{Tells, told-or, next-told, frame-told}
 
 -- ---- one call
 

@@ -11,7 +11,7 @@ use Rattle.runs.specs.Observers.{accepted, lost, sent}
 use Rattle.runs.specs.Run.{changes, holdsOff, AtMost}
 use Rattle.runs.specs.Worlds.{heldToSend, reading, overrunBit}
 use Rattle.raftershim.specs.Calls.{Lent, opened, cStep}
-use Rattle.raftershim.specs.Runs.{cEnd, isByteCall, allByteCalls, Whole}
+use Rattle.raftershim.specs.Runs.{cEnd, allByteCalls, Whole}
 use Rattle.raftershim.specs.Told.{cAnswer, cAll, cSome, cSentAndBack, cSpells}
 
 -- "any run of calls with the same stores, untouched in between, each call given the state as the one before left it, and no create,

@@ -1,15 +1,15 @@
 -- Runs of C calls beside runs of the bridge's calls.
-use Prim.Native.Nat.{ℕ, _<_}
+use Prim.Native.Nat.{ℕ}
 use mathlib.Core.Path.{_≡_}
 use mathlib.Core.Bool.{Bool, true, _&&_}
 use mathlib.Core.List.{List, [], _∷_}
-use lib.ListN.{length, getD}
+use lib.ListN.{length}
 use lib.Dec.{ltb}
 use Rattle.block.specs.Packed.{blockLen, packed}
 use Rattle.block.specs.States.{Bytes, Ranged}
-use Rattle.bridge.specs.Calls.{Call, create, reset, write, lineByte, lineBreak, key, nextLineByte, loopFrame, show, World, Did, step}
+use Rattle.bridge.specs.Calls.{Call, create, reset, write, lineByte, lineBreak, key, nextLineByte, loopFrame, show, World, step}
 use Rattle.raftershim.specs.Word.{word, shownWord}
-use Rattle.raftershim.specs.Calls.{Lent, lent, Returned, cStep}
+use Rattle.raftershim.specs.Calls.{Lent, lent, cStep}
 
 -- the buffers that a world is lent in
 abbrev pub packedWorld : World → Lent
