@@ -92,14 +92,14 @@ refusal-line n m h e p q s =
     rw (← e)
     (wrote-then (omega (arith, p .next, q .0 .next, q .1, length-append (decimal m) newline)) p (wrote-then (omega (arith, p .next, p .size, q .0 .next, q .1)) (q .0) s), omega (arith, p .next, q .1, s .next))
 
-pub frame-line : {out out₁ out₂ out₃ out₄ : List ℕ} {at k j i r : ℕ} (c d : ℕ) → at + 12 ≤ length out → (Wrote out at (decimal c) out₁ k) × (k ≤ at + 3) →
-    Wrote out₁ k (44 ∷ []) out₂ j → (Wrote out₂ j (decimal d) out₃ i) × (i ≤ j + 3) → Wrote out₃ i newline out₄ r → (Wrote out at (frameText c d) out₄ r) × (r ≤ at + 12)
+pub frame-line : {out out₁ out₂ out₃ out₄ : List ℕ} {at k j i r : ℕ} (c d m n : ℕ) → at + 12 ≤ length out → m ≡ c → n ≡ d → (Wrote out at (decimal m) out₁ k) × (k ≤ at + 3) →
+    Wrote out₁ k (44 ∷ []) out₂ j → (Wrote out₂ j (decimal n) out₃ i) × (i ≤ j + 3) → Wrote out₃ i newline out₄ r → (Wrote out at (frameText c d) out₄ r) × (r ≤ at + 12)
 unfolding frameText
-frame-line {out} {out₁} {out₂} {out₃} {out₄} {at} {k} {j} {i} {r} c d h p q s t =
-    let n = length-append (decimal d) newline in
-    let last : Wrote out₂ j (decimal d ++ newline) out₄ r = wrote-then (omega (arith, p .0 .size, p .1, q .size, q .next, s .0 .next, s .1)) (s .0) t in
-    let more : Wrote out₁ k ((44 ∷ []) ++ (decimal d ++ newline)) out₄ r = wrote-then (omega (arith, p .0 .size, p .1, q .next, s .0 .next, s .1, n)) q last in
-    (wrote-then (omega (arith, p .0 .next, p .1, q .next, s .0 .next, s .1, n)) (p .0) more, omega (arith, p .1, q .next, s .1, t .next))
+frame-line {out} {out₁} {out₂} {out₃} {out₄} {at} {k} {j} {i} {r} c d m n h e f p q s t =
+    let l = length-append (decimal n) newline in
+    let last : Wrote out₂ j (decimal n ++ newline) out₄ r = wrote-then (omega (arith, p .0 .size, p .1, q .size, q .next, s .0 .next, s .1)) (s .0) t in
+    let more : Wrote out₁ k ((44 ∷ []) ++ (decimal n ++ newline)) out₄ r = wrote-then (omega (arith, p .0 .size, p .1, q .next, s .0 .next, s .1, l)) q last in
+    rw (← e, ← f) (wrote-then (omega (arith, p .0 .next, p .1, q .next, s .0 .next, s .1, l)) (p .0) more, omega (arith, p .1, q .next, s .1, t .next))
 
 pub byte-text : {out out₁ out₂ : List ℕ} {at k r : ℕ} (n m : ℕ) → at + 4 ≤ length out → m ≡ n → Wrote out at (32 ∷ []) out₁ k →
     (Wrote out₁ k (decimal m) out₂ r) × (r ≤ k + 3) → (Wrote out at ((32 ∷ []) ++ decimal n) out₂ r) × (r ≤ at + 4)
