@@ -15,13 +15,16 @@ use Rattle.state.specs.declared.State.{State}
 use Rattle.state.specs.declared.Line.{Line}
 use Rattle.state.specs.declared.Out.{Out}
 use Rattle.state.specs.declared.Out.the-variants.{Own, Held, Nothing}
-use Rattle.state.specs.Answers.{said}
-use Rattle.state.specs.Sizes.{fits, TxFits}
+use Rattle.state.specs.Answers.{said, none}
+use Rattle.state.specs.Sizes.{TxFits}
 use Rattle.state.specs.Status.{settled}
 use Rattle.state.proofs.Fits.{tx-fits}
 use Rattle.line.specs.HoldingOff.{owed, nextOut, goneState, outAnswer}
 use Rattle.bridge.specs.Calls.{nextLineByte, World, Did, checks, outcome, settledBy, accepted, refusedOr, step}
+use Rattle.laws.specs.Fitting.{AllBytes, Fits}
+use Rattle.laws.proofs.Fitting.{calls-keep-fit, calls-keep-bytes}
 use Rattle.pass.specs.Passing.{isByte, byteIn, lineOut, asks}
+use Rattle.pass.specs.UntilNone.{lineWorld, Enough}
 
 -- how much there is to give: the bytes held, and the go or stop that is owed
 abbrev pub weight : State → ℕ
@@ -58,16 +61,42 @@ step-falls w =
     (λ e. falls (w .state) (w .tx))
     (λ e h. absurd (false≢true h))
 
--- one ask more than what there is to give, and more asks give nothing more
-pub until-none : (n : ℕ) (w : World) → weight (w .state) < n → lineOut (suc n) w ≡ lineOut n w
-unfolding lineOut
-until-none zero w h = absurd (omega arith)
-until-none (suc k) w h = pick (until-none k (step nextLineByte w .world)) (isByte (step nextLineByte w .said)) refl
+-- ---- no byte left to give
+
+-- a state that fits is not refused, so that an answer which is no byte is none
+no-byte : (w : World) → Fits w → isByte (step nextLineByte w .said) ≡ false → step nextLineByte w .said ≡ none
+unfolding step refusedOr accepted checks outcome isByte said outAnswer
+no-byte w e = rw e (go (nextOut (w .state) (w .tx)))
   where
-    pick : (weight (step nextLineByte w .world .state) < k → lineOut (suc k) (step nextLineByte w .world) ≡ lineOut k (step nextLineByte w .world)) → (t : Bool) → isByte (step nextLineByte w .said) ≡ t →
-        cond (isByte (step nextLineByte w .said)) (byteIn (step nextLineByte w .said) ∷ lineOut (suc k) (step nextLineByte w .world)) []
-        ≡ cond (isByte (step nextLineByte w .said)) (byteIn (step nextLineByte w .said) ∷ lineOut k (step nextLineByte w .world)) []
-    pick more true e = rw e (ap (λ (bs : List ℕ). byteIn (step nextLineByte w .said) ∷ bs) (more (omega (arith, step-falls w e))))
+    go : (o : Out) → isByte (said (outAnswer o)) ≡ false → said (outAnswer o) ≡ none
+    go (Own b) h = absurd (false≢true (sym h))
+    go (Held b) h = absurd (false≢true (sym h))
+    go Nothing h = refl
+
+-- more asks than there is to give end with none
+pub until-none : (n : ℕ) (w : World) → AllBytes (w .rx) → Fits w → weight (w .state) < n → step nextLineByte (lineWorld n w) .said ≡ none
+unfolding lineWorld
+until-none zero w b e h = absurd (omega arith)
+until-none (suc k) w b e h =
+    by-cond (λ (v : World). step nextLineByte v .said ≡ none) (isByte (step nextLineByte w .said)) _ _
+    (λ t. until-none k (step nextLineByte w .world) (calls-keep-bytes nextLineByte w tt b) (calls-keep-fit nextLineByte w b e) (omega (arith, step-falls w t)))
+    (λ t. no-byte w e t)
+
+-- asks after none give nothing more
+pub no-more : (n m : ℕ) (w : World) → n ≤ m → isByte (step nextLineByte (lineWorld n w) .said) ≡ false → lineOut m w ≡ lineOut n w
+unfolding lineOut lineWorld
+no-more zero zero w l h = refl
+no-more zero (suc m) w l h = rw h
+no-more (suc n) zero w l h = absurd (omega arith)
+no-more (suc n) (suc m) w l h = pick (no-more n m (step nextLineByte w .world) (omega arith)) (isByte (step nextLineByte w .said)) refl
+  where
+    next : World
+    next = step nextLineByte w .world
+
+    pick : (isByte (step nextLineByte (lineWorld n next) .said) ≡ false → lineOut m next ≡ lineOut n next) → (t : Bool) → isByte (step nextLineByte w .said) ≡ t →
+        cond (isByte (step nextLineByte w .said)) (byteIn (step nextLineByte w .said) ∷ lineOut m next) []
+        ≡ cond (isByte (step nextLineByte w .said)) (byteIn (step nextLineByte w .said) ∷ lineOut n next) []
+    pick more true e = rw e (ap (λ (bs : List ℕ). byteIn (step nextLineByte w .said) ∷ bs) (more (rw e at h)))
     pick more false e = rw e
 
 at-most-one : (b : Bool) → cond b 1 0 ≤ 1
@@ -75,7 +104,9 @@ at-most-one true = omega arith
 at-most-one false = omega arith
 
 -- the asks of the program are enough for every state that fits its stores
-pub asks-enough : (w : World) → fits (w .state) (length (w .rx)) (length (w .tx)) ≡ true → length (w .tx) ≡ 64 → lineOut (suc asks) w ≡ lineOut asks w
-asks-enough w e h =
+pub asks-enough : (w : World) → AllBytes (w .rx) → Fits w → length (w .tx) ≡ 64 → Enough w
+unfolding isByte
+asks-enough w b e h =
     let f : TxFits (w .state) (w .tx) = tx-fits (w .state) (w .rx) (w .tx) e in
-    until-none asks w (omega (arith, f .ring .len, at-most-one (owed (w .state .line))))
+    let last : step nextLineByte (lineWorld asks w) .said ≡ none = until-none asks w b e (omega (arith, f .ring .len, at-most-one (owed (w .state .line)))) in
+    record { answer = last; same = λ n k. no-more asks n w k (ap isByte last) }

@@ -1,7 +1,8 @@
 -- `Writing` serves what is written, `Parts` the sections of the input, `Turns` the loops,
--- `Whole` the run; `Asks` says that the program asks until none.
+-- `Whole` the run; `Asks` says that its asks are enough for a state that fits, `UntilNone` that those of a run do.
 pub mod Writing
 pub mod Parts
 pub mod Turns
 pub mod Whole
 pub mod Asks
+pub mod UntilNone

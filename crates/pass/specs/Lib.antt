@@ -1,4 +1,5 @@
--- `Text` is what is printed of numbers and answers, `Input` the three sections, `Passing` the run.
+-- `Text` is what is printed of numbers and answers, `Input` the three sections, `Passing` the run, `UntilNone` the law of its last line.
 pub mod Text
 pub mod Input
 pub mod Passing
+pub mod UntilNone

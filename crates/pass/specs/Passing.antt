@@ -80,19 +80,28 @@ asks = 66
 unfoldable pub lineText : World → List ℕ
 lineText w = lineWord ++ (decimal (length (lineOut asks w)) ++ (bytesText (lineOut asks w) ++ newline))
 
+-- the world when the line bytes are taken, and when the frames are offered too
+abbrev pub takenWorld : List ℕ → Sections → World → World
+takenWorld x p w = takeBytes (p .bytes) x (4 + 2 * p .regs) w
+
+abbrev pub lastWorld : List ℕ → Sections → World → World
+lastWorld x p w = framesWorld (p .frames) x (6 + 2 * p .regs + p .bytes) (takenWorld x p w)
+
 -- what is printed behind the first line when the registers are set
 unfoldable pub restText : List ℕ → Sections → World → List ℕ
-restText x p w =
-    framesText (p .frames) x (6 + 2 * p .regs + p .bytes) (takeBytes (p .bytes) x (4 + 2 * p .regs) w)
-    ++ lineText (framesWorld (p .frames) x (6 + 2 * p .regs + p .bytes) (takeBytes (p .bytes) x (4 + 2 * p .regs) w))
+restText x p w = framesText (p .frames) x (6 + 2 * p .regs + p .bytes) (takenWorld x p w) ++ lineText (lastWorld x p w)
 
 -- "a refused register prints `refused` and its number after the first line, and ends the run"
 unfoldable pub setText : List ℕ → Sections → Set → List ℕ → List ℕ → List ℕ
 setText x p g rx tx = cond (eqb (g .fault) 0) (restText x p (world (g .state) rx tx)) (refusedText (g .fault))
 
--- a run on these stores, from the state that create gives them with margin 8
+-- the registers set on these stores, from the state that create gives them with margin 8
+abbrev pub registersSet : List ℕ → Sections → List ℕ → List ℕ → Set
+registersSet x p rx tx = setRegisters (p .regs) x 2 (world (startState 8 (length rx) (length tx)) rx tx)
+
+-- a run on these stores
 unfoldable pub runText : List ℕ → Sections → List ℕ → List ℕ → List ℕ
-runText x p rx tx = firstLine ++ setText x p (setRegisters (p .regs) x 2 (world (startState 8 (length rx) (length tx)) rx tx)) rx tx
+runText x p rx tx = firstLine ++ setText x p (registersSet x p rx tx) rx tx
 
 -- "stores of 64"
 abbrev pub store : List ℕ
