@@ -1,9 +1,13 @@
--- `Small` bounds the frames that are sent, `States` has each change of a state that fits; the others prove the specs of their names.
+-- `Small` bounds the frames that are sent, `States` has each change of a state that fits, `OneStore` and `FramePlaces` serve `CallPlaces`;
+-- the others prove the specs of their names.
 pub mod Small
 pub mod States
 pub mod Fitting
 pub mod OneResult
 pub mod Answers
 pub mod Places
+pub mod OneStore
+pub mod FramePlaces
+pub mod CallPlaces
 pub mod Resuming
 pub mod Examples

@@ -2,5 +2,6 @@ pub mod Fitting
 pub mod OneResult
 pub mod Answers
 pub mod Places
+pub mod CallPlaces
 pub mod Resuming
 pub mod Examples

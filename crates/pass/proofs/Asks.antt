@@ -1,8 +1,8 @@
 -- "asks for line bytes until none": each byte given leaves less to give, so that enough asks end with none. Assumes nothing.
 use Prim.Native.Nat.{ℕ, zero, suc, _+_, _-_, _≤_, _<_}
 use native.Mathlib.Omega.{arith}
-use mathlib.Core.Path.{_≡_, refl, sym, ap, _∙_}
-use mathlib.Core.Bool.{Bool, true, false, cond, not, _&&_, _||_, false≢true}
+use mathlib.Core.Path.{_≡_, refl, sym, ap}
+use mathlib.Core.Bool.{Bool, true, false, cond, _||_, false≢true}
 use mathlib.Core.List.{List, [], _∷_}
 use lib.ListN.{length, getD}
 use lib.Dec.{eqb}
@@ -12,7 +12,6 @@ use Rattle.cases.proofs.Cases.{by-cond}
 use Rattle.registers.specs.Meanings.{go, stop}
 use Rattle.store.specs.Ring.{held, dropRing}
 use Rattle.state.specs.declared.State.{State}
-use Rattle.state.specs.declared.Line.{Line}
 use Rattle.state.specs.declared.Out.{Out}
 use Rattle.state.specs.declared.Out.the-variants.{Own, Held, Nothing}
 use Rattle.state.specs.Answers.{said, none}

@@ -4,7 +4,7 @@ use mathlib.Core.Path.{_≡_}
 use mathlib.Core.Bool.{cond}
 use mathlib.Core.List.{List}
 use Rattle.state.specs.Answers.{none}
-use Rattle.bridge.specs.Calls.{nextLineByte, World, world, Did, step}
+use Rattle.bridge.specs.Calls.{nextLineByte, World, world, step}
 use Rattle.laws.specs.Fitting.{AllBytes}
 use Rattle.pass.specs.Input.{sectionsOf}
 use Rattle.pass.specs.Passing.{isByte, lineOut, asks, lastWorld, registersSet, store}
