@@ -179,7 +179,7 @@ fn transmit() {
     let rx = [0u8; 4];
     let mut tx = [0u8; 3];
     let s = created(&rx, &tx, 1);
-    let w = written(s, &rx, &tx, 10, 4);
+    let w = written(s, &rx, &tx, 10, 12);
     let l = listener(w, &rx, &mut tx);
     let a = offer(l, &rx, &mut tx, 2, 65);
     busy_at_one(a, &rx, &mut tx);
@@ -217,12 +217,20 @@ fn six_sent(s: State, rx: &[u8], tx: &mut [u8]) -> State {
     offer(still, rx, tx, 0, 5)
 }
 
+// Sending finishes, and the status byte tells of the loss: 39 is overrun 32, receive not empty 4, transmit not full 2, transmit empty 1.
+fn ninth_lost(s: State, rx: &[u8], tx: &mut [u8]) {
+    let a = offer(s, rx, tx, 5, 66);
+    let b = offer(a, rx, tx, 0, 6);
+    offer(b, rx, tx, 5, 97);
+}
+
 fn two_held_ends_it(s: State, rx: &[u8], tx: &mut [u8]) {
     shown(s, rx, tx, 0);
     let t = talker(s, rx, tx);
     let end = six_sent(t, rx, tx);
     shown(end, rx, tx, 0);
-    next(end, rx, tx);
+    let go = next(end, rx, tx);
+    ninth_lost(go, rx, tx);
 }
 
 fn holding_off() {
@@ -232,7 +240,8 @@ fn holding_off() {
     let mut rx = [0u8; 8];
     let mut tx = [0u8; 3];
     let s = created(&rx, &tx, 3);
-    let first = three(s, &mut rx, &tx, 1);
+    let on = written(s, &rx, &tx, 10, 8);
+    let first = three(on, &mut rx, &tx, 1);
     let four = line(first, &mut rx, &tx, 4);
     let none = next(four, &rx, &tx);
     let nine = five_to_nine(none, &mut rx, &tx);
