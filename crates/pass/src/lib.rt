@@ -97,9 +97,11 @@ fn put_frame(out: &mut [u8], at: usize, f: u16) -> usize
     requires { ⌜ at + 12 ≤ length (now out) ⌝ }
     ensures { λ r. ⌜ (Wrote (now (out .entry)) at (frameText (controlOf f) (dataOf f)) (now (out .exit)) r) × (r ≤ at + 12) ⌝ }
 {
-    let k = put_number(out, at, wide16(frame::control(f)));
+    let c = frame::control(f);
+    let d = frame::data_byte(f);
+    let k = put_number(out, at, wide16(c));
     let j = put(out, k, 44);
-    let i = put_number(out, j, wide16(frame::data_byte(f)));
+    let i = put_number(out, j, wide16(d));
     put(out, i, 10)
 }
 
