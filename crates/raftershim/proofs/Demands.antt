@@ -11,17 +11,20 @@ use Rattle.state.specs.Sizes.{fits}
 use Rattle.state.proofs.Fits.{rx-fits}
 use Rattle.block.specs.States as block
 use Rattle.bridge.specs.Calls.{Call, create, reset, write, lineByte, lineBreak, key, nextLineByte, loopFrame, show, World, step}
+use Rattle.state.specs.Answers.{Said}
 use Rattle.runs.specs.Observers.{accepted, lost, sent}
-use Rattle.runs.specs.Run.{end, all, Without, changes, sentAndBack, AtMost}
-use Rattle.runs.specs.Worlds.{heldToSend, reading, overrunBit, Bytes}
+use Rattle.runs.specs.Run.{end, all, Without, changes, empties, AtMost}
+use Rattle.runs.specs.StatusWay.{sentAndBack}
+use Rattle.runs.specs.Events.{Event, overrun, bitOf, happens}
+use Rattle.runs.specs.Worlds.{heldToSend, reading, Bytes}
 use Rattle.runs.proofs.Bytes.{held-bytes, bytes-both, ByteCalls, accepted-bytes}
 use Rattle.runs.proofs.FramesRead.{frames-read}
-use Rattle.runs.proofs.Overrun.{overrun-stays}
+use Rattle.runs.proofs.Events.{events-stay}
 use Rattle.runs.proofs.Margin.{none-lost}
 use Rattle.raftershim.specs.Calls.{Lent, opened, cStep}
 use Rattle.raftershim.specs.Runs.{cEnd, isByteCall, allByteCalls}
 use Rattle.raftershim.specs.Told.{cSentAndBack}
-use Rattle.raftershim.specs.Demands.{Run, FramesReadInC, OverrunStaysInC, NoneLostInC}
+use Rattle.raftershim.specs.Demands.{Run, FramesReadInC, StaysInC, EventsStayInC, OverrunStaysInC, NoneLostInC}
 use Rattle.raftershim.proofs.Opened.{call-means, runs-mean}
 use Rattle.raftershim.proofs.Idle.{IdleRun, misfit-run}
 use Rattle.raftershim.proofs.Told.{answers-told, same-all, same-some, same-back, same-spells}
@@ -57,9 +60,9 @@ all-read cs w k b n = pick (fits (w .state) (length (w .rx)) (length (w .tx))) r
 
 -- ---- demand 3
 
-module _ (cs : List Call) (l : Lent) (r : Run cs l) where
-  no-changes : Without changes cs (opened l)
-  no-changes = sym (same-some changes cs l (r .calls) (r .start)) ∙ r .without
+module _ {leftOut : Call → World → Said → Bool} (cs : List Call) (l : Lent) (r : Run leftOut cs l) where
+  without : Without leftOut cs (opened l)
+  without = sym (same-some leftOut cs l (r .calls) (r .start)) ∙ r .without
 
   at-end : opened (cEnd cs l) ≡ end cs (opened l)
   at-end = runs-mean cs l (r .calls) (r .start) .world
@@ -67,24 +70,27 @@ module _ (cs : List Call) (l : Lent) (r : Run cs l) where
 pub frames-read-in-c : FramesReadInC
 frames-read-in-c cs l r =
     (λ i. same-all sent cs l (r .calls) (r .start) i ++ reading (at-end cs l r i) (heldToSend (at-end cs l r i)))
-    ∙ all-read cs (opened l) (r .start .bytes .rx) (r .calls) (no-changes cs l r)
+    ∙ all-read cs (opened l) (r .start .bytes .rx) (r .calls) (without cs l r)
     ∙ ap (λ (xs : List ℕ). reading (opened l) (heldToSend (opened l) ++ xs)) (sym (same-all accepted cs l (r .calls) (r .start)))
 
-pub overrun-stays-in-c : OverrunStaysInC
-overrun-stays-in-c c l b h e cs r =
+pub events-stay-in-c : EventsStayInC
+events-stay-in-c e c l h q cs r =
     given
-    (subst (λ (w : World). (overrunBit (end cs w) ≡ true) ⊎ (sentAndBack cs w ≡ true)) (sym next)
-    (overrun-stays c (opened l) b (sym (ap (lost c (opened l)) (answers-told c l h)) ∙ e) cs (subst (Without changes cs) next (no-changes cs (cStep c l .lent) r))))
+    (subst (λ (w : World). (bitOf e (end cs w) ≡ true) ⊎ (sentAndBack cs w ≡ true)) (sym next)
+    (events-stay e c (opened l) (sym (ap (happens e c (opened l)) (answers-told c l h)) ∙ q) cs (subst (Without empties cs) next (without cs (cStep c l .lent) r))))
   where
     next : opened (cStep c l .lent) ≡ step c (opened l) .world
     next = call-means c l h .world
 
-    given : (overrunBit (end cs (opened (cStep c l .lent))) ≡ true) ⊎ (sentAndBack cs (opened (cStep c l .lent)) ≡ true) →
-        (overrunBit (opened (cEnd cs (cStep c l .lent))) ≡ true) ⊎ (cSentAndBack cs (cStep c l .lent) ≡ true)
-    given (inl x) = inl (ap overrunBit (at-end cs (cStep c l .lent) r) ∙ x)
-    given (inr x) = inr (same-back cs (cStep c l .lent) (r .calls) (r .start) ∙ x)
+    given : (bitOf e (end cs (opened (cStep c l .lent))) ≡ true) ⊎ (sentAndBack cs (opened (cStep c l .lent)) ≡ true) →
+        (bitOf e (opened (cEnd cs (cStep c l .lent))) ≡ true) ⊎ (cSentAndBack cs (cStep c l .lent) ≡ true)
+    given (inl x) = inl (ap (bitOf e) (at-end cs (cStep c l .lent) r) ∙ x)
+    given (inr x) = inr (same-back [] cs (cStep c l .lent) (r .calls) (r .start) ∙ x)
+
+pub overrun-stays-in-c : OverrunStaysInC
+overrun-stays-in-c = events-stay-in-c overrun
 
 pub none-lost-in-c : NoneLostInC
 none-lost-in-c cs l r p q f a =
     same-all lost cs l (r .calls) (r .start)
-    ∙ none-lost cs (opened l) (no-changes cs l r) p q f (subst (AtMost (opened l .state .sizes .margin)) (same-spells 0 cs l (r .calls) (r .start)) a)
+    ∙ none-lost cs (opened l) (without cs l r) p q f (subst (AtMost (opened l .state .sizes .margin)) (same-spells 0 cs l (r .calls) (r .start)) a)

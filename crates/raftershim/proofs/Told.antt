@@ -8,12 +8,13 @@ use lib.ListN.{length}
 use Rattle.cases.proofs.Cases.{and-left, and-right}
 use Rattle.state.specs.Answers.{Said, part}
 use Rattle.bridge.specs.Calls.{Call, create, reset, write, lineByte, lineBreak, key, nextLineByte, loopFrame, show, World, outcome, step}
-use Rattle.runs.specs.Observers.{arrived, statusSent, statusBack}
-use Rattle.runs.specs.Run.{all, some, sentAndBack, spells, holdsOff}
+use Rattle.runs.specs.Observers.{arrived}
+use Rattle.runs.specs.Run.{all, some, spells, holdsOff}
+use Rattle.runs.specs.StatusWay.{statusBack, underWay, comesBack}
 use Rattle.raftershim.specs.Word.{word}
 use Rattle.raftershim.specs.Calls.{Lent, opened, cStep}
 use Rattle.raftershim.specs.Runs.{answerWord, isByteCall, allByteCalls, Typed, Whole}
-use Rattle.raftershim.specs.Told.{told, toldPart, cAnswer, cAll, cSome, cSentAndBack, cSpells}
+use Rattle.raftershim.specs.Told.{told, toldPart, cAnswer, cAll, cSome, cComesBack, cSpells}
 use Rattle.raftershim.specs.Laws.{AnswersTold}
 use Rattle.raftershim.proofs.Laws.{shown-place}
 use Rattle.raftershim.proofs.Opened.{opened-typed, whole-kept, call-means}
@@ -72,13 +73,14 @@ same-some see [] l b h = refl
 same-some see (c ∷ cs) l b h =
     λ i. seen see c l h i || (same-some see cs (cStep c l .lent) (rest c cs l b h) (on c cs l b h) ∙ ap (some see cs) (next c cs l b h)) i
 
-pub same-back : (cs : List Call) (l : Lent) → allByteCalls cs ≡ true → Whole l → cSentAndBack cs l ≡ sentAndBack cs (opened l)
-unfolding cSentAndBack sentAndBack
-same-back [] l b h = refl
-same-back (c ∷ cs) l b h =
-    λ i. cond (seen statusSent c l h i)
-    ((same-some statusBack cs (cStep c l .lent) (rest c cs l b h) (on c cs l b h) ∙ ap (some statusBack cs) (next c cs l b h)) i)
-    ((same-back cs (cStep c l .lent) (rest c cs l b h) (on c cs l b h) ∙ ap (sentAndBack cs) (next c cs l b h)) i)
+pub same-back : (g : List ℕ) (cs : List Call) (l : Lent) → allByteCalls cs ≡ true → Whole l → cComesBack g cs l ≡ comesBack g cs (opened l)
+unfolding cComesBack comesBack
+same-back g [] l b h = refl
+same-back g (c ∷ cs) l b h =
+    let a = answers-told c l h in
+    let further : (k : List ℕ) → cComesBack k cs (cStep c l .lent) ≡ comesBack k cs (step c (opened l) .world) = λ k. same-back k cs (cStep c l .lent) (rest c cs l b h) (on c cs l b h) ∙ ap (comesBack k cs) (next c cs l b h) in
+    (λ i. statusBack g c (a i) || further (underWay g c (opened l) (cAnswer c l)) i)
+    ∙ (λ i. statusBack g c (step c (opened l) .said) || comesBack (underWay g c (opened l) (a i)) cs (step c (opened l) .world))
 
 pub same-spells : (k : ℕ) (cs : List Call) (l : Lent) → allByteCalls cs ≡ true → Whole l → cSpells k cs l ≡ spells k cs (opened l)
 unfolding cSpells spells

@@ -1,42 +1,52 @@
 -- Demand 3 of the calls that the app makes: every run of C calls on lent buffers whose block has the one length, a state or not.
 use Prim.Native.Nat.{ℕ, _<_}
 use mathlib.Core.Path.{_≡_}
-use mathlib.Core.Bool.{true, false}
+use mathlib.Core.Bool.{Bool, true, false}
 use mathlib.Core.Logic.{_⊎_}
 use mathlib.Core.List.{List, [], _∷_, _++_}
 use Rattle.registers.specs.Meanings.{protocolOn}
 use Rattle.line.specs.HoldingOff.{free}
-use Rattle.bridge.specs.Calls.{Call}
+use Rattle.state.specs.Answers.{Said}
+use Rattle.bridge.specs.Calls.{Call, World}
 use Rattle.runs.specs.Observers.{accepted, lost, sent}
-use Rattle.runs.specs.Run.{changes, holdsOff, AtMost}
-use Rattle.runs.specs.Worlds.{heldToSend, reading, overrunBit}
+use Rattle.runs.specs.Run.{changes, empties, holdsOff, AtMost}
+use Rattle.runs.specs.Worlds.{heldToSend, reading}
+use Rattle.runs.specs.Events.{Event, overrun, bitOf, happens}
 use Rattle.raftershim.specs.Calls.{Lent, opened, cStep}
 use Rattle.raftershim.specs.Runs.{cEnd, allByteCalls, Whole}
 use Rattle.raftershim.specs.Told.{cAnswer, cAll, cSome, cSentAndBack, cSpells}
 
--- "any run of calls with the same stores, untouched in between, each call given the state as the one before left it, and no create,
--- reset, register write or device clear"
-pub record Run (cs : List Call) (l : Lent) : Type 0 where
+-- "any run of calls with the same stores, untouched in between, each call given the state as the one before left it", and no call that
+-- is seen to do what is left out
+pub record Run (leftOut : Call → World → Said → Bool) (cs : List Call) (l : Lent) : Type 0 where
   pub start : Whole l
   pub calls : allByteCalls cs ≡ true
-  pub without : cSome changes cs l ≡ false
+  pub without : cSome leftOut cs l ≡ false
 
 -- "The data frames sent from the receive store, followed by those the reading rule gives for the bytes still held, are those it gives for
--- the bytes held at the start and then all accepted, the service bit aside."
+-- the bytes held at the start and then all accepted, the service bit aside.", in a run with "no create, reset, register write or device
+-- clear"
 abbrev pub FramesReadInC : Type 0
 FramesReadInC =
-    (cs : List Call) (l : Lent) → Run cs l →
+    (cs : List Call) (l : Lent) → Run changes cs l →
     cAll sent cs l ++ reading (opened (cEnd cs l)) (heldToSend (opened (cEnd cs l))) ≡ reading (opened l) (heldToSend (opened l) ++ cAll accepted cs l)
+
+-- the bit of what happened stays set until a status byte sent after it has come back unchanged, also where registers are written
+abbrev pub StaysInC : Event → Type 0
+StaysInC e =
+    (c : Call) (l : Lent) → Whole l → happens e c (opened l) (cAnswer c l) ≡ true → (cs : List Call) → Run empties cs (cStep c l .lent) →
+    (bitOf e (opened (cEnd cs (cStep c l .lent))) ≡ true) ⊎ (cSentAndBack cs (cStep c l .lent) ≡ true)
+
+abbrev pub EventsStayInC : Type 0
+EventsStayInC = (e : Event) → StaysInC e
 
 -- "If a byte is lost, the overrun bit stays set until a status byte sent after that loss has come back unchanged."
 abbrev pub OverrunStaysInC : Type 0
-OverrunStaysInC =
-    (c : Call) (l : Lent) (b : ℕ) → Whole l → lost c (opened l) (cAnswer c l) ≡ b ∷ [] → (cs : List Call) → Run cs (cStep c l .lent) →
-    (overrunBit (opened (cEnd cs (cStep c l .lent))) ≡ true) ⊎ (cSentAndBack cs (cStep c l .lent) ≡ true)
+OverrunStaysInC = StaysInC overrun
 
 -- "If the run starts with the receiver protocol on, not holding off, and more room than the margin, and at most a margin of data bytes
 -- arrives in each spell of holding off, no byte is lost."
 abbrev pub NoneLostInC : Type 0
 NoneLostInC =
-    (cs : List Call) (l : Lent) → Run cs l → protocolOn (opened l .state .regs) ≡ true → holdsOff (opened l) ≡ false →
+    (cs : List Call) (l : Lent) → Run changes cs l → protocolOn (opened l .state .regs) ≡ true → holdsOff (opened l) ≡ false →
     opened l .state .sizes .margin < free (opened l .state) → AtMost (opened l .state .sizes .margin) (cSpells 0 cs l) → cAll lost cs l ≡ []

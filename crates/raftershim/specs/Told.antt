@@ -8,8 +8,9 @@ use lib.Dec.{eqb}
 use Rattle.frame.specs.Frame.{controlOf, dataOf}
 use Rattle.state.specs.Answers.{Said, done, none, byte, frame, refused, part}
 use Rattle.bridge.specs.Calls.{Call, create, reset, write, lineByte, lineBreak, key, nextLineByte, loopFrame, show, World}
-use Rattle.runs.specs.Observers.{arrived, statusSent, statusBack}
+use Rattle.runs.specs.Observers.{arrived}
 use Rattle.runs.specs.Run.{holdsOff}
+use Rattle.runs.specs.StatusWay.{statusBack, underWay}
 use Rattle.raftershim.specs.Word.{storeOf}
 use Rattle.raftershim.specs.Calls.{Lent, opened, cStep}
 
@@ -53,11 +54,14 @@ unfoldable pub cSome : (Call → World → Said → Bool) → List Call → Lent
 cSome see [] l = false
 cSome see (c ∷ cs) l = see c (opened l) (cAnswer c l) || cSome see cs (cStep c l .lent)
 
--- a status byte was sent in the run, and after it one has come back unchanged
-unfoldable pub cSentAndBack : List Call → Lent → Bool
-cSentAndBack [] l = false
-cSentAndBack (c ∷ cs) l =
-    cond (statusSent c (opened l) (cAnswer c l)) (cSome statusBack cs (cStep c l .lent)) (cSentAndBack cs (cStep c l .lent))
+-- in the run a status byte has come back unchanged, the one under way at its start or one sent in it
+unfoldable pub cComesBack : List ℕ → List Call → Lent → Bool
+cComesBack g [] l = false
+cComesBack g (c ∷ cs) l = statusBack g c (cAnswer c l) || cComesBack (underWay g c (opened l) (cAnswer c l)) cs (cStep c l .lent)
+
+-- a status byte was sent in the run and has come back unchanged
+abbrev pub cSentAndBack : List Call → Lent → Bool
+cSentAndBack = cComesBack []
 
 -- how many data bytes arrive in each spell of holding off of a run; k have arrived in the spell so far, where the run starts in one
 unfoldable pub cSpells : ℕ → List Call → Lent → List ℕ
