@@ -14,18 +14,17 @@ import sys
 HERE = os.path.dirname(os.path.abspath(__file__))
 PROGRAM = os.path.join(HERE, "..", "..", "target", "bin", "onepass")
 
-
-LIBRARY = "/usr/x86_64-linux-gnu"
+LOADER = "/lib64/ld-linux-x86-64.so.2"
 
 
 def emulator():
     """The program is for x86-64: elsewhere an emulator runs it over Debian's C library for x86-64, installed where they are missing."""
     if platform.machine() == "x86_64":
         return []
-    if not shutil.which("qemu-x86_64-static") or not os.path.isdir(LIBRARY):
-        install = "apt-get update -qq && apt-get install -y -qq qemu-user-static libc6-amd64-cross"
+    if not shutil.which("qemu-x86_64-static") or not os.path.exists(LOADER):
+        install = "dpkg --add-architecture amd64 && apt-get update -qq && apt-get install -y -qq qemu-user-static libc6:amd64"
         subprocess.run(install, shell=True, check=True, stdout=subprocess.DEVNULL)
-    return ["qemu-x86_64-static", "-L", LIBRARY]
+    return ["qemu-x86_64-static"]
 
 
 def read_hex(path):

@@ -32,6 +32,8 @@ pub fn held_for_all<S: Strategy>(
     test: impl Fn(S::Value) -> Result<(), String>,
 ) {
     let seed = seed();
+    // Said first, so that a run that dies without a word can be had again.
+    println!("at random, {name}: AT_RANDOM_SEED={seed}");
     let mut bytes = [0; 32];
     bytes[..8].copy_from_slice(&seed.to_le_bytes());
     let config = Config {
