@@ -13,41 +13,60 @@
 //! # Ok::<(), raftershim::Refusal>(())
 //! ```
 
-/// R00: bit 3 shows service requests, bit 0 lets an overrun begin one. At start 0.
-pub const R00: u32 = 0;
+/// Declares the registers, each with an example that writes it and reads it back.
+macro_rules! registers {
+    ($($(#[$text:meta])* $name:ident = $number:literal, read as $field:ident, may be $value:literal;)*) => {$(
+        $(#[$text])*
+        ///
+        /// ```
+        /// use raftershim::{register, Bridge};
+        ///
+        /// let mut bridge = Bridge::create([0; 64], [0; 64], 8)?;
+        #[doc = concat!(" bridge.write_register(register::", stringify!($name), ", ", $value, ")?;")]
+        #[doc = concat!(" assert_eq!(bridge.state().registers.", stringify!($field), ", ", $value, ");")]
+        /// # Ok::<(), raftershim::Refusal>(())
+        /// ```
+        pub const $name: u32 = $number;
+    )*};
+}
 
-/// R01: its bits let the stores begin a service request, bit 0 when the transmit store is empty,
-/// bit 1 when it is not full, bit 2 when the receive store is not empty, bit 3 when it is full. At
-/// start 0.
-pub const R01: u32 = 1;
+registers! {
+    /// R00: bit 3 shows service requests, bit 0 lets an overrun begin one. At start 0.
+    R00 = 0, read as r00, may be 9;
 
-/// R02: bit 2 lets a press of the MSRQ key begin a service request, bit 0 a break. At start 0.
-pub const R02: u32 = 2;
+    /// R01: its bits let the stores begin a service request, bit 0 when the transmit store is empty,
+    /// bit 1 when it is not full, bit 2 when the receive store is not empty, bit 3 when it is full. At
+    /// start 0.
+    R01 = 1, read as r01, may be 15;
 
-/// R10: bit 3 makes C00 and C01 end a line on the way to the loop, bit 2 puts C02 and C03 behind
-/// an end byte on the way to the line. At start 0.
-pub const R10: u32 = 10;
+    /// R02: bit 2 lets a press of the MSRQ key begin a service request, bit 0 a break. At start 0.
+    R02 = 2, read as r02, may be 5;
 
-/// R11: bit 3 is the receiver protocol, in which go and stop hold the line off. At start 8, so it
-/// is on. Writing R11 lets our sending start again at once.
-pub const R11: u32 = 11;
+    /// R10: bit 3 makes C00 and C01 end a line on the way to the loop, bit 2 puts C02 and C03 behind
+    /// an end byte on the way to the line. At start 0.
+    R10 = 10, read as r10, may be 12;
 
-/// C00: the first character of the pair that ends a line on the way to the loop. At start 13.
-pub const C00: u32 = 16;
+    /// R11: bit 3 is the receiver protocol, in which go and stop hold the line off. At start 8, so it
+    /// is on. Writing R11 lets our sending start again at once.
+    R11 = 11, read as r11, may be 0;
 
-/// C01: the second character of the pair that ends a line on the way to the loop. At start 10.
-pub const C01: u32 = 17;
+    /// C00: the first character of the pair that ends a line on the way to the loop. At start 13.
+    C00 = 16, read as c00, may be 10;
 
-/// C02: the first character of the pair put behind an end byte on the way to the line. At start
-/// 13.
-pub const C02: u32 = 18;
+    /// C01: the second character of the pair that ends a line on the way to the loop. At start 10.
+    C01 = 17, read as c01, may be 13;
 
-/// C03: the second character of the pair put behind an end byte on the way to the line. At start
-/// 10.
-pub const C03: u32 = 19;
+    /// C02: the first character of the pair put behind an end byte on the way to the line. At start
+    /// 13.
+    C02 = 18, read as c02, may be 10;
 
-/// C04: the go character. At start 17.
-pub const C04: u32 = 20;
+    /// C03: the second character of the pair put behind an end byte on the way to the line. At start
+    /// 10.
+    C03 = 19, read as c03, may be 13;
 
-/// C05: the stop character. At start 19.
-pub const C05: u32 = 21;
+    /// C04: the go character. At start 17.
+    C04 = 20, read as c04, may be 18;
+
+    /// C05: the stop character. At start 19.
+    C05 = 21, read as c05, may be 20;
+}
