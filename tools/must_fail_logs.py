@@ -11,7 +11,7 @@ import sys
 
 UNFIT = re.compile(
     r"that can be named from here|expected type `tie\.|not a `×` type|is not a function|too many arguments|BAD EDIT"
-    r"|unexpected|parse error|not in scope|cannot be resolved"
+    r"|unexpected|parse error|not in scope|cannot be resolved|has no field|no occurrence of the path"
 )
 ERROR = re.compile(r"error:|it is not proved that")
 
