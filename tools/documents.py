@@ -29,8 +29,13 @@ def code_lines(pattern, comment):
     return count
 
 
+def size_row(name, code, specs, proofs, edits):
+    ratio = f"{proofs / code:.1f}" if code else "no code"
+    return f"| {name} | {code} | {specs} | {proofs} | {ratio} | {edits} |"
+
+
 def sizes():
-    rows = ["| Crate | Code | Specs | Proofs | Must-fail edits |", "|---|---|---|---|---|"]
+    rows = ["| Crate | Code | Specs | Proofs | Proof lines per code line | Must-fail edits |", "|---|---|---|---|---|---|"]
     total = [0, 0, 0, 0]
     for name in crates():
         at = os.path.join("crates", name)
@@ -41,9 +46,8 @@ def sizes():
             len(glob.glob(f"{at}/must-fail/*.edit") + glob.glob(f"{at}/edits/*.edit")),
         ]
         total = [a + b for a, b in zip(total, row)]
-        rows.append(f"| {name} | " + " | ".join(map(str, row)) + " |")
-    rows.append("| all | " + " | ".join(map(str, total)) + " |")
-    return "\n".join(rows)
+        rows.append(size_row(name, *row))
+    return "\n".join(rows + [size_row("all", *total)])
 
 
 def missing_names(path):

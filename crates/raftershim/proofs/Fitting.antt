@@ -38,7 +38,7 @@ fitting-length l e = state-length (l .block) (and-left (isState (l .block)) _ e)
 pub block-keeps-fit : BlockKeepsFit
 block-keeps-fit c l h e =
     to-block (cStep c l .lent)
-    (subst Fits (sym (call-means c l (record { length = fitting-length l e; bytes = h }) .world)) (calls-keep-fit c (opened l) (h .rx) (to-world l e)))
+    (subst Fits (sym (call-means c l (record { size = fitting-length l e; bytes = h }) .world)) (calls-keep-fit c (opened l) (h .rx) (to-world l e)))
 
 -- ---- create
 

@@ -73,7 +73,7 @@ module _ (l : Lent) (h : Whole l) where
           }
 
       creating : (m : ℕ) → Means (create m) l
-      creating m = closing (create m) (create-call m l (h .length)) refl
+      creating m = closing (create m) (create-call m l (h .size)) refl
 
       calling : (c : Call) → needsState c ≡ true → Means c l
       calling c n = closing c (state-call c l n) (state-word c (opened l) n)
@@ -81,15 +81,15 @@ module _ (l : Lent) (h : Whole l) where
   -- the block stays one of the one length, and of bytes
   block-kept : (c : Call) → (length (cStep c l .lent .block) ≡ blockLen) × Bytes (cStep c l .lent .block)
   unfolding cStep
-  block-kept = by-kind (λ (c : Call). (length (cStep c l .lent .block) ≡ blockLen) × Bytes (cStep c l .lent .block)) creating (λ side. (h .length, h .bytes .block)) calling
+  block-kept = by-kind (λ (c : Call). (length (cStep c l .lent .block) ≡ blockLen) × Bytes (cStep c l .lent .block)) creating (λ side. (h .size, h .bytes .block)) calling
     where
       closing : (c : Call) → cStep c l ≡ closed l (step c (opened l)) → (length (cStep c l .lent .block) ≡ blockLen) × Bytes (cStep c l .lent .block)
       closing c q =
           subst (λ (x : Returned). (length (x .lent .block) ≡ blockLen) × Bytes (x .lent .block)) (sym q)
-          (closed-block l (step c (opened l)) (refusal-keeps c (opened l)) (ranged-kept c (opened l) typed) (h .length) (h .bytes .block))
+          (closed-block l (step c (opened l)) (refusal-keeps c (opened l)) (ranged-kept c (opened l) typed) (h .size) (h .bytes .block))
 
       creating : (m : ℕ) → (length (cStep (create m) l .lent .block) ≡ blockLen) × Bytes (cStep (create m) l .lent .block)
-      creating m = closing (create m) (create-call m l (h .length))
+      creating m = closing (create m) (create-call m l (h .size))
 
       calling : (c : Call) → needsState c ≡ true → (length (cStep c l .lent .block) ≡ blockLen) × Bytes (cStep c l .lent .block)
       calling c n = closing c (state-call c l n)
@@ -97,7 +97,7 @@ module _ (l : Lent) (h : Whole l) where
   pub whole-kept : (c : Call) → isByteCall c ≡ true → Whole (cStep c l .lent)
   whole-kept c b =
       record {
-        length = block-kept c .0;
+        size = block-kept c .0;
         bytes =
             record {
               block = block-kept c .1;

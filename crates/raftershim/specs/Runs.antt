@@ -70,5 +70,5 @@ pub record OfBytes (l : Lent) : Type 0 where
 
 -- and "a lent block of bytes of one fixed length", a state or not
 pub record Whole (l : Lent) : Type 0 where
-  pub length : length (l .block) ≡ blockLen
+  pub size : length (l .block) ≡ blockLen
   pub bytes : OfBytes l
