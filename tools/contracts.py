@@ -5,6 +5,7 @@ Usage: python3 tools/contracts.py [LOG]
 - A name that a crate takes from a library comes from the one module of `HOME`, and no crate declares or renames one of these names: so
   `≡`, `<`, `length` and the like mean in every contract what the library says.
 - No crate declares an axiom.
+- The layer that carries frames opens no definition of the store: it relies only on what the store promises.
 LOG is what `rt ci` printed. With it, only the crates of `ASSUMED` may rest on axioms, and only on those named there.
 """
 import glob
@@ -12,6 +13,7 @@ import re
 import sys
 
 PUBLIC = ("bridge", "raftershim")
+FRAME_LAYER = ("sending", "line", "loops", "bridge")
 
 # the library's names that contracts and definitions are written in, and the module that gives each
 HOME = {
@@ -55,6 +57,17 @@ def own_meaning(path):
     return wrong
 
 
+def opened(path, names):
+    """Definitions of these names that the proofs in this file unfold."""
+    found = {word for line in open(path, encoding="utf-8") if line.split()[:1] == ["unfolding"] for word in line.split()[1:]}
+    return [f"{path}: {name} of the store is opened" for name in sorted({word.split(".")[-1] for word in found} & names)]
+
+
+def declared(pattern):
+    """The names that these files declare."""
+    return {(one or other) for path in glob.glob(pattern, recursive=True) for one, other in DECLARED.findall(open(path, encoding="utf-8").read())}
+
+
 def assumed(path):
     """Crates that the log shows to rest on axioms that are not theirs to assume."""
     wrong, start, text = [], 0, open(path, encoding="utf-8").read()
@@ -74,6 +87,10 @@ def main():
     files = sorted(glob.glob("crates/*/src/*.rt") + glob.glob("crates/*/specs/**/*.antt", recursive=True) + glob.glob("crates/*/proofs/**/*.antt", recursive=True))
     for path in files:
         wrong += own_meaning(path)
+    of_store = declared("crates/store/specs/**/*.antt")
+    for path in files:
+        if path.split("/")[1] in FRAME_LAYER:
+            wrong += opened(path, of_store)
     for path in sys.argv[1:]:
         wrong += assumed(path)
     print("\n".join(wrong + [f"{len(files)} files, {len(wrong)} faults"]))
