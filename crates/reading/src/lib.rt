@@ -1,6 +1,6 @@
 // The reading rule (line to loop): what the oldest bytes held decide.
 ghost use mathlib.Core.Path.{_≡_};
-ghost use Rattle.reading.specs.Steps.{decision, takes};
+ghost use Rattle.reading.specs.Steps.{decision};
 ghost use Rattle.reading.specs.Firsts.{firsts};
 
 // The rule of the moment: R10 bit 3, C00, C01.
@@ -45,16 +45,4 @@ pub fn decide(rule: Rule, n: usize, a: u8, b: u8, c: u8) -> Decision
     }
     // Step 4.
     Decision::Data
-}
-
-// How many bytes a decision takes.
-pub fn taken(d: Decision) -> usize
-    ensures { λ r. ⌜ r ≡ takes d ⌝ }
-{
-    match d {
-        Decision::Removed => 2,
-        Decision::End => 3,
-        Decision::Data => 1,
-        Decision::Wait => 0,
-    }
 }

@@ -6,7 +6,7 @@ use borrow.Author.Tests.{eq-eqb, ne-eqb}
 use Rattle.role.specs.declared.Role.{Role}
 use Rattle.role.specs.declared.Order.{Order}
 use Rattle.role.specs.Orders.{ownAddress, numberOf, baseOf, listenOrder, talkOrder, otherOrder, orderOf}
-use Rattle.role.specs.Commands.{merelyAddressed, changedRole, obeyedRole, afterCommand}
+use Rattle.role.specs.Commands.{merelyAddressed, changedRole, obeyedRole}
 
 module _ (home d a : ℕ) (r : Role) (o : Order) (own : a ≡ ownAddress home r) where
   pub listens : baseOf d ≡ 32 → o ≡ listenOrder a (numberOf d) → o ≡ orderOf home r d
@@ -21,10 +21,7 @@ module _ (home d a : ℕ) (r : Role) (o : Order) (own : a ≡ ownAddress home r)
   unfolding orderOf
   others n m e = rw (e, ne-eqb _ _ n, ne-eqb _ _ m)
 
--- and through `obeyed` and `commanded`
+-- and through `obeyed`
 pub obeys : (r q p : Role) (o : Order) → q ≡ merelyAddressed r → p ≡ changedRole q o → p ≡ obeyedRole r o
 unfolding obeyedRole
 obeys r q p o h e = rw (e, h)
-
-pub commands : (home d : ℕ) (r q : Role) (o : Order) → o ≡ orderOf home r d → q ≡ obeyedRole r o → q ≡ afterCommand home r d
-commands home d r q o h e = rw (e, h)

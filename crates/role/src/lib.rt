@@ -2,7 +2,7 @@
 ghost use mathlib.Core.Path.{_≡_};
 ghost use Rattle.role.specs.Parts.{startRole, withTalker};
 ghost use Rattle.role.specs.Orders.{ownAddress, listenOrder, talkOrder, otherOrder, orderOf};
-ghost use Rattle.role.specs.Commands.{merelyAddressed, changedRole, obeyedRole, afterCommand};
+ghost use Rattle.role.specs.Commands.{merelyAddressed, changedRole, obeyedRole};
 ghost use Rattle.role.specs.ReadyFrames.{readyOf, assignedRole};
 ghost use Rattle.role.specs.Fit.{fitTest};
 
@@ -179,13 +179,6 @@ pub fn obeyed(r: Role, o: Order) -> Role
     ensures { λ q. ⌜ q ≡ obeyedRole r o ⌝ }
 {
     changed(merely_addressed(r), o)
-}
-
-// The role after a command with data byte d.
-pub fn commanded(home: u8, r: Role, d: u8) -> Role
-    ensures { λ q. ⌜ q ≡ afterCommand home r d ⌝ }
-{
-    obeyed(r, order_of(home, r, d))
 }
 
 // What a ready frame with data byte d asks of a device in this role.
