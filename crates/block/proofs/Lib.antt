@@ -1,5 +1,5 @@
--- `Flags`, `Made`, `Groups`, `Tests` and `Over` serve the proofs of the functions, `ReadBack` and `Laws` are the laws of the block.
-pub mod Flags
+-- `Casts`, `Made`, `Groups`, `Tests` and `Over` serve the proofs of the functions, `ReadBack` and `Laws` are the laws of the block.
+pub mod Casts
 pub mod Made
 pub mod Groups
 pub mod Over

@@ -1,18 +1,29 @@
--- A list copied over one as long is all that is left. Assumes nothing.
-use Prim.Native.Nat.{ℕ}
-use mathlib.Core.Path.{_≡_, refl, sym}
+-- Two lists copied over a list one behind the other are all that is left of it, if it is as long as both. Assumes nothing.
+use Prim.Native.Nat.{ℕ, _+_, _-_}
+use mathlib.Core.Path.{_≡_, sym, ap, _∙_}
 use mathlib.Core.List.{List, [], _++_, append-nil}
 use native.Mathlib.Omega.{arith}
-use native.Mathlib.Nat.{le-refl}
-use lib.ListN.{length, take, drop, drop-of-length-le}
-use lib.Seq.{take-all}
+use lib.ListN.{length, take, drop, length-append, length-drop, drop-of-length-le}
+use lib.Seq.{take-all, take-length, take-at, drop-at}
+use Rattle.state.specs.declared.State.{State}
+use Rattle.block.specs.Packed.{blockLen, packed, packedHead, packedTail}
 
-pub over : (n : ℕ) (xs ys : List ℕ) → length xs ≡ n → length ys ≡ n → take n xs ++ drop n ys ≡ xs
-over n xs ys p q =
-    let a : take n xs ≡ xs = take-all n xs (omega arith) in
-    let b : drop n ys ≡ [] = drop-of-length-le ys {i = n} (omega arith) in
-    rw (a, b, append-nil)
+over-both : (n : ℕ) (h t b b₁ ys : List ℕ) → length h ≡ n → length b ≡ n + length t → b₁ ≡ take (length h) h ++ drop (length h) b →
+    ys ≡ take (length t) t ++ drop (length t) (take (length b₁ - n) (drop n b₁)) → take n b₁ ++ (ys ++ drop (length b₁ - n) (drop n b₁)) ≡ h ++ t
+over-both n h t b b₁ ys lh lb p q =
+    let first : b₁ ≡ h ++ drop n b = p ∙ (λ j. take-length h j ++ drop (lh j) b) in
+    let front : take n b₁ ≡ h = ap (take n) first ∙ take-at h (drop n b) n lh in
+    let back : drop n b₁ ≡ drop n b = ap (drop n) first ∙ drop-at h (drop n b) n lh in
+    let size : length (drop n b) ≡ length t = omega (arith, length-drop n b) in
+    let room : length b₁ - n ≡ length t = omega (arith, ap length first, length-append h (drop n b)) in
+    let all : take (length t) (drop n b) ≡ drop n b = take-all (length t) (drop n b) (omega arith) in
+    let none : drop (length t) (drop n b) ≡ [] = drop-of-length-le (drop n b) {i = length t} (omega arith) in
+    let there : ys ≡ t = q ∙ rw (take-length t, room, back, all, none, append-nil) in
+    rw (front, there, back, room, none, append-nil)
 
--- the same, as a call that copies r, which is p, gives it
-pub over-with : (k : ℕ) (ys : List ℕ) {r p last : List ℕ} → r ≡ p → length p ≡ k → length ys ≡ k → last ≡ take (length r) r ++ drop (length r) ys → last ≡ p
-over-with k ys {r} {p} {last} e lp ly h = rw e at (rw (over (length r) r ys refl (rw e (rw (lp, ly)))) at h)
+-- a state's bytes, whose two parts are copied so
+pub packed-over : (s : State) (h t b b₁ ys : List ℕ) → h ≡ packedHead s → t ≡ packedTail s → length b ≡ blockLen → b₁ ≡ take (length h) h ++ drop (length h) b →
+    ys ≡ take (length t) t ++ drop (length t) (take (length b₁ - 25) (drop 25 b₁)) → take 25 b₁ ++ (ys ++ drop (length b₁ - 25) (drop 25 b₁)) ≡ packed s
+unfolding packed packedHead packedTail
+packed-over s h t b b₁ ys eh et lb p q =
+    over-both 25 h t b b₁ ys (ap length eh) (lb ∙ ap (λ (n : ℕ). 25 + n) (sym (ap length et))) p q ∙ (λ j. eh j ++ et j)

@@ -40,21 +40,34 @@ ringBytes r = two (r .oldest) ++ two (r .len)
 abbrev pub eventsBytes : (Bool → ℕ) → Events → List ℕ
 eventsBytes f e = f (e .brk) ∷ f (e .overrun) ∷ f (e .key) ∷ []
 
--- the bytes, with a flag written by f: sizes from place 0, registers from 6, role from 17, under way from 22, rings from 25 and 29,
--- line from 33, notes from 36, counts from 43
-abbrev pub packedBy : (Bool → ℕ) → State → List ℕ
-packedBy f s =
+-- the bytes, with a flag written by f: sizes from place 0, registers from 6, role from 17, under way from 22
+abbrev pub headBy : (Bool → ℕ) → State → List ℕ
+headBy f s =
     two (s .sizes .rx) ++ two (s .sizes .tx) ++ two (s .sizes .margin)
     ++ registersBytes (s .regs)
     ++ (s .role .address ∷ s .role .talker ∷ f (s .role .listener) ∷ f (s .role .enabled) ∷ f (s .role .remote) ∷ [])
     ++ two (s .under .frame) ++ (f (s .under .finishing) ∷ [])
-    ++ ringBytes (s .rx) ++ ringBytes (s .tx)
+
+-- and behind these, rings from 25 and 29, line from 33, notes from 36, counts from 43
+abbrev pub tailBy : (Bool → ℕ) → State → List ℕ
+tailBy f s =
+    ringBytes (s .rx) ++ ringBytes (s .tx)
     ++ (f (s .line .holding) ∷ f (s .line .forbidden) ∷ f (s .line .stopped) ∷ [])
     ++ eventsBytes f (s .notes .seen) ++ eventsBytes f (s .notes .again) ++ (f (s .notes .request) ∷ [])
     ++ four (s .counts .stored) ++ four (s .counts .lost) ++ four (s .counts .sent)
 
+abbrev pub packedBy : (Bool → ℕ) → State → List ℕ
+packedBy f s = headBy f s ++ tailBy f s
+
 unfoldable pub packed : State → List ℕ
 packed s = packedBy flagOf s
+
+-- its two parts, of 25 and 30 bytes
+unfoldable pub packedHead : State → List ℕ
+packedHead s = headBy flagOf s
+
+unfoldable pub packedTail : State → List ℕ
+packedTail s = tailBy flagOf s
 
 -- ---- from bytes to the state that they mean
 

@@ -1,19 +1,13 @@
 // The packed state block: every field of a state at a fixed place of a lent block of bytes, low byte first.
 ghost use mathlib.Core.Path.{_≡_};
-ghost use Prim.Native.Nat.{_+_, _<_};
-ghost use lib.ListN.{length, getD};
-ghost use Rattle.block.specs.Packed.{blockLen, packed, unpacked, at16, at32, flagAt, sizesAt, registersAt, roleAt, underAt, ringAt, lineAt, notesAt, countsAt};
-ghost use Rattle.block.specs.States.{noState, meaning, flaggedThree, flagsRight, Two, Four, SizesBytes, RingBytes, CountsBytes, Numbers};
-use registers::Registers;
-use role::Role;
-use state::Counts;
-use state::Line;
-use state::Notes;
-use state::Sizes;
+ghost use lib.ListN.{length};
+ghost use Rattle.block.specs.Packed.{blockLen, packed};
+ghost use Rattle.block.specs.States.{noState, meaning};
 use state::State;
-use state::Under;
-use status::Events;
-use store::Ring;
+
+mod flags;
+mod packing;
+mod reading;
 
 // The length of a block.
 pub const LENGTH: usize = 55;
@@ -25,278 +19,15 @@ pub fn block_len() -> usize
     LENGTH
 }
 
-// The bytes of a state.
-fn packed_bytes(s: State) -> [u8; 55]
-    ensures { λ r. ⌜ r ≡ packed s ⌝ }
-{
-    [
-        (s.sizes.rx % 256) as u8,
-        (s.sizes.rx / 256 % 256) as u8,
-        (s.sizes.tx % 256) as u8,
-        (s.sizes.tx / 256 % 256) as u8,
-        (s.sizes.margin % 256) as u8,
-        (s.sizes.margin / 256 % 256) as u8,
-        s.regs.r00,
-        s.regs.r01,
-        s.regs.r02,
-        s.regs.r10,
-        s.regs.r11,
-        s.regs.c00,
-        s.regs.c01,
-        s.regs.c02,
-        s.regs.c03,
-        s.regs.c04,
-        s.regs.c05,
-        s.role.address,
-        s.role.talker,
-        s.role.listener as u8,
-        s.role.enabled as u8,
-        s.role.remote as u8,
-        (s.under.frame % 256) as u8,
-        (s.under.frame / 256 % 256) as u8,
-        s.under.finishing as u8,
-        (s.rx.oldest % 256) as u8,
-        (s.rx.oldest / 256 % 256) as u8,
-        (s.rx.len % 256) as u8,
-        (s.rx.len / 256 % 256) as u8,
-        (s.tx.oldest % 256) as u8,
-        (s.tx.oldest / 256 % 256) as u8,
-        (s.tx.len % 256) as u8,
-        (s.tx.len / 256 % 256) as u8,
-        s.line.holding as u8,
-        s.line.forbidden as u8,
-        s.line.stopped as u8,
-        s.notes.seen.brk as u8,
-        s.notes.seen.overrun as u8,
-        s.notes.seen.key as u8,
-        s.notes.again.brk as u8,
-        s.notes.again.overrun as u8,
-        s.notes.again.key as u8,
-        s.notes.request as u8,
-        (s.counts.stored % 256) as u8,
-        (s.counts.stored / 256 % 256) as u8,
-        (s.counts.stored / 65536 % 256) as u8,
-        (s.counts.stored / 16777216 % 256) as u8,
-        (s.counts.lost % 256) as u8,
-        (s.counts.lost / 256 % 256) as u8,
-        (s.counts.lost / 65536 % 256) as u8,
-        (s.counts.lost / 16777216 % 256) as u8,
-        (s.counts.sent % 256) as u8,
-        (s.counts.sent / 256 % 256) as u8,
-        (s.counts.sent / 65536 % 256) as u8,
-        (s.counts.sent / 16777216 % 256) as u8,
-    ]
-}
-
 // Writes the bytes of a state over a block.
 pub fn pack(block: &mut [u8], s: State)
     requires { ⌜ length (now block) ≡ blockLen ⌝ }
     ensures { λ _. ⌜ now (block .exit) ≡ packed s ⌝ }
 {
-    let a = packed_bytes(s);
-    bytes::copy(&a, block);
-}
-
-fn wide(x: u8) -> usize
-    ensures { λ r. ⌜ (r ≡ x) × (r < 256) ⌝ }
-{
-    x as usize
-}
-
-fn wide16(x: u8) -> u16
-    ensures { λ r. ⌜ (r ≡ x) × (r < 256) ⌝ }
-{
-    x as u16
-}
-
-fn wide32(x: u8) -> u32
-    ensures { λ r. ⌜ (r ≡ x) × (r < 256) ⌝ }
-{
-    x as u32
-}
-
-// The size or place in two bytes of a block from i.
-fn read(b: &[u8], i: usize) -> usize
-    requires { ⌜ i + 1 < length (now b) ⌝ }
-    ensures { λ r. ⌜ (r ≡ at16 (now (b .entry)) i) × Two (now (b .entry)) i ⌝ }
-{
-    wide(b[i]) + 256 * wide(b[i + 1])
-}
-
-// The frame in two bytes of a block from i.
-fn read16(b: &[u8], i: usize) -> u16
-    requires { ⌜ i + 1 < length (now b) ⌝ }
-    ensures { λ r. ⌜ (r ≡ at16 (now (b .entry)) i) × Two (now (b .entry)) i ⌝ }
-{
-    wide16(b[i]) + 256 * wide16(b[i + 1])
-}
-
-// The count in four bytes of a block from i.
-fn read32(b: &[u8], i: usize) -> u32
-    requires { ⌜ i + 3 < length (now b) ⌝ }
-    ensures { λ r. ⌜ (r ≡ at32 (now (b .entry)) i) × Four (now (b .entry)) i ⌝ }
-{
-    wide32(b[i]) + 256 * wide32(b[i + 1]) + 65536 * wide32(b[i + 2]) + 16777216 * wide32(b[i + 3])
-}
-
-// The sizes in a block.
-fn sizes_at(b: &[u8]) -> Sizes
-    requires { ⌜ length (now b) ≡ blockLen ⌝ }
-    ensures { λ r. ⌜ (r ≡ sizesAt (now (b .entry))) × SizesBytes (now (b .entry)) ⌝ }
-{
-    Sizes {
-        rx: read(b, 0),
-        tx: read(b, 2),
-        margin: read(b, 4),
-    }
-}
-
-// The registers in a block.
-fn registers_at(b: &[u8]) -> Registers
-    requires { ⌜ length (now b) ≡ blockLen ⌝ }
-    ensures { λ r. ⌜ r ≡ registersAt (now (b .entry)) ⌝ }
-{
-    Registers {
-        r00: b[6],
-        r01: b[7],
-        r02: b[8],
-        r10: b[9],
-        r11: b[10],
-        c00: b[11],
-        c01: b[12],
-        c02: b[13],
-        c03: b[14],
-        c04: b[15],
-        c05: b[16],
-    }
-}
-
-// The role in a block.
-fn role_at(b: &[u8]) -> Role
-    requires { ⌜ length (now b) ≡ blockLen ⌝ }
-    ensures { λ r. ⌜ r ≡ roleAt (now (b .entry)) ⌝ }
-{
-    Role {
-        address: b[17],
-        talker: b[18],
-        listener: b[19] == 1,
-        enabled: b[20] == 1,
-        remote: b[21] == 1,
-    }
-}
-
-// The frame under way in a block.
-fn under_at(b: &[u8]) -> Under
-    requires { ⌜ length (now b) ≡ blockLen ⌝ }
-    ensures { λ r. ⌜ (r ≡ underAt (now (b .entry))) × Two (now (b .entry)) 22 ⌝ }
-{
-    Under {
-        frame: read16(b, 22),
-        finishing: b[24] == 1,
-    }
-}
-
-// The ring in a block from i.
-fn ring_at(b: &[u8], i: usize) -> Ring
-    requires { ⌜ i + 3 < length (now b) ⌝ }
-    ensures { λ r. ⌜ (r ≡ ringAt (now (b .entry)) i) × RingBytes (now (b .entry)) i ⌝ }
-{
-    Ring {
-        oldest: read(b, i),
-        len: read(b, i + 2),
-    }
-}
-
-// The state of the line in a block.
-fn line_at(b: &[u8]) -> Line
-    requires { ⌜ length (now b) ≡ blockLen ⌝ }
-    ensures { λ r. ⌜ r ≡ lineAt (now (b .entry)) ⌝ }
-{
-    Line {
-        holding: b[33] == 1,
-        forbidden: b[34] == 1,
-        stopped: b[35] == 1,
-    }
-}
-
-// The notes in a block.
-fn notes_at(b: &[u8]) -> Notes
-    requires { ⌜ length (now b) ≡ blockLen ⌝ }
-    ensures { λ r. ⌜ r ≡ notesAt (now (b .entry)) ⌝ }
-{
-    Notes {
-        seen: Events {
-            brk: b[36] == 1,
-            overrun: b[37] == 1,
-            key: b[38] == 1,
-        },
-        again: Events {
-            brk: b[39] == 1,
-            overrun: b[40] == 1,
-            key: b[41] == 1,
-        },
-        request: b[42] == 1,
-    }
-}
-
-// The counts in a block.
-fn counts_at(b: &[u8]) -> Counts
-    requires { ⌜ length (now b) ≡ blockLen ⌝ }
-    ensures { λ r. ⌜ (r ≡ countsAt (now (b .entry))) × CountsBytes (now (b .entry)) ⌝ }
-{
-    Counts {
-        stored: read32(b, 43),
-        lost: read32(b, 47),
-        sent: read32(b, 51),
-    }
-}
-
-// The state that the bytes of a block are read as.
-fn unpack(b: &[u8]) -> State
-    requires { ⌜ length (now b) ≡ blockLen ⌝ }
-    ensures { λ r. ⌜ (r ≡ unpacked (now (b .entry))) × Numbers (now (b .entry)) ⌝ }
-{
-    let sizes = sizes_at(b);
-    let regs = registers_at(b);
-    let role = role_at(b);
-    let under = under_at(b);
-    let rx = ring_at(b, 25);
-    let tx = ring_at(b, 29);
-    let line = line_at(b);
-    let notes = notes_at(b);
-    let counts = counts_at(b);
-    State {
-        sizes,
-        regs,
-        role,
-        under,
-        rx,
-        tx,
-        line,
-        notes,
-        counts,
-    }
-}
-
-// Whether three flags of a block from i are each 1 or 0.
-fn three_flags(b: &[u8], i: usize) -> bool
-    requires { ⌜ i + 2 < length (now b) ⌝ }
-    ensures { λ r. ⌜ r ≡ flaggedThree (now (b .entry)) i ⌝ }
-{
-    (b[i] <= 1) & (b[i + 1] <= 1) & (b[i + 2] <= 1)
-}
-
-// Whether every flag of a block is 1 or 0.
-fn flags_right(b: &[u8]) -> bool
-    requires { ⌜ length (now b) ≡ blockLen ⌝ }
-    ensures { λ r. ⌜ r ≡ flagsRight (now (b .entry)) ⌝ }
-{
-    three_flags(b, 19)
-        & (b[24] <= 1)
-        & three_flags(b, 33)
-        & three_flags(b, 36)
-        & three_flags(b, 39)
-        & (b[42] <= 1)
+    let head = packing::packed_head(s);
+    let tail = packing::packed_tail(s);
+    bytes::copy(&head, block);
+    bytes::copy(&tail, &mut block[25..]);
 }
 
 // What stands for the state of a block that is none.
@@ -313,8 +44,8 @@ pub fn meaning(b: &[u8]) -> State
     if b.len() != LENGTH {
         return no_state();
     }
-    if !flags_right(b) {
+    if !flags::flags_right(b) {
         return no_state();
     }
-    unpack(b)
+    reading::unpack(b)
 }

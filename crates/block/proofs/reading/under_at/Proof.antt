@@ -1,8 +1,8 @@
 use denote.Ref.{now}
 use Rattle.block.proofs.Groups.{under-read}
 use borrow.Author.Needs.{needs}
-use Rattle.block.proofs.under_at.Statement.{statement}
-use Rattle.block.proofs.under_at.Tie as tie
+use Rattle.block.proofs.reading.under_at.Statement.{statement}
+use Rattle.block.proofs.reading.under_at.Tie as tie
 
 pub under-at-spec : {M : Type 1} → statement M
 under-at-spec =

@@ -1,8 +1,8 @@
 use denote.Ref.{now}
 use Rattle.block.proofs.Tests.{flags-met}
 use borrow.Author.Needs.{needs}
-use Rattle.block.proofs.flags_right.Statement.{statement}
-use Rattle.block.proofs.flags_right.Tie as tie
+use Rattle.block.proofs.flags.flags_right.Statement.{statement}
+use Rattle.block.proofs.flags.flags_right.Tie as tie
 
 pub flags-right-spec : {M : Type 1} → statement M
 flags-right-spec =

@@ -1,8 +1,8 @@
 use Rattle.block.specs.Packed.{unpacked}
 use Rattle.block.proofs.Made.{made}
 use borrow.Author.Needs.{needs}
-use Rattle.block.proofs.unpack.Statement.{statement}
-use Rattle.block.proofs.unpack.Tie as tie
+use Rattle.block.proofs.reading.unpack.Statement.{statement}
+use Rattle.block.proofs.reading.unpack.Tie as tie
 
 pub unpack-spec : {M : Type 1} → statement M
 unfolding unpacked

@@ -1,8 +1,8 @@
 use denote.Ref.{now}
 use Rattle.block.proofs.Groups.{ring-read}
 use borrow.Author.Needs.{needs}
-use Rattle.block.proofs.ring_at.Statement.{statement}
-use Rattle.block.proofs.ring_at.Tie as tie
+use Rattle.block.proofs.reading.ring_at.Statement.{statement}
+use Rattle.block.proofs.reading.ring_at.Tie as tie
 
 pub ring-at-spec : {M : Type 1} → statement M
 ring-at-spec =

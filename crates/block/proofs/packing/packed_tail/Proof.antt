@@ -1,10 +1,10 @@
-use Rattle.block.proofs.Flags.{cast-packed}
+use Rattle.block.proofs.Casts.{cast-tail}
 use borrow.Author.Needs.{needs}
-use Rattle.block.proofs.packed_bytes.Statement.{statement}
-use Rattle.block.proofs.packed_bytes.Tie as tie
+use Rattle.block.proofs.packing.packed_tail.Statement.{statement}
+use Rattle.block.proofs.packing.packed_tail.Tie as tie
 
-pub packed-bytes-spec : {M : Type 1} → statement M
-packed-bytes-spec =
+pub packed-tail-spec : {M : Type 1} → statement M
+packed-tail-spec =
     tie.close
     (tie.spec
     (λ c. search needs)
@@ -37,16 +37,4 @@ packed-bytes-spec =
     (λ c. search needs)
     (λ c. search needs)
     (λ c. search needs)
-    (λ c. search needs)
-    (λ c. search needs)
-    (λ c. search needs)
-    (λ c. search needs)
-    (λ c. search needs)
-    (λ c. search needs)
-    (λ c. search needs)
-    (λ c. search needs)
-    (λ c. search needs)
-    (λ c. search needs)
-    (λ c. search needs)
-    (λ c. search needs)
-    (λ c. cast-packed _))
+    (λ c. cast-tail _))
