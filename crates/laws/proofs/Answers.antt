@@ -107,105 +107,55 @@ out-taken (out.Own b) = refl
 out-taken (out.Held b) = refl
 out-taken out.Nothing = refl
 
--- the calls that have numbers: all but showing
-data Numbered : Call → Type 0 where
-  isCreate : (m : ℕ) → Numbered (create m)
-  isReset : Numbered reset
-  isWrite : (n v : ℕ) → Numbered (write n v)
-  isLineByte : (b : ℕ) → Numbered (lineByte b)
-  isBreak : Numbered lineBreak
-  isKey : Numbered key
-  isNext : Numbered nextLineByte
-  isFrame : (f : ℕ) → Numbered (loopFrame f)
+-- a call that has numbers: what it answers when it is accepted is no refusal, and it is refused by the first of its checks that is given
+record Numbered (c : Call) (w : World) : Type 0 where
+  answer : canAnswer c (accepted c w .said) ≡ true
+  taken : isRefusal (accepted c w .said) ≡ false
+  refusal : (n : ℕ) → canAnswer c (refused n) ≡ true
+  number : step c w ≡ refusedOr (firstRefusal (checks c w)) (accepted c w) w
 
-accepted-so : (c : Call) → Numbered c → (w : World) → canAnswer c (accepted c w .said) ≡ true
-unfolding accepted outcome said
-accepted-so c (isCreate m) w = refl
-accepted-so c isReset w = refl
-accepted-so c (isWrite n v) w = refl
-accepted-so c (isLineByte b) w = refl
-accepted-so c isBreak w = refl
-accepted-so c isKey w = refl
-accepted-so c isNext w = out-said (nextOut (w .state) (w .tx))
-accepted-so c (isFrame f) w = taken-frame (w .state) (w .rx) f .frame
+-- a law of every call: all but showing have numbers
+each-call : (P : Call → Type 0) (w : World) → ((c : Call) → Numbered c w → P c) → ((side : ℕ) → P (show side)) → (c : Call) → P c
+unfolding accepted outcome said step
+each-call P w p q (create m) = p (create m) (record { answer = refl; taken = refl; refusal = λ n. refl; number = refl })
+each-call P w p q reset = p reset (record { answer = refl; taken = refl; refusal = λ n. refl; number = refl })
+each-call P w p q (write n v) = p (write n v) (record { answer = refl; taken = refl; refusal = λ n. refl; number = refl })
+each-call P w p q (lineByte b) = p (lineByte b) (record { answer = refl; taken = refl; refusal = λ n. refl; number = refl })
+each-call P w p q lineBreak = p lineBreak (record { answer = refl; taken = refl; refusal = λ n. refl; number = refl })
+each-call P w p q key = p key (record { answer = refl; taken = refl; refusal = λ n. refl; number = refl })
+each-call P w p q nextLineByte =
+    let o = nextOut (w .state) (w .tx) in
+    p nextLineByte (record { answer = out-said o; taken = out-taken o; refusal = λ n. refl; number = refl })
+each-call P w p q (loopFrame f) =
+    let h = taken-frame (w .state) (w .rx) f in
+    p (loopFrame f) (record { answer = h .frame; taken = h .taken; refusal = λ n. refl; number = refl })
+each-call P w p q (show side) = q side
 
-accepted-taken : (c : Call) → Numbered c → (w : World) → isRefusal (accepted c w .said) ≡ false
-unfolding accepted outcome said
-accepted-taken c (isCreate m) w = refl
-accepted-taken c isReset w = refl
-accepted-taken c (isWrite n v) w = refl
-accepted-taken c (isLineByte b) w = refl
-accepted-taken c isBreak w = refl
-accepted-taken c isKey w = refl
-accepted-taken c isNext w = out-taken (nextOut (w .state) (w .tx))
-accepted-taken c (isFrame f) w = taken-frame (w .state) (w .rx) f .taken
-
-refused-so : (c : Call) → Numbered c → (n : ℕ) → canAnswer c (refused n) ≡ true
-refused-so c (isCreate m) n = refl
-refused-so c isReset n = refl
-refused-so c (isWrite k v) n = refl
-refused-so c (isLineByte b) n = refl
-refused-so c isBreak n = refl
-refused-so c isKey n = refl
-refused-so c isNext n = refl
-refused-so c (isFrame f) n = refl
-
-by-number : (c : Call) → Numbered c → (w : World) → step c w ≡ refusedOr (firstRefusal (checks c w)) (accepted c w) w
-unfolding step
-by-number c (isCreate m) w = refl
-by-number c isReset w = refl
-by-number c (isWrite n v) w = refl
-by-number c (isLineByte b) w = refl
-by-number c isBreak w = refl
-by-number c isKey w = refl
-by-number c isNext w = refl
-by-number c (isFrame f) w = refl
-
-module _ (c : Call) (k : Numbered c) (w : World) where
+module _ (c : Call) (w : World) (k : Numbered c w) where
   answers-so : canAnswer c (step c w .said) ≡ true
   unfolding refusedOr
   answers-so =
-      rw (by-number c k w)
-      (by-cond (λ (d : Did). canAnswer c (d .said) ≡ true) (eqb (firstRefusal (checks c w)) 0) _ _ (λ _. accepted-so c k w) (λ _. refused-so c k (firstRefusal (checks c w))))
+      rw (k .number)
+      (by-cond (λ (d : Did). canAnswer c (d .said) ≡ true) (eqb (firstRefusal (checks c w)) 0) _ _ (λ _. k .answer) (λ _. k .refusal (firstRefusal (checks c w))))
 
   refuses-number : (n : ℕ) → Refuses (refusedOr n (accepted c w) w) n w
   unfolding refusedOr
   refuses-number n =
       by-cond (λ (d : Did). Refuses d n w) (eqb n 0) _ _
       (λ e. record {
-        when = λ m h. absurd (false≢true (sym (accepted-taken c k w) ∙ ap isRefusal h));
+        when = λ m h. absurd (false≢true (sym (k .taken) ∙ ap isRefusal h));
         given = λ h. absurd (h (eqb-true n 0 e));
-        leaves = λ h. absurd (false≢true (sym (accepted-taken c k w) ∙ h));
+        leaves = λ h. absurd (false≢true (sym (k .taken) ∙ h));
       })
       (λ e. record { when = λ m h. cc; given = λ h. refl; leaves = λ h. refl })
 
   refuses-so : Refuses (step c w) (firstRefusal (checks c w)) w
-  refuses-so = subst (λ (d : Did). Refuses d (firstRefusal (checks c w)) w) (sym (by-number c k w)) (refuses-number (firstRefusal (checks c w)))
+  refuses-so = subst (λ (d : Did). Refuses d (firstRefusal (checks c w)) w) (sym (k .number)) (refuses-number (firstRefusal (checks c w)))
 
 pub calls-answer-so : CallsAnswerSo
-calls-answer-so (create m) w = answers-so (create m) (isCreate m) w
-calls-answer-so reset w = answers-so reset isReset w
-calls-answer-so (write n v) w = answers-so (write n v) (isWrite n v) w
-calls-answer-so (lineByte b) w = answers-so (lineByte b) (isLineByte b) w
-calls-answer-so lineBreak w = answers-so lineBreak isBreak w
-calls-answer-so key w = answers-so key isKey w
-calls-answer-so nextLineByte w = answers-so nextLineByte isNext w
-calls-answer-so (loopFrame f) w = answers-so (loopFrame f) (isFrame f) w
-calls-answer-so (show side) w = shown
-  where
-    shown : canAnswer (show side) (step (show side) w .said) ≡ true
-    shown = unfold step in refl
+calls-answer-so c w = each-call (λ (d : Call). canAnswer d (step d w .said) ≡ true) w (λ d k. answers-so d w k) (λ side. unfold step in refl) c
 
 pub refused-exactly : RefusedExactly
-refused-exactly (create m) w = refuses-so (create m) (isCreate m) w
-refused-exactly reset w = refuses-so reset isReset w
-refused-exactly (write n v) w = refuses-so (write n v) (isWrite n v) w
-refused-exactly (lineByte b) w = refuses-so (lineByte b) (isLineByte b) w
-refused-exactly lineBreak w = refuses-so lineBreak isBreak w
-refused-exactly key w = refuses-so key isKey w
-refused-exactly nextLineByte w = refuses-so nextLineByte isNext w
-refused-exactly (loopFrame f) w = refuses-so (loopFrame f) (isFrame f) w
-refused-exactly (show side) w = shown
-  where
-    shown : Refuses (step (show side) w) (firstRefusal (checks (show side) w)) w
-    shown = unfold step checks in record { when = λ m h. cc; given = λ h. absurd (h refl); leaves = λ h. refl }
+refused-exactly c w =
+    each-call (λ (d : Call). Refuses (step d w) (firstRefusal (checks d w)) w) w (λ d k. refuses-so d w k)
+    (λ side. unfold step checks in record { when = λ m h. cc; given = λ h. absurd (h refl); leaves = λ h. refl }) c

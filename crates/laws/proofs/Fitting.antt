@@ -91,42 +91,6 @@ module _ (rx tx : List ℕ) where
   unfolding fits settled
   settled-good s q e = e
 
-  resumed-good : (q : State) → Good rx tx q → Good rx tx (resumed q)
-  unfolding fits resumed
-  resumed-good q e = e
-
-  afresh-good : (q : State) → Good rx tx q → Good rx tx (setAfresh q)
-  unfolding fits setAfresh
-  afresh-good q e = e
-
-  flowed-good : (q : State) (x : ℕ) → Good rx tx q → Good rx tx (flowed q x)
-  unfolding fits flowed
-  flowed-good q x e = e
-
-  lost-good : (q : State) → Good rx tx q → Good rx tx (lostState q)
-  unfolding fits lostState
-  lost-good q e = e
-
-  break-good : (q : State) → Good rx tx q → Good rx tx (breakState q)
-  unfolding fits breakState
-  break-good q e = e
-
-  key-good : (q : State) → Good rx tx q → Good rx tx (keyState q)
-  unfolding fits keyState
-  key-good q e = e
-
-  sent-good : (q : State) → Good rx tx q → Good rx tx (statusSent q)
-  unfolding fits statusSent
-  sent-good q e = e
-
-  back-good : (q : State) (d : ℕ) → Good rx tx q → Good rx tx (statusBack q d)
-  unfolding fits statusBack
-  back-good q d e = e
-
-  finishing-good : (q : State) → Good rx tx q → Good rx tx (finishing q)
-  unfolding fits finishing
-  finishing-good q e = e
-
   module _ (s : State) (bytes : AllBytes rx) (e : fits s (length rx) (length tx) ≡ true) where
     t : Tests s (length rx) (length tx)
     t = tests s (length rx) (length tx) e
@@ -152,12 +116,12 @@ module _ (rx tx : List ℕ) where
     line-good : (x : ℕ) → Good rx tx (lineState s x)
     unfolding lineState
     line-good x =
-        by-cond (Good rx tx) (isFlow (s .regs) x) _ _ (λ _. flowed-good s x e)
-        (λ _. by-cond (Good rx tx) (store-ring.full (s .sizes .rx) (s .rx)) _ _ (λ _. lost-good s e) (λ _. stored-good))
+        by-cond (Good rx tx) (isFlow (s .regs) x) _ _ (λ _. unfold fits flowed in e)
+        (λ _. by-cond (Good rx tx) (store-ring.full (s .sizes .rx) (s .rx)) _ _ (λ _. unfold fits lostState in e) (λ _. stored-good))
 
     write-good : (n v : ℕ) → firstRefusal (writeChecks (s .regs) n v) ≡ 0 → Good rx tx (afterWrite s n (written (s .regs) n v))
     unfolding afterWrite
-    write-good n v h = by-cond (Good rx tx) (eqb n 11) _ _ (λ _. afresh-good (withRegisters s (written (s .regs) n v)) changed) (λ _. changed)
+    write-good n v h = by-cond (Good rx tx) (eqb n 11) _ _ (λ _. unfold fits setAfresh in changed) (λ _. changed)
       where
         changed : Good rx tx (withRegisters s (written (s .regs) n v))
         changed = tested (withRegisters s (written (s .regs) n v)) (length rx) (length tx) (with-registers s (length rx) (length tx) t (written (s .regs) n v) (fit-written (s .regs) n v (t .regs) h))
@@ -197,7 +161,7 @@ module _ (rx tx : List ℕ) where
     removed-good : Good rx tx (removedState s rx)
     unfolding removedState sentRing
     removed-good =
-        resumed-good (withRx s (sentRing (ruleOf (s .regs)) rx (s .rx)))
+        unfold fits resumed in
         (fits-with-rx (sentRing (ruleOf (s .regs)) rx (s .rx)) (store-laws.drop-fit rx (s .rx) _ (rx-fits s rx tx e .ring) (omega arith)))
 
   -- a talker in another phase
@@ -228,7 +192,7 @@ module _ (rx tx : List ℕ) where
 
     status-good : 1 ≤ s .role .talker → Good rx tx (sendStatus s .state)
     unfolding sendStatus statusOf
-    status-good h = talking-good (statusSent s) 3 (made 0 (statusOf s)) (sent-good s e) talker (omega arith) (omega (arith, status-small (conditions s) (shows s)))
+    status-good h = talking-good (statusSent s) 3 (made 0 (statusOf s)) (unfold fits statusSent in e) talker (omega arith) (omega (arith, status-small (conditions s) (shows s)))
       where
         talker : 1 ≤ statusSent s .role .talker
         talker = unfold statusSent in h
@@ -241,14 +205,14 @@ module _ (rx tx : List ℕ) where
         go Address h = unfold readied in tested _ (length rx) (length tx) (assigned-tests s (length rx) (length tx) (tests s (length rx) (length tx) e) (dataOf f))
         go Data h = unfold readied in send-good (omega (arith, h .phase))
         go Status h = unfold readied in status-good (omega (arith, h .phase))
-        go Finish h = unfold readied in finishing-good s e
+        go Finish h = unfold fits readied finishing in e
         go Pass h = unfold readied in e
 
     returned-good : (f : ℕ) → 2 ≤ s .role .talker → Good rx tx (returned s rx f .state)
     unfolding returned
     returned-good f h =
         by-cond G (sameApart f (s .under .frame)) _ _
-        (λ _. by-cond G (eqb (s .role .talker) activeStatus) _ _ (λ _. ended-good (statusBack s (dataOf (s .under .frame))) 64 (back-good s (dataOf (s .under .frame)) e) talker)
+        (λ _. by-cond G (eqb (s .role .talker) activeStatus) _ _ (λ _. ended-good (statusBack s (dataOf (s .under .frame))) 64 (unfold fits statusBack in e) talker)
         (λ _. by-cond G (s .under .finishing) _ _ (λ _. ended-good s 64 e (omega arith)) (λ _. send-good (omega arith))))
         (λ _. ended-good s 65 e (omega arith))
       where
@@ -325,8 +289,8 @@ calls-keep-fit (create m) w b e = by-refusal (create m) w e (create-good m w)
 calls-keep-fit reset w b e = by-refusal reset w e (λ _. reset-good w e)
 calls-keep-fit (write n v) w b e = by-refusal (write n v) w e (λ h. unfold settledBy outcome in settled-good (w .rx) (w .tx) (w .state) _ (write-good (w .rx) (w .tx) (w .state) b e n v (write-refusal n v w e h)))
 calls-keep-fit (lineByte x) w b e = by-refusal (lineByte x) w e (λ _. unfold settledBy outcome in settled-good (w .rx) (w .tx) (w .state) _ (line-good (w .rx) (w .tx) (w .state) b e x))
-calls-keep-fit lineBreak w b e = by-refusal lineBreak w e (λ _. unfold settledBy outcome in settled-good (w .rx) (w .tx) (w .state) _ (break-good (w .rx) (w .tx) (w .state) e))
-calls-keep-fit key w b e = by-refusal key w e (λ _. unfold settledBy outcome in settled-good (w .rx) (w .tx) (w .state) _ (key-good (w .rx) (w .tx) (w .state) e))
+calls-keep-fit lineBreak w b e = by-refusal lineBreak w e (λ _. unfold settledBy outcome in settled-good (w .rx) (w .tx) (w .state) _ (unfold fits breakState in e))
+calls-keep-fit key w b e = by-refusal key w e (λ _. unfold settledBy outcome in settled-good (w .rx) (w .tx) (w .state) _ (unfold fits keyState in e))
 calls-keep-fit nextLineByte w b e = by-refusal nextLineByte w e (λ _. unfold settledBy outcome in settled-good (w .rx) (w .tx) (w .state) _ (gone-good (w .rx) (w .tx) (w .state) b e (nextOut (w .state) (w .tx)) refl))
 calls-keep-fit (loopFrame f) w b e =
     by-refusal (loopFrame f) w e
