@@ -1,8 +1,8 @@
 use Rattle.state.specs.Answers.{said}
 use Rattle.pass.specs.Passing.{faultOf}
 use borrow.Author.Needs.{needs}
-use Rattle.pass.proofs.fault_of.Statement.{statement}
-use Rattle.pass.proofs.fault_of.Tie as tie
+use Rattle.pass.proofs.answers.fault_of.Statement.{statement}
+use Rattle.pass.proofs.answers.fault_of.Tie as tie
 
 pub fault-of-spec : {M : Type 1} → statement M
 unfolding faultOf said

@@ -1,8 +1,8 @@
 use Rattle.state.specs.Answers.{said}
 use Rattle.pass.specs.Passing.{isByte}
 use borrow.Author.Needs.{needs}
-use Rattle.pass.proofs.is_byte.Statement.{statement}
-use Rattle.pass.proofs.is_byte.Tie as tie
+use Rattle.pass.proofs.answers.is_byte.Statement.{statement}
+use Rattle.pass.proofs.answers.is_byte.Tie as tie
 
 pub is-byte-spec : {M : Type 1} → statement M
 unfolding isByte said

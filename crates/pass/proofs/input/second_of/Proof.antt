@@ -1,7 +1,7 @@
 use Rattle.pass.proofs.Parts.{second-short, second-many, second-goes}
 use borrow.Author.Needs.{needs}
-use Rattle.pass.proofs.second_of.Statement.{statement}
-use Rattle.pass.proofs.second_of.Tie as tie
+use Rattle.pass.proofs.input.second_of.Statement.{statement}
+use Rattle.pass.proofs.input.second_of.Tie as tie
 
 pub second-of-spec : {M : Type 1} → statement M
 second-of-spec =

@@ -1,7 +1,7 @@
 use Rattle.pass.proofs.Parts.{first-short, first-many, first-goes}
 use borrow.Author.Needs.{needs}
-use Rattle.pass.proofs.sections_of.Statement.{statement}
-use Rattle.pass.proofs.sections_of.Tie as tie
+use Rattle.pass.proofs.input.sections_of.Statement.{statement}
+use Rattle.pass.proofs.input.sections_of.Tie as tie
 
 pub sections-of-spec : {M : Type 1} → statement M
 sections-of-spec =

@@ -1,7 +1,7 @@
 use Rattle.pass.proofs.Parts.{third-short, third-many, third-other, third-whole}
 use borrow.Author.Needs.{needs}
-use Rattle.pass.proofs.third_of.Statement.{statement}
-use Rattle.pass.proofs.third_of.Tie as tie
+use Rattle.pass.proofs.input.third_of.Statement.{statement}
+use Rattle.pass.proofs.input.third_of.Tie as tie
 
 pub third-of-spec : {M : Type 1} → statement M
 third-of-spec =

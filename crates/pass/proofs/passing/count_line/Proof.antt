@@ -6,8 +6,8 @@ use lib.ListN.{length}
 use Rattle.bridge.specs.Calls.{world}
 use Rattle.pass.specs.Passing.{lineOut}
 use Rattle.pass.proofs.Turns.{line-stops, line-goes, count-ends}
-use Rattle.pass.proofs.count_line.Statement.{statement}
-use Rattle.pass.proofs.count_line.Tie as tie
+use Rattle.pass.proofs.passing.count_line.Statement.{statement}
+use Rattle.pass.proofs.passing.count_line.Tie as tie
 
 abbrev Inv-loop : tie.InvT-loop
 Inv-loop rx tx n t₀ left₀ k₀ t left k = (k + length (lineOut left (world t rx tx)) ≡ length (lineOut n (world t₀ rx tx))) × (k + left ≤ n)

@@ -5,8 +5,8 @@ use mathlib.Core.Path.{_≡_, refl, sym, ap, _∙_}
 use lib.ListN.{length}
 use Rattle.bridge.specs.Calls.{world}
 use Rattle.pass.proofs.Turns.{rest-start, Offering, offer-again, offer-ends}
-use Rattle.pass.proofs.offer_frames.Statement.{statement}
-use Rattle.pass.proofs.offer_frames.Tie as tie
+use Rattle.pass.proofs.passing.offer_frames.Statement.{statement}
+use Rattle.pass.proofs.passing.offer_frames.Tie as tie
 
 abbrev Inv-loop : tie.InvT-loop
 Inv-loop rx tx₀ x i n out₀ to t₀ at₀ left₀ k₀ tx out t at left k = (Offering x rx tx₀ i n out₀ to t₀ tx out t at left k) × (length tx ≡ length tx₀)

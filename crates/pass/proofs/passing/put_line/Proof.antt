@@ -7,8 +7,8 @@ use Rattle.bridge.specs.Calls.{world}
 use Rattle.pass.specs.Text.{bytesText}
 use Rattle.pass.specs.Passing.{lineOut}
 use Rattle.pass.proofs.Turns.{Rest, rest-start, bytes-end, bytes-again, line-stops, line-goes, line-none}
-use Rattle.pass.proofs.put_line.Statement.{statement}
-use Rattle.pass.proofs.put_line.Tie as tie
+use Rattle.pass.proofs.passing.put_line.Statement.{statement}
+use Rattle.pass.proofs.passing.put_line.Tie as tie
 
 abbrev Inv-loop : tie.InvT-loop
 Inv-loop rx tx n out₀ to t₀ left₀ k₀ out t left k = (Rest out₀ to (bytesText (lineOut n (world t₀ rx tx))) out k (bytesText (lineOut left (world t rx tx)))) × ((k + 4 * left ≤ to + 4 * n) × (to + 4 * n ≤ length out))

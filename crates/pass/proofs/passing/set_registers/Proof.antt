@@ -6,8 +6,8 @@ use lib.ListN.{length}
 use Rattle.bridge.specs.Calls.{world}
 use Rattle.pass.specs.Passing.{setRegisters}
 use Rattle.pass.proofs.Turns.{set-again, set-stops, set-ends}
-use Rattle.pass.proofs.set_registers.Statement.{statement}
-use Rattle.pass.proofs.set_registers.Tie as tie
+use Rattle.pass.proofs.passing.set_registers.Statement.{statement}
+use Rattle.pass.proofs.passing.set_registers.Tie as tie
 
 abbrev Inv-loop : tie.InvT-loop
 Inv-loop rx tx x i n t₀ at₀ left₀ t at left = (setRegisters left x at (world t rx tx) ≡ setRegisters n x i (world t₀ rx tx)) × ((at + 2 * left ≤ length x) × (at + 2 * left < 65536))

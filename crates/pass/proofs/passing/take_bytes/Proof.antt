@@ -6,8 +6,8 @@ use lib.ListN.{length}
 use Rattle.bridge.specs.Calls.{world}
 use Rattle.pass.specs.Passing.{takeBytes}
 use Rattle.pass.proofs.Turns.{take-again, take-ends}
-use Rattle.pass.proofs.take_bytes.Statement.{statement}
-use Rattle.pass.proofs.take_bytes.Tie as tie
+use Rattle.pass.proofs.passing.take_bytes.Statement.{statement}
+use Rattle.pass.proofs.passing.take_bytes.Tie as tie
 
 abbrev Inv-loop : tie.InvT-loop
 Inv-loop rx₀ tx x i n t₀ at₀ left₀ rx t at left = (takeBytes left x at (world t rx tx) ≡ takeBytes n x i (world t₀ rx₀ tx)) × (((at + left ≤ length x) × (at + left < 65536)) × (length rx ≡ length rx₀))

@@ -1,7 +1,7 @@
 use Rattle.pass.proofs.Writing.{wrote-one}
 use borrow.Author.Needs.{needs}
-use Rattle.pass.proofs.put.Statement.{statement}
-use Rattle.pass.proofs.put.Tie as tie
+use Rattle.pass.proofs.text.put.Statement.{statement}
+use Rattle.pass.proofs.text.put.Tie as tie
 
 pub put-spec : {M : Type 1} → statement M
 put-spec =

@@ -1,7 +1,7 @@
 use Rattle.pass.proofs.Writing.{put-text}
 use borrow.Author.Needs.{needs}
-use Rattle.pass.proofs.put_all.Statement.{statement}
-use Rattle.pass.proofs.put_all.Tie as tie
+use Rattle.pass.proofs.text.put_all.Statement.{statement}
+use Rattle.pass.proofs.text.put_all.Tie as tie
 
 pub put-all-spec : {M : Type 1} → statement M
 put-all-spec =

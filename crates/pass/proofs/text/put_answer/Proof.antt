@@ -4,8 +4,8 @@ use Rattle.state.specs.Answers.{said}
 use Rattle.pass.specs.Text.{answerText}
 use Rattle.pass.proofs.Writing.{silent, of-frame, of-refusal}
 use borrow.Author.Needs.{needs}
-use Rattle.pass.proofs.put_answer.Statement.{statement}
-use Rattle.pass.proofs.put_answer.Tie as tie
+use Rattle.pass.proofs.text.put_answer.Statement.{statement}
+use Rattle.pass.proofs.text.put_answer.Tie as tie
 
 pub put-answer-spec : {M : Type 1} → statement M
 unfolding answerText said

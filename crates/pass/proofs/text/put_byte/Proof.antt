@@ -1,7 +1,7 @@
 use Rattle.pass.proofs.Writing.{byte-text}
 use borrow.Author.Needs.{needs}
-use Rattle.pass.proofs.put_byte.Statement.{statement}
-use Rattle.pass.proofs.put_byte.Tie as tie
+use Rattle.pass.proofs.text.put_byte.Statement.{statement}
+use Rattle.pass.proofs.text.put_byte.Tie as tie
 
 pub put-byte-spec : {M : Type 1} → statement M
 put-byte-spec =

@@ -1,8 +1,8 @@
 use mathlib.Core.Path.{_∙_}
 use Rattle.pass.proofs.Writing.{frame-line}
 use borrow.Author.Needs.{needs}
-use Rattle.pass.proofs.put_frame.Statement.{statement}
-use Rattle.pass.proofs.put_frame.Tie as tie
+use Rattle.pass.proofs.text.put_frame.Statement.{statement}
+use Rattle.pass.proofs.text.put_frame.Tie as tie
 
 pub put-frame-spec : {M : Type 1} → statement M
 put-frame-spec =

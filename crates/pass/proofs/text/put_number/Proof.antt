@@ -1,7 +1,7 @@
 use Rattle.pass.proofs.Writing.{number-one, number-two, number-three}
 use borrow.Author.Needs.{needs}
-use Rattle.pass.proofs.put_number.Statement.{statement}
-use Rattle.pass.proofs.put_number.Tie as tie
+use Rattle.pass.proofs.text.put_number.Statement.{statement}
+use Rattle.pass.proofs.text.put_number.Tie as tie
 
 pub put-number-spec : {M : Type 1} → statement M
 put-number-spec =

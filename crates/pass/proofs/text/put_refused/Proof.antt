@@ -1,7 +1,7 @@
 use Rattle.pass.proofs.Writing.{refusal-line}
 use borrow.Author.Needs.{needs}
-use Rattle.pass.proofs.put_refused.Statement.{statement}
-use Rattle.pass.proofs.put_refused.Tie as tie
+use Rattle.pass.proofs.text.put_refused.Statement.{statement}
+use Rattle.pass.proofs.text.put_refused.Tie as tie
 
 pub put-refused-spec : {M : Type 1} → statement M
 put-refused-spec =
