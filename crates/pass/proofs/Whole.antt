@@ -14,7 +14,7 @@ use Rattle.bridge.specs.Calls.{World, world}
 use Rattle.pass.specs.declared.Sections.{Sections}
 use Rattle.pass.specs.declared.Set.{Set}
 use Rattle.pass.specs.Text.{decimal, newline, firstLine, lineWord, refusedText, bytesText, Wrote, Within}
-use Rattle.pass.specs.Input.{high, secondAt, thirdAt, endAt, counted, malformed, thirdOf, secondOf, sectionsOf, Whole}
+use Rattle.pass.specs.Input.{high, secondAt, thirdAt, endAt, counted, malformed, byCount, endOf, thirdOf, secondOf, sectionsOf, Whole}
 use Rattle.pass.specs.Passing.{setRegisters, takeBytes, framesText, framesWorld, Offers, lineOut, asks, lineText, restText, setText, runText, store, printed}
 use Rattle.pass.proofs.Writing.{wrote-then}
 
@@ -26,28 +26,20 @@ Fine x p = p .ok ≡ true → Whole x p
 none-fine : (x : List ℕ) → Fine x malformed
 none-fine x h = absurd (false≢true h)
 
-third-fine : (x : List ℕ) (a b : ℕ) → a ≤ 64 → b ≤ 64 → Fine x (thirdOf x a b)
-unfolding thirdOf
-third-fine x a b ha hb =
-    by-cond (Fine x) (counted x (thirdAt a b)) _ _
-    (λ q. by-cond (Fine x) (eqb (length x) (endAt a b (high x (thirdAt a b)))) _ _
-    (λ z h. record { regs = ha; bytes = hb; frames = leb-true (high x (thirdAt a b)) 64 (and-right (leb (thirdAt a b + 2) (length x)) _ q); all = eqb-true (length x) _ z })
-    (λ z. none-fine x))
-    (λ q. none-fine x)
+end-fine : (x : List ℕ) (a b c : ℕ) → a ≤ 64 → b ≤ 64 → c ≤ 64 → Fine x (endOf x a b c)
+unfolding endOf
+end-fine x a b c ha hb hc =
+    by-cond (Fine x) (eqb (length x) (endAt a b c)) _ _ (λ e h. record { regs = ha; bytes = hb; frames = hc; all = eqb-true (length x) _ e }) (λ e. none-fine x)
 
-second-fine : (x : List ℕ) (a : ℕ) → a ≤ 64 → Fine x (secondOf x a)
-unfolding secondOf
-second-fine x a ha =
-    by-cond (Fine x) (counted x (secondAt a)) _ _
-    (λ q. third-fine x a (high x (secondAt a)) ha (leb-true (high x (secondAt a)) 64 (and-right (leb (secondAt a + 2) (length x)) _ q)))
-    (λ q. none-fine x)
+count-fine : (x : List ℕ) (i : ℕ) (next : ℕ → Sections) → ((c : ℕ) → c ≤ 64 → Fine x (next c)) → Fine x (byCount x i next)
+unfolding byCount
+count-fine x i next f =
+    by-cond (Fine x) (counted x i) _ _ (λ q. f (high x i) (leb-true (high x i) 64 (and-right (leb (i + 2) (length x)) _ q))) (λ q. none-fine x)
 
 sections-fine : (x : List ℕ) → Fine x (sectionsOf x)
-unfolding sectionsOf
+unfolding sectionsOf secondOf thirdOf
 sections-fine x =
-    by-cond (Fine x) (counted x 0) _ _
-    (λ q. second-fine x (high x 0) (leb-true (high x 0) 64 (and-right (leb (0 + 2) (length x)) _ q)))
-    (λ q. none-fine x)
+    count-fine x 0 (secondOf x) (λ a ha. count-fine x (secondAt a) (thirdOf x a) (λ b hb. count-fine x (thirdAt a b) (endOf x a b) (λ c hc. end-fine x a b c ha hb hc)))
 
 pub whole : (x : List ℕ) (p : Sections) → p ≡ sectionsOf x → not (p .ok) ≡ false → Whole x p
 whole x p e h = rw e (sections-fine x (ap (λ (q : Sections). q .ok) (sym e) ∙ not-false (p .ok) h))

@@ -32,18 +32,22 @@ sections a b c = record { ok = true; regs = a; bytes = b; frames = c }
 abbrev pub counted : List ℕ → ℕ → Bool
 counted x i = leb (i + 2) (length x) && leb (high x i) 64
 
--- the numbers of items; "Short or extra input, or a count above 64" is malformed
+-- "Short or extra input, or a count above 64" is malformed; else the count at i decides
+unfoldable pub byCount : List ℕ → ℕ → (ℕ → Sections) → Sections
+byCount x i next = cond (counted x i) (next (high x i)) malformed
+
+-- the numbers of items, when those of all three, two, one or none of the sections are read
+unfoldable pub endOf : List ℕ → ℕ → ℕ → ℕ → Sections
+endOf x a b c = cond (eqb (length x) (endAt a b c)) (sections a b c) malformed
+
 unfoldable pub thirdOf : List ℕ → ℕ → ℕ → Sections
-thirdOf x a b =
-    cond (counted x (thirdAt a b))
-    (cond (eqb (length x) (endAt a b (high x (thirdAt a b)))) (sections a b (high x (thirdAt a b))) malformed)
-    malformed
+thirdOf x a b = byCount x (thirdAt a b) (endOf x a b)
 
 unfoldable pub secondOf : List ℕ → ℕ → Sections
-secondOf x a = cond (counted x (secondAt a)) (thirdOf x a (high x (secondAt a))) malformed
+secondOf x a = byCount x (secondAt a) (thirdOf x a)
 
 unfoldable pub sectionsOf : List ℕ → Sections
-sectionsOf x = cond (counted x 0) (secondOf x (high x 0)) malformed
+sectionsOf x = byCount x 0 (secondOf x)
 
 -- input of these sections, each of at most 64 items
 pub record Whole (x : List ℕ) (p : Sections) : Type 0 where
