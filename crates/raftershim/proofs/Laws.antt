@@ -17,7 +17,7 @@ use Rattle.laws.proofs.Answers.{refused-exactly}
 use Rattle.raftershim.specs.Word.{word, placeWord, startOf, storeOf, shownWord}
 use Rattle.raftershim.specs.Calls.{Lent, lent, Returned, returned, opened, closed, createdFor, cStep, needsState}
 use Rattle.raftershim.specs.Runs.{packedWorld, answerWord}
-use Rattle.raftershim.specs.Laws.{OneResult, WordTells, ShownPlace, MisfitRefused, WrongBlockRefused, RefusalKeepsAll, SameCall}
+use Rattle.raftershim.specs.Laws.{OneResult, WordTells, ShownPlace, MisfitRefused, WrongBlockRefused, SameCall}
 use Rattle.raftershim.proofs.Closing.{misfit-step, Shown, shown-part}
 
 -- every call is create, showing, or one on a state
@@ -77,9 +77,10 @@ closed-keeps l d k e = rw (e, k e)
 pub refusal-keeps : (c : Call) (w : World) → isRefusal (step c w .said) ≡ true → step c w .world ≡ w
 refusal-keeps c w = refused-exactly c w .leaves
 
-pub refusal-keeps-all : RefusalKeepsAll
+-- the same of a C call where the bridge's call refuses
+pub step-refusal-keeps : (c : Call) (l : Lent) → isRefusal (step c (opened l) .said) ≡ true → cStep c l .lent ≡ l
 unfolding cStep createdFor
-refusal-keeps-all c l = by-kind (λ (c : Call). isRefusal (step c (opened l) .said) ≡ true → cStep c l .lent ≡ l) creating showing calling c
+step-refusal-keeps c l = by-kind (λ (c : Call). isRefusal (step c (opened l) .said) ≡ true → cStep c l .lent ≡ l) creating showing calling c
   where
     creating : (m : ℕ) → isRefusal (step (create m) (opened l) .said) ≡ true → cStep (create m) l .lent ≡ l
     creating m e =

@@ -2,21 +2,26 @@
 -- Assumes nothing.
 use Prim.Native.Nat.{ℕ, _+_}
 use mathlib.Core.Path.{_≡_, refl, sym, ap, _∙_}
-use mathlib.Core.Bool.{Bool, true, cond, _||_}
+use mathlib.Core.Bool.{Bool, true, false, cond, _||_}
 use mathlib.Core.List.{List, [], _∷_, _++_}
 use lib.ListN.{length}
+use lib.Dec.{eqb}
+use borrow.Author.Tests.{eqb-true}
 use Rattle.cases.proofs.Cases.{and-left, and-right}
+use Rattle.block.specs.Packed.{blockLen}
+use Rattle.block.specs.States.{isState, fittingBlock}
+use Rattle.laws.specs.Answers.{isRefusal}
 use Rattle.state.specs.Answers.{Said, part}
 use Rattle.bridge.specs.Calls.{Call, create, reset, write, lineByte, lineBreak, key, nextLineByte, loopFrame, show, World, outcome, step}
 use Rattle.runs.specs.Observers.{arrived}
 use Rattle.runs.specs.Run.{all, some, spells, holdsOff}
 use Rattle.runs.specs.StatusWay.{statusBack, underWay, comesBack}
 use Rattle.raftershim.specs.Word.{word}
-use Rattle.raftershim.specs.Calls.{Lent, opened, cStep}
+use Rattle.raftershim.specs.Calls.{Lent, Returned, opened, cStep}
 use Rattle.raftershim.specs.Runs.{answerWord, isByteCall, allByteCalls, Typed, Whole}
 use Rattle.raftershim.specs.Told.{told, toldPart, cAnswer, cAll, cSome, cComesBack, cSpells}
-use Rattle.raftershim.specs.Laws.{AnswersTold}
-use Rattle.raftershim.proofs.Laws.{shown-place}
+use Rattle.raftershim.specs.Laws.{RefusalKeepsAll, AnswersTold}
+use Rattle.raftershim.proofs.Laws.{by-kind, shown-place, misfit-refused, wrong-block-refused, step-refusal-keeps}
 use Rattle.raftershim.proofs.Opened.{opened-typed, whole-kept, call-means}
 use Rattle.raftershim.proofs.Small.{Tells, told-or, next-told, frame-told}
 
@@ -40,6 +45,25 @@ answers-told lineBreak l h = telling l h lineBreak refl (told-or (opened l) line
 answers-told key l h = telling l h key refl (told-or (opened l) key (λ e. tt))
 answers-told nextLineByte l h = telling l h nextLineByte refl (told-or (opened l) nextLineByte (next-told (opened l) (typed l h .state) (h .bytes .tx)))
 answers-told (loopFrame f) l h = telling l h (loopFrame f) refl (told-or (opened l) (loopFrame f) (frame-told (opened l) (h .bytes .rx) f))
+
+-- ---- refusals
+
+-- with a block of another length every call leaves the buffers as they were
+other-length : (c : Call) (l : Lent) → eqb (length (l .block)) blockLen ≡ false → cStep c l .lent ≡ l
+unfolding cStep fittingBlock isState
+other-length c l e =
+    by-kind (λ (c : Call). cStep c l .lent ≡ l)
+    (λ m. ap (λ (r : Returned). r .lent) (wrong-block-refused m l e))
+    (λ side. refl)
+    (λ c n. ap (λ (r : Returned). r .lent) (misfit-refused c l n (rw e)))
+    c
+
+pub refusal-keeps-all : RefusalKeepsAll
+refusal-keeps-all c l h e = pick (eqb (length (l .block)) blockLen) refl
+  where
+    pick : (t : Bool) → eqb (length (l .block)) blockLen ≡ t → cStep c l .lent ≡ l
+    pick true q = step-refusal-keeps c l (ap isRefusal (sym (answers-told c l (record { size = eqb-true (length (l .block)) blockLen q; bytes = h }))) ∙ e)
+    pick false q = other-length c l q
 
 -- ---- runs
 

@@ -13,7 +13,7 @@ use Rattle.laws.specs.Answers.{isRefusal}
 use Rattle.runs.specs.Run.{end}
 use Rattle.raftershim.specs.Word.{word, kindOf, valueOf, storeOf, shownWord}
 use Rattle.raftershim.specs.Calls.{Lent, Returned, returned, opened, cStep, needsState}
-use Rattle.raftershim.specs.Runs.{packedWorld, answerWord, words, cEnd, cWords, allByteCalls, Typed, Whole}
+use Rattle.raftershim.specs.Runs.{packedWorld, answerWord, words, cEnd, cWords, allByteCalls, Typed, OfBytes, Whole}
 use Rattle.raftershim.specs.Told.{cAnswer}
 
 -- ---- the answer
@@ -48,9 +48,10 @@ MisfitRefused =
 abbrev pub WrongBlockRefused : Type 0
 WrongBlockRefused = (m : ℕ) (l : Lent) → eqb (length (l .block)) blockLen ≡ false → cStep (create m) l ≡ refusedBy 1 l
 
--- "Each returns its number alone; state and stores stay as they were", and so does the block
+-- "Each returns its number alone; state and stores stay as they were", and so does the block: of every C call whose number tells a
+-- refusal, whatever the block is and how long it is
 abbrev pub RefusalKeepsAll : Type 0
-RefusalKeepsAll = (c : Call) (l : Lent) → isRefusal (step c (opened l) .said) ≡ true → cStep c l .lent ≡ l
+RefusalKeepsAll = (c : Call) (l : Lent) → OfBytes l → isRefusal (cAnswer c l) ≡ true → cStep c l .lent ≡ l
 
 -- ---- every C function is the call of its name
 
