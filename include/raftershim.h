@@ -91,7 +91,8 @@ uint64_t raftershim_line_byte(uint8_t *block, size_t block_len, uint8_t *rx, siz
                               uint8_t byte);
 
 /*
- * Takes a break on the line. Answers done.
+ * Takes a break on the line. Answers done. Neither store is written; the receive store is lent for writing so that a mark of the break in
+ * it would change no caller.
  * Refusal 2: the block is not a state that fits the stores.
  */
 uint64_t raftershim_break(uint8_t *block, size_t block_len, uint8_t *rx, size_t rx_len, const uint8_t *tx, size_t tx_len);

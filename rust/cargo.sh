@@ -3,14 +3,14 @@
 # On another processor Debian's compiler, its standard library for x86-64, a cross linker and an emulator stand in.
 # What is missing is installed; the crates of the tests come from Debian's packages, so nothing is fetched from a registry of crates.
 set -eu
-cd "$(dirname "$0")/.."
+top=$(cd "$(dirname "$0")/.." && pwd)
 registry=/usr/share/cargo/registry
 install() { { apt-get update -qq && apt-get install -y -qq --no-install-recommends "$@"; } > /dev/null; }
 have() { command -v "$1" > /dev/null 2>&1; }
 
 [ -d "$registry/proptest-1.0.0" ] && [ -d "$registry/lazy_static-1.4.0" ] || install librust-proptest-dev librust-proptest+std-dev
-[ -f target/staticlib/libraftershim.a ] || rt staticlib raftershim > /dev/null
-export CARGO_TARGET_DIR="$PWD/target/rust" CARGO_NET_OFFLINE=true
+[ -f "$top/target/staticlib/libraftershim.a" ] || (cd "$top" && rt staticlib raftershim > /dev/null)
+export CARGO_TARGET_DIR="$top/target/rust" CARGO_NET_OFFLINE=true
 set -- --config 'source.crates-io.replace-with="debian"' --config "source.debian.directory=\"$registry\"" "$@"
 if [ "$(uname -m)" = x86_64 ]; then
     have cargo || install cargo

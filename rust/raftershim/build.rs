@@ -31,7 +31,8 @@ fn check_target() {
         stop(&format!(
             "The archive {ARCHIVE} that the command `rt staticlib raftershim` makes is for x86-64 \
              Linux, and this build is for {arch} {os}: build with --target \
-             x86_64-unknown-linux-gnu."
+             x86_64-unknown-linux-gnu, or with `sh rust/cargo.sh` of the repository in the place of \
+             cargo."
         ));
     }
 }

@@ -18,6 +18,7 @@
 //!
 //! let mut bridge = Bridge::create([0; 64], [0; 64], 8)?;
 //! bridge.write_register(register::R10, 8)?;
+//! let lost_before = bridge.state().lost;
 //! for byte in *b"2.5\r\n" {
 //!     bridge.line_byte(byte)?;
 //! }
@@ -36,21 +37,21 @@
 //! // Before the reading is spoken: has its end byte come, and was a byte lost, maybe the point?
 //! let text: String = reading.iter().map(|&sent| char::from(frame::data(sent))).collect();
 //! let ended = matches!(reading.last().map(|&sent| frame::control(sent)), Some(2 | 3));
-//! let lost = bridge.state().seen_overrun;
+//! let lost = bridge.state().lost != lost_before;
 //! assert_eq!((text.as_str(), ended, lost), ("2.5", true, false));
 //! # Ok::<(), raftershim::Refusal>(())
 //! ```
 //!
-//! [`State::seen_overrun`] says the same as bit 5 of the status byte, which the loop gets with the
-//! frame 5,97. It is cleared by a reset, by a device clear, and when a status byte that showed it
-//! has come back unchanged and nothing was lost since it was sent. The loop never clears the count
-//! [`State::lost`], so a caller that also asks for the status compares that count with what it was
-//! before the bytes of the reading came.
+//! The loop never clears the count [`State::lost`], so compare it with what it was before the bytes
+//! of the reading came. [`State::seen_overrun`] says the same as bit 5 of the status byte, which the
+//! loop gets with the frame 5,97. That bit is cleared by a reset, by a device clear, and when a
+//! status byte that showed it has come back unchanged and nothing was lost since it was sent: a
+//! caller that also asks for the status would miss the loss.
 //!
 //! # Answers and refusals
 //!
-//! A call gives an [`Answer`], or a [`Refusal`] with the number of the rules. A call that is
-//! refused leaves the block and both stores as they were.
+//! A call gives an [`Answer`], or a [`Refusal`] with its number. A call that is refused leaves the
+//! block and both stores as they were.
 //!
 //! # The archive
 //!
