@@ -76,7 +76,7 @@ Bytes b = (i : ℕ) → getD b i 0 < 256
 
 -- ---- what the code tests of a block
 
--- "a flag as 1 or 0"
+-- the flag at this place is 1 or 0
 abbrev pub flagged : List ℕ → ℕ → Bool
 flagged b i = leb (getD b i 0) 1
 

@@ -91,7 +91,8 @@ outcome nextLineByte w = record { state = goneState (w .state) (nextOut (w .stat
 outcome (loopFrame f) w = frameTaken (w .state) (w .rx) f
 outcome (show side) w = doneWith (w .state)
 
--- requests begin in one place for all calls: create has no state before it, and a device clear leaves none
+-- "A request begins when an enabled condition comes to hold", in any call; create has no state before it, and "A device clear leaves no
+-- request."
 unfoldable pub settledBy : Call → State → State → State
 settledBy (create m) s t = t
 settledBy reset s t = settled s t
@@ -161,7 +162,7 @@ step key w = refusedOr (firstRefusal (checks key w)) (accepted key w) w
 step nextLineByte w = refusedOr (firstRefusal (checks nextLineByte w)) (accepted nextLineByte w) w
 step (loopFrame f) w = refusedOr (firstRefusal (checks (loopFrame f) w)) (accepted (loopFrame f) w) w
 
--- "create returns no state" where it refuses: the caller's, whatever it is, stays; what stands in its place fits no store of these lengths
+-- "create returns no state" where it refuses: the caller's, whatever it is, stays; what stands in its place fits no stores
 pub record Created (m : ℕ) (rx tx : List ℕ) (o : Outcome) : Type 0 where
   pub made : o .state ≡ startState m (length rx) (length tx)
   pub answer : (s : State) → said (o .answer) ≡ step (create m) (world s rx tx) .said

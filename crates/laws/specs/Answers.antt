@@ -63,6 +63,7 @@ canAnswer nextLineByte x = byteOrRefused x
 canAnswer (loopFrame f) x = frameOrRefused x
 canAnswer (show side) x = isPart x
 
+-- every call, in every world, answers one of these
 abbrev pub CallsAnswerSo : Type 0
 CallsAnswerSo = (c : Call) (w : World) → canAnswer c (step c w .said) ≡ true
 
@@ -74,5 +75,6 @@ pub record Refuses (d : Did) (n : ℕ) (w : World) : Type 0 where
   -- "Each returns its number alone; state and stores stay as they were"
   pub leaves : isRefusal (d .said) ≡ true → d .world ≡ w
 
+-- "Given exactly when": every call, in every world, refuses by the first of its checks that is given, and only then
 abbrev pub RefusedExactly : Type 0
 RefusedExactly = (c : Call) (w : World) → Refuses (step c w) (firstRefusal (checks c w)) w

@@ -45,5 +45,6 @@ CallsKeepFit = (c : Call) (w : World) → AllBytes (w .rx) → Fits w → Fits (
 abbrev pub CreateMakesFit : Type 0
 CreateMakesFit = (m : ℕ) (w : World) → step (create m) w .said ≡ done → Fits (step (create m) w .world)
 
+-- "the same stores", of every call
 abbrev pub CallsKeepStores : Type 0
 CallsKeepStores = (c : Call) (w : World) → SameStores w (step c w .world)

@@ -64,7 +64,7 @@ lineState s b = cond (isFlow (s .regs) b) (flowed s b) (cond (full (s .sizes .rx
 unfoldable pub lineBytes : State → List ℕ → ℕ → List ℕ
 lineBytes s rx b = cond (isFlow (s .regs) b) rx (putBytes rx (s .rx) b)
 
--- both, after a line byte
+-- the state and the receive store after a line byte
 pub record Taken (s : State) (rx : List ℕ) (b : ℕ) (rx′ : List ℕ) (t : State) : Type 0 where
   pub state : t ≡ lineState s b
   pub bytes : rx′ ≡ lineBytes s rx b

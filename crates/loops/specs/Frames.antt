@@ -45,6 +45,7 @@ cleared s =
     (withLine (withTx (withRx s emptyRing) emptyRing) (record { holding = false; forbidden = false; stopped = s .line .stopped }))
     (record { seen = noEvents; again = noEvents; request = false })
 
+-- the order is a device clear
 abbrev pub isClear : Order → Bool
 isClear Clear = true
 isClear Unlisten = false
@@ -157,7 +158,7 @@ leavesBytes s f = (isData f && not (isActive (s .role))) && s .role .listener
 unfoldable pub frameBytes : State → List ℕ → ℕ → List ℕ
 frameBytes s tx f = cond (leavesBytes s f) (leftBytes s tx f) tx
 
--- both, after a frame
+-- the outcome and the transmit store after a frame
 pub record Framed (s : State) (rx tx : List ℕ) (f : ℕ) (tx′ : List ℕ) (o : Outcome) : Type 0 where
   pub outcome : o ≡ frameSettled s rx f
   pub bytes : tx′ ≡ frameBytes s tx f

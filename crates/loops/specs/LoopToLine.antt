@@ -27,7 +27,7 @@ leftState s f = withTx s (putsRing (s .sizes .tx) (s .tx) (leaves (s .regs) f))
 unfoldable pub leftBytes : State → List ℕ → ℕ → List ℕ
 leftBytes s tx f = putsBytes tx (s .tx) (leaves (s .regs) f)
 
--- both, after a data frame
+-- the state and the transmit store after a data frame that a listener stores
 pub record Left (s : State) (tx : List ℕ) (f : ℕ) (tx′ : List ℕ) (t : State) : Type 0 where
   pub state : t ≡ leftState s f
   pub bytes : tx′ ≡ leftBytes s tx f

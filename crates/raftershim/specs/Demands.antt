@@ -16,10 +16,12 @@ use Rattle.raftershim.specs.Calls.{Lent, opened, cStep}
 use Rattle.raftershim.specs.Runs.{cEnd, allByteCalls, Whole}
 use Rattle.raftershim.specs.Told.{cAnswer, cAll, cSome, cSentAndBack, cSpells}
 
--- "any run of calls with the same stores, untouched in between, each call given the state as the one before left it", and no call that
--- is seen to do what is left out
+-- "any run of calls with the same stores, untouched in between, each call given the state as the one before left it", and no call of the
+-- kind that is left out
 pub record Run (leftOut : Call → World → Said → Bool) (cs : List Call) (l : Lent) : Type 0 where
+  -- the block has the one length, and all buffers are bytes
   pub start : Whole l
+  -- line bytes are bytes
   pub calls : allByteCalls cs ≡ true
   pub without : cSome leftOut cs l ≡ false
 
@@ -37,6 +39,7 @@ StaysInC e =
     (c : Call) (l : Lent) → Whole l → happens e c (opened l) (cAnswer c l) ≡ true → (cs : List Call) → Run empties cs (cStep c l .lent) →
     (bitOf e (opened (cEnd cs (cStep c l .lent))) ≡ true) ⊎ (cSentAndBack cs (cStep c l .lent) ≡ true)
 
+-- so each of the bits of break, overrun and key
 abbrev pub EventsStayInC : Type 0
 EventsStayInC = (e : Event) → StaysInC e
 

@@ -28,5 +28,6 @@ pub record SameLengths (before after : Lent) : Type 0 where
   pub rx : length (after .rx) ≡ length (before .rx)
   pub tx : length (after .tx) ≡ length (before .tx)
 
+-- of every C call
 abbrev pub LengthsStay : Type 0
 LengthsStay = (c : Call) (l : Lent) → SameLengths l (cStep c l .lent)

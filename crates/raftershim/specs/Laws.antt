@@ -64,7 +64,7 @@ SameCall = (c : Call) (w : World) → Ranged (w .state) → cStep c (packedWorld
 abbrev pub SameEnd : Type 0
 SameEnd = (cs : List Call) (w : World) → allByteCalls cs ≡ true → Typed w → cEnd cs (packedWorld w) ≡ packedWorld (end cs w)
 
--- and the numbers answered are the answers
+-- the numbers that a run of C calls answers are those of the bridge's answers
 abbrev pub SameWords : Type 0
 SameWords = (cs : List Call) (w : World) → allByteCalls cs ≡ true → Typed w → cWords cs (packedWorld w) ≡ words cs w
 
@@ -75,6 +75,7 @@ pub record Means (c : Call) (l : Lent) : Type 0 where
   pub world : opened (cStep c l .lent) ≡ step c (opened l) .world
   pub word : cStep c l .word ≡ answerWord c (opened l)
 
+-- a C call on a block of the one length is the bridge's call
 abbrev pub CallMeans : Type 0
 CallMeans = (c : Call) (l : Lent) → Whole l → Means c l
 
@@ -84,6 +85,7 @@ pub record RunMeans (cs : List Call) (l : Lent) : Type 0 where
   pub words : cWords cs l ≡ words cs (opened l)
   pub whole : Whole (cEnd cs l)
 
+-- a run of C calls is the run of the bridge's calls
 abbrev pub RunsMean : Type 0
 RunsMean = (cs : List Call) (l : Lent) → allByteCalls cs ≡ true → Whole l → RunMeans cs l
 

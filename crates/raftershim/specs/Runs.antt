@@ -41,7 +41,7 @@ unfoldable pub cWords : List Call → Lent → List ℕ
 cWords [] l = []
 cWords (c ∷ cs) l = cStep c l .word ∷ cWords cs (cStep c l .lent)
 
--- "A line byte is 8 bits": what the type of the call gives
+-- a line byte is below 256, which the type of the call gives
 unfoldable pub isByteCall : Call → Bool
 isByteCall (lineByte b) = ltb b 256
 isByteCall (create m) = true

@@ -23,6 +23,7 @@ saidBy kind value =
     (cond (eqb kind 3) (frame (controlOf value) (dataOf value))
     (refused value))))
 
+-- the answer that a number tells
 unfoldable pub told : ℕ → Said
 told n = saidBy (n / 65536) (n % 65536)
 

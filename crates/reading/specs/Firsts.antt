@@ -1,5 +1,4 @@
 -- The oldest bytes as the code has them.
--- Assumes nothing.
 use Prim.Native.Nat.{ℕ}
 use mathlib.Core.List.{List, [], _∷_}
 use lib.ListN.{take}

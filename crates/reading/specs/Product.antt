@@ -1,6 +1,5 @@
 -- "The data frames sent .., followed by those the reading rule gives for the bytes still held, are those it gives for the bytes held at
 -- the start and then all accepted": once, for every product that accepts items, holds them and sends what is read from them.
--- Assumes nothing.
 use mathlib.Core.Path.{_≡_}
 use mathlib.Core.List.{List, [], _∷_, _++_}
 

@@ -1,5 +1,4 @@
 -- Reading, whatever the items, the frames and the rule: a rule looks at the oldest items and says what becomes of them.
--- Assumes nothing.
 use Prim.Native.Nat.{ℕ, zero, suc}
 use mathlib.Core.List.{List, [], _∷_}
 use lib.ListN.{length}

@@ -1,5 +1,4 @@
 -- The reading rule (line to loop) over the bytes held, oldest first, in the paper's own order.
--- Assumes nothing.
 use Prim.Native.Nat.{ℕ}
 use mathlib.Core.Bool.{Bool, true, false, cond, _&&_, _||_}
 use mathlib.Core.List.{List, [], _∷_}

@@ -12,6 +12,7 @@ nothing = 0
 abbrev pub character : ℕ
 character = 16
 
+-- a register's number, what it carries, and its start value
 pub record Row : Type 0 where
   pub number : ℕ
   pub carries : ℕ

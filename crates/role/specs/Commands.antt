@@ -26,7 +26,7 @@ changedRole r Local = withRemote r false
 changedRole r Unassign = withAddress r none
 changedRole r Nothing = r
 
--- "First, .. Then, .."
+-- the role after an order: "First, an active talker becomes merely addressed", then what the order says
 unfoldable pub obeyedRole : Role → Order → Role
 obeyedRole r o = changedRole (merelyAddressed r) o
 

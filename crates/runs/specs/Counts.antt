@@ -23,17 +23,19 @@ frameCount w = w .state .counts .sent
 abbrev pub wrapped : ℕ → ℕ
 wrapped n = n % 2 ^ 32
 
+-- from v to w the counts went up by what was accepted, lost and sent
 pub record Counted (cs : List Call) (v w : World) : Type 0 where
   pub stored : stored w ≡ wrapped (stored v + length (all accepted cs v))
   pub lost : losses w ≡ wrapped (losses v + length (all lost cs v))
   pub sent : frameCount w ≡ wrapped (frameCount v + length (all sent cs v))
 
+-- the counts are "kept in 32 bits"
 pub record Small (w : World) : Type 0 where
   pub stored : stored w < 2 ^ 32
   pub lost : losses w < 2 ^ 32
   pub sent : frameCount w < 2 ^ 32
 
--- whatever was counted before
+-- from any counts: each has gone up by what the run accepted, lost and sent
 abbrev pub CountsGo : Type 0
 CountsGo = (cs : List Call) (w : World) → Without begins cs w → Bytes (heldToSend w ++ all accepted cs w) → Small w → Counted cs w (end cs w)
 
@@ -43,6 +45,7 @@ pub record CountedSince (cs : List Call) (v w : World) : Type 0 where
   pub lost : losses w ≡ wrapped (length (all lost cs v))
   pub sent : frameCount w ≡ wrapped (length (all sent cs v))
 
+-- "since create or reset", whatever calls follow it
 abbrev pub CountsSince : Type 0
 CountsSince =
     (c : Call) (w : World) → begins c w (answer c w) ≡ true → (cs : List Call) → Without begins cs (after c w) →

@@ -72,5 +72,6 @@ Stays e =
     (c : Call) (w : World) → happens e c w (answer c w) ≡ true → (cs : List Call) → Without empties cs (after c w) →
     (bitOf e (end cs (after c w)) ≡ true) ⊎ (sentAndBack cs (after c w) ≡ true)
 
+-- so each of the bits of break, overrun and key
 abbrev pub EventsStay : Type 0
 EventsStay = (e : Event) → Stays e

@@ -46,7 +46,7 @@ lastSent k (c ∷ cs) w = lastSent (lastOf k c w (answer c w)) cs (after c w)
 abbrev pub recorded : World → Bool
 recorded w = w .state .line .stopped
 
--- whatever was sent before
+-- from any world: what is recorded at the end is the last of go and stop sent in the run, or what was recorded at its start
 abbrev pub LastKept : Type 0
 LastKept = (cs : List Call) (w : World) → Without begins cs w → recorded (end cs w) ≡ lastSent (recorded w) cs w
 

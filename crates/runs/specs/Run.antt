@@ -63,6 +63,7 @@ spells k (c ∷ cs) w =
     ((k + length (arrived c w (answer c w))) ∷ spells 0 cs (after c w)))
     (spells 0 cs (after c w))
 
+-- each number is at most m
 abbrev pub AtMost : ℕ → List ℕ → Type 0
 AtMost m [] = Unit {0}
 AtMost m (n ∷ ns) = (n ≤ m) × AtMost m ns

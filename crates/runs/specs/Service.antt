@@ -27,5 +27,6 @@ pub record ServiceRight (w : World) (f k d : ℕ) : Type 0 where
   -- any other answer is a data frame, or a ready frame, which has no service bit: so 5,64 and 5,65
   pub other : passesOn (w .state) f ≡ false → (controlOf f ≡ 4 → ⊥) → (ltb k 4 || eqb k 5) ≡ true
 
+-- of every frame taken, in every world
 abbrev pub ServiceBit : Type 0
 ServiceBit = (f k d : ℕ) (w : World) → Bytes (heldToSend w) → answer (loopFrame f) w ≡ frame k d → ServiceRight w f k d

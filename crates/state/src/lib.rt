@@ -41,6 +41,7 @@ pub struct Counts {
     pub sent: u32,
 }
 
+// "a state that the caller keeps": it goes into every call by value and comes back with the answer.
 pub struct State {
     pub sizes: Sizes,
     pub regs: Registers,

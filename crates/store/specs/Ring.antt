@@ -13,7 +13,7 @@ pub record Fit (s : List ℕ) (r : Ring) : Type 0 where
   pub len : r .len ≤ length s
   pub small : length s ≤ 32768
 
--- the same as a test
+-- the ring fits, as a test
 unfoldable pub fitTest : ℕ → Ring → Bool
 fitTest cap r = (ltb (r .oldest) cap && leb (r .len) cap) && leb cap 32768
 
