@@ -50,8 +50,20 @@ def sizes():
     return "\n".join(rows + [size_row("all", *total)])
 
 
+def declares(path, name):
+    """Whether a file declares the name: a definition, statement, law or field, or a function or type of code."""
+    word = re.escape(name)
+    forms = {
+        ".antt": rf"^\s*(?:(?:abbrev|unfoldable|pub|record|data) )*{word}(?: [^=\n]*)? ?:",
+        ".rt": rf"\b(?:fn|struct|enum|const) {word}\b",
+        ".rs": rf"\b(?:fn|struct|enum|const|mod) {word}\b",
+    }
+    form = forms.get(os.path.splitext(path)[1], rf"(^|[^\w'-]){word}([^\w'-]|$)")
+    return re.search(form, open(path, encoding="utf-8").read(), re.M)
+
+
 def missing_names(path):
-    """Files that a document names and that are not there, and names that do not stand in the file named before them."""
+    """Files that a document names and that are not there, and names that the file named before them does not declare."""
     wrong = []
     for number, line in enumerate(open(path, encoding="utf-8"), 1):
         where = None
@@ -61,8 +73,7 @@ def missing_names(path):
                 if not os.path.exists(word):
                     wrong.append(f"{path}:{number}: no file {word}")
             elif where and path.endswith("PROMISES.md"):
-                text = open(where, encoding="utf-8").read()
-                if not re.search(r"(^|[^\w'-])" + re.escape(word) + r"([^\w'-]|$)", text):
+                if not declares(where, word):
                     wrong.append(f"{path}:{number}: no {word} in {where}")
     return wrong
 

@@ -21,11 +21,11 @@ use Rattle.loops.specs.LoopToLine.{busy}
 use Rattle.loops.specs.Frames.{frameSettled, Framed}
 use Rattle.line.specs.HoldingOff.{lineState, lineBytes, Taken, afterWrite, nextOut, goneState, outAnswer}
 use Rattle.state.specs.Status.{settled, breakState, keyState}
-use Rattle.bridge.specs.Calls.{Call, create, reset, write, lineByte, lineBreak, key, nextLineByte, loopFrame, show, World, Did, world, did, handed, checks, outcome, doneWith, refusedWith, settledBy, rxAfter, txAfter, accepted, refusedOr, misfit, step, shown, Created}
+use Rattle.bridge.specs.Calls.{Call, create, reset, write, lineByte, lineBreak, key, nextLineByte, loopFrame, show, World, Did, world, did, handed, checks, outcome, doneWith, refusedWith, settledBy, rxAfter, txAfter, notRefused, refusedOr, misfit, step, shown, Created}
 
 -- a call that takes a state: the check for a misfit, and `more` after it
 abbrev Judged : Call → State → List ℕ → List ℕ → List Check → Type 0
-Judged c s rx tx more = step c (world s rx tx) ≡ refusedOr (firstRefusal (misfit (world s rx tx) ∷ more)) (accepted c (world s rx tx)) (world s rx tx)
+Judged c s rx tx more = step c (world s rx tx) ≡ refusedOr (firstRefusal (misfit (world s rx tx) ∷ more)) (notRefused c (world s rx tx)) (world s rx tx)
 
 -- the checks of a loop frame after that
 abbrev pub frameChecks : State → ℕ → List Check
@@ -43,7 +43,7 @@ module _ (s : State) (rx tx : List ℕ) (e : fits s (length rx) (length tx) ≡ 
 
 module _ (s : State) (rx tx : List ℕ) (e : fits s (length rx) (length tx) ≡ true) where
   -- a state that fits, and no refusal after that: what is accepted was done
-  pub fit-met : (c : Call) (more : List Check) (d : Did) → Judged c s rx tx more → firstRefusal more ≡ 0 → d ≡ accepted c (world s rx tx) → d ≡ step c (world s rx tx)
+  pub fit-met : (c : Call) (more : List Check) (d : Did) → Judged c s rx tx more → firstRefusal more ≡ 0 → d ≡ notRefused c (world s rx tx) → d ≡ step c (world s rx tx)
   unfolding refusedOr
   fit-met c more d j h q = q ∙ sym (j ∙ rw (e, h))
 
@@ -56,13 +56,13 @@ module _ (s : State) (rx tx : List ℕ) (e : fits s (length rx) (length tx) ≡ 
   pub done-met : (c : Call) (more : List Check) (o : Outcome) (rx′ tx′ : List ℕ) (t u : State) → Judged c s rx tx more → firstRefusal more ≡ 0 →
       doneWith t ≡ outcome c (world s rx tx) → settled s t ≡ settledBy c s t → rx′ ≡ rxAfter c (world s rx tx) → tx′ ≡ txAfter c (world s rx tx) →
       u ≡ settled s t → o ≡ doneWith u → did o rx′ tx′ ≡ step c (world s rx tx)
-  unfolding accepted
+  unfolding notRefused
   done-met c more o rx′ tx′ t u j h a b x y z q =
       fit-met c more (did o rx′ tx′) j h (rw (q, z, b, x, y, ← a))
 
   pub next-done : (x : Out) (a : Answer) (t u : State) → x ≡ nextOut s tx → a ≡ outAnswer x → t ≡ goneState s x → u ≡ settled s t →
       did (record { state = u; answer = a }) rx tx ≡ step nextLineByte (world s rx tx)
-  unfolding step checks accepted outcome settledBy rxAfter txAfter
+  unfolding step checks notRefused outcome settledBy rxAfter txAfter
   next-done x a t u p q r z = fit-met nextLineByte [] (did (record { state = u; answer = a }) rx tx) refl refl (rw (z, r, q, p))
 
   pub frame-large : (f : ℕ) → 2047 < f → firstRefusal (frameChecks s f) ≡ 3
@@ -72,7 +72,7 @@ module _ (s : State) (rx tx : List ℕ) (e : fits s (length rx) (length tx) ≡ 
   frame-busy f h b = rw (le-ltb 2047 f h, b)
 
   pub frame-done : (o : Outcome) (f : ℕ) (tx′ : List ℕ) → f ≤ 2047 → busy s f ≡ false → Framed s rx tx f tx′ o → did o rx tx′ ≡ step (loopFrame f) (world s rx tx)
-  unfolding step checks accepted outcome settledBy rxAfter txAfter frameSettled
+  unfolding step checks notRefused outcome settledBy rxAfter txAfter frameSettled
   frame-done o f tx′ h b q = fit-met (loopFrame f) (frameChecks s f) (did o rx tx′) refl (rw (le-ltb 2047 f h, b)) (rw (q .outcome, q .bytes))
 
   pub show-receive : (p : List ℕ) → p ≡ run rx (s .rx) → (side : ℕ) → side ≡ 0 → handed p (world s rx tx) ≡ step (show side) (world s rx tx)
@@ -89,7 +89,7 @@ module _ (s : State) (rx tx : List ℕ) (e : fits s (length rx) (length tx) ≡ 
 
 module _ (m : ℕ) (rx tx : List ℕ) (o : Outcome) (t : State) (made : t ≡ startState m (length rx) (length tx)) where
   pub create-done : sizesObeyed m (length rx) (length tx) ≡ true → o ≡ doneWith t → Created m rx tx o
-  unfolding step refusedOr checks accepted outcome settledBy rxAfter txAfter
+  unfolding step refusedOr checks notRefused outcome settledBy rxAfter txAfter
   create-done e q = rw (q, made) (record { made = refl; answer = λ s. rw e; world = λ s. rw e })
 
   pub create-refused : sizesObeyed m (length rx) (length tx) ≡ false → o ≡ refusedWith t 1 → Created m rx tx o

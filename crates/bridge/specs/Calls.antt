@@ -139,8 +139,8 @@ shown side w =
     []
 
 -- what a call that is not refused did
-unfoldable pub accepted : Call → World → Did
-accepted c w =
+unfoldable pub notRefused : Call → World → Did
+notRefused c w =
     record {
       said = said (outcome c w .answer);
       world = world (settledBy c (w .state) (outcome c w .state)) (rxAfter c w) (txAfter c w);
@@ -153,14 +153,14 @@ refusedOr n d w = cond (eqb n 0) d (record { said = refused n; world = w })
 -- every call, in every world
 unfoldable pub step : Call → World → Did
 step (show side) w = handed (shown side w) w
-step (create m) w = refusedOr (firstRefusal (checks (create m) w)) (accepted (create m) w) w
-step reset w = refusedOr (firstRefusal (checks reset w)) (accepted reset w) w
-step (write n v) w = refusedOr (firstRefusal (checks (write n v) w)) (accepted (write n v) w) w
-step (lineByte b) w = refusedOr (firstRefusal (checks (lineByte b) w)) (accepted (lineByte b) w) w
-step lineBreak w = refusedOr (firstRefusal (checks lineBreak w)) (accepted lineBreak w) w
-step key w = refusedOr (firstRefusal (checks key w)) (accepted key w) w
-step nextLineByte w = refusedOr (firstRefusal (checks nextLineByte w)) (accepted nextLineByte w) w
-step (loopFrame f) w = refusedOr (firstRefusal (checks (loopFrame f) w)) (accepted (loopFrame f) w) w
+step (create m) w = refusedOr (firstRefusal (checks (create m) w)) (notRefused (create m) w) w
+step reset w = refusedOr (firstRefusal (checks reset w)) (notRefused reset w) w
+step (write n v) w = refusedOr (firstRefusal (checks (write n v) w)) (notRefused (write n v) w) w
+step (lineByte b) w = refusedOr (firstRefusal (checks (lineByte b) w)) (notRefused (lineByte b) w) w
+step lineBreak w = refusedOr (firstRefusal (checks lineBreak w)) (notRefused lineBreak w) w
+step key w = refusedOr (firstRefusal (checks key w)) (notRefused key w) w
+step nextLineByte w = refusedOr (firstRefusal (checks nextLineByte w)) (notRefused nextLineByte w) w
+step (loopFrame f) w = refusedOr (firstRefusal (checks (loopFrame f) w)) (notRefused (loopFrame f) w) w
 
 -- "create returns no state" where it refuses: the caller's, whatever it is, stays; what stands in its place fits no stores
 pub record Created (m : ℕ) (rx tx : List ℕ) (o : Outcome) : Type 0 where

@@ -26,7 +26,7 @@ use Rattle.state.specs.Answers.{Said, done, none, byte, frame, refused, part, s
 use Rattle.line.specs.HoldingOff.{nextOut, outAnswer}
 use Rattle.loops.specs.Sending.{ended, ruleOf, removedState, sendState, sendFrom, sendStatus}
 use Rattle.loops.specs.Frames.{command, readied, ready, returned, dataPassed, identify, frameTaken}
-use Rattle.bridge.specs.Calls.{Call, create, reset, write, lineByte, lineBreak, key, nextLineByte, loopFrame, show, World, Did, outcome, checks, accepted, refusedOr, step}
+use Rattle.bridge.specs.Calls.{Call, create, reset, write, lineByte, lineBreak, key, nextLineByte, loopFrame, show, World, Did, outcome, checks, notRefused, refusedOr, step}
 use Rattle.laws.specs.Answers.{isRefusal, byteOrRefused, frameOrRefused, canAnswer, CallsAnswerSo, Refuses, RefusedExactly}
 
 -- ---- a frame for a frame
@@ -109,14 +109,14 @@ out-taken out.Nothing = refl
 
 -- a call that has numbers: what it answers when it is accepted is no refusal, and it is refused by the first of its checks that is given
 record Numbered (c : Call) (w : World) : Type 0 where
-  answer : canAnswer c (accepted c w .said) ≡ true
-  taken : isRefusal (accepted c w .said) ≡ false
+  answer : canAnswer c (notRefused c w .said) ≡ true
+  taken : isRefusal (notRefused c w .said) ≡ false
   refusal : (n : ℕ) → canAnswer c (refused n) ≡ true
-  number : step c w ≡ refusedOr (firstRefusal (checks c w)) (accepted c w) w
+  number : step c w ≡ refusedOr (firstRefusal (checks c w)) (notRefused c w) w
 
 -- a law of every call: all but showing have numbers
 each-call : (P : Call → Type 0) (w : World) → ((c : Call) → Numbered c w → P c) → ((side : ℕ) → P (show side)) → (c : Call) → P c
-unfolding accepted outcome said step
+unfolding notRefused outcome said step
 each-call P w p q (create m) = p (create m) (record { answer = refl; taken = refl; refusal = λ n. refl; number = refl })
 each-call P w p q reset = p reset (record { answer = refl; taken = refl; refusal = λ n. refl; number = refl })
 each-call P w p q (write n v) = p (write n v) (record { answer = refl; taken = refl; refusal = λ n. refl; number = refl })
@@ -138,7 +138,7 @@ module _ (c : Call) (w : World) (k : Numbered c w) where
       rw (k .number)
       (by-cond (λ (d : Did). canAnswer c (d .said) ≡ true) (eqb (firstRefusal (checks c w)) 0) _ _ (λ _. k .answer) (λ _. k .refusal (firstRefusal (checks c w))))
 
-  refuses-number : (n : ℕ) → Refuses (refusedOr n (accepted c w) w) n w
+  refuses-number : (n : ℕ) → Refuses (refusedOr n (notRefused c w) w) n w
   unfolding refusedOr
   refuses-number n =
       by-cond (λ (d : Did). Refuses d n w) (eqb n 0) _ _

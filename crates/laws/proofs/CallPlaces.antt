@@ -19,11 +19,11 @@ use Rattle.state.specs.declared.Out.the-variants as out
 use Rattle.state.specs.Sizes.{startState, RxFits, TxFits}
 use Rattle.state.specs.Status.{settled, breakState, keyState}
 use Rattle.state.proofs.Fits.{rx-fits, tx-fits}
-use Rattle.line.specs.HoldingOff.{isFlow, flowed, lostState, storedWith, storedState, lineState, lineBytes, setAfresh, afterWrite, nextOut, goneState}
+use Rattle.line.specs.HoldingOff.{isGoOrStop, flowed, lostState, storedWith, storedState, lineState, lineBytes, setAfresh, afterWrite, nextOut, goneState}
 use Rattle.line.proofs.Parts.{gone-some}
-use Rattle.loops.specs.LoopToLine.{leaves, busy, leftBytes}
-use Rattle.loops.specs.Frames.{frameTaken, deviceClear, leavesBytes, frameBytes}
-use Rattle.bridge.specs.Calls.{Call, create, reset, write, lineByte, lineBreak, key, nextLineByte, loopFrame, show, World, Did, world, outcome, settledBy, rxAfter, txAfter, accepted, refusedOr, checks, step}
+use Rattle.loops.specs.LoopToLine.{adds, busy, leftBytes}
+use Rattle.loops.specs.Frames.{frameTaken, deviceClear, addsBytes, frameBytes}
+use Rattle.bridge.specs.Calls.{Call, create, reset, write, lineByte, lineBreak, key, nextLineByte, loopFrame, show, World, Did, world, outcome, settledBy, rxAfter, txAfter, notRefused, refusedOr, checks, step}
 use Rattle.laws.specs.Answers.{isRefusal}
 use Rattle.laws.specs.Fitting.{Fits}
 use Rattle.laws.specs.Places.{nextPlace}
@@ -52,7 +52,7 @@ module _ (w : World) (e : Fits w) where
 
   line-rx : (b : ℕ) → Placed false (rxAdds (lineByte b) w) (w .rx) (w .state .rx) (lineBytes (w .state) (w .rx) b) (lineState (w .state) b .rx)
   unfolding lineBytes lineState flowed lostState storedWith putsBytes putsRing
-  line-rx b = go (isFlow (w .state .regs) b) (full (w .state .sizes .rx) (w .state .rx)) refl
+  line-rx b = go (isGoOrStop (w .state .regs) b) (full (w .state .sizes .rx) (w .state .rx)) refl
     where
       r : Ring
       r = w .state .rx
@@ -65,7 +65,7 @@ module _ (w : World) (e : Fits w) where
 
   line-tx : (b : ℕ) → lineState (w .state) b .tx ≡ w .state .tx
   unfolding lineState flowed lostState storedWith
-  line-tx b = by-cond T (isFlow (w .state .regs) b) _ _ (λ _. refl) (λ _. by-cond T (full (w .state .sizes .rx) (w .state .rx)) _ _ (λ _. refl) (λ _. refl))
+  line-tx b = by-cond T (isGoOrStop (w .state .regs) b) _ _ (λ _. refl) (λ _. by-cond T (full (w .state .sizes .rx) (w .state .rx)) _ _ (λ _. refl) (λ _. refl))
     where
       T : State → Type 0
       T t = t .tx ≡ w .state .tx
@@ -86,25 +86,25 @@ module _ (w : World) (e : Fits w) where
 
   -- ---- a frame
 
-  room : (n : ℕ) → isData n ≡ true → w .state .role .listener ≡ true → busy (w .state) n ≡ false → w .state .tx .len + length (leaves (w .state .regs) n) ≤ length (w .tx)
+  room : (n : ℕ) → isData n ≡ true → w .state .role .listener ≡ true → busy (w .state) n ≡ false → w .state .tx .len + length (adds (w .state .regs) n) ≤ length (w .tx)
   unfolding busy
   room n d l b =
-      let r : ltb (w .state .sizes .tx - w .state .tx .len) (length (leaves (w .state .regs) n)) ≡ false =
-      (λ i. (sym l i && sym d i) && ltb (w .state .sizes .tx - w .state .tx .len) (length (leaves (w .state .regs) n))) ∙ b in
-      omega (arith, ltb-false (w .state .sizes .tx - w .state .tx .len) (length (leaves (w .state .regs) n)) r, g .size, g .ring .len)
+      let r : ltb (w .state .sizes .tx - w .state .tx .len) (length (adds (w .state .regs) n)) ≡ false =
+      (λ i. (sym l i && sym d i) && ltb (w .state .sizes .tx - w .state .tx .len) (length (adds (w .state .regs) n))) ∙ b in
+      omega (arith, ltb-false (w .state .sizes .tx - w .state .tx .len) (length (adds (w .state .regs) n)) r, g .size, g .ring .len)
 
   -- by whether the frame is a device clear, and whether it leaves bytes
   abbrev Framed : ℕ → State → Bool → Bool → Type 0
-  Framed n t c l = BothPlaced c [] (cond l (leaves (w .state .regs) n) []) w (world (cond c t (settled (w .state) t)) (w .rx) (cond l (leftBytes (w .state) (w .tx) n) (w .tx)))
+  Framed n t c l = BothPlaced c [] (cond l (adds (w .state .regs) n) []) w (world (cond c t (settled (w .state) t)) (w .rx) (cond l (leftBytes (w .state) (w .tx) n) (w .tx)))
 
-  by-kind : (n : ℕ) (t : State) → busy (w .state) n ≡ false → Kind (length (w .rx)) (w .state) n t → Framed n t (deviceClear (w .state) n) (leavesBytes (w .state) n)
+  by-kind : (n : ℕ) (t : State) → busy (w .state) n ≡ false → Kind (length (w .rx)) (w .state) n t → Framed n t (deviceClear (w .state) n) (addsBytes (w .state) n)
   unfolding settled leftBytes
   by-kind n t b (clears c l x y) = rw (c, l) (record { rx = emptied (w .rx) (w .state .rx) (t .rx) x; tx = emptied (w .tx) (w .state .tx) (t .tx) y })
   by-kind n t b (stores c l d h x y) =
       rw (c, l)
       (record {
         rx = stays-same (w .rx) (w .state .rx) (t .rx) x;
-        tx = rw y (added (w .tx) (w .state .tx) (leaves (w .state .regs) n) (w .state .sizes .tx) (g .ring) (g .size) (room n d h b));
+        tx = rw y (added (w .tx) (w .state .tx) (adds (w .state .regs) n) (w .state .sizes .tx) (g .ring) (g .size) (room n d h b));
       })
   by-kind n t b (other c l s) =
       rw (c, l) (record { rx = stays (w .rx) (w .state .rx) (t .rx) (s .place); tx = stays-same (w .tx) (w .state .tx) (t .tx) (s .ring) })
@@ -115,8 +115,8 @@ module _ (w : World) (e : Fits w) where
 abbrev Places : Call → World → World → Type 0
 Places c w v = BothPlaced (empties c w) (rxAdds c w) (txAdds c w) w v
 
-by-refusal : (c : Call) (w : World) → (firstRefusal (checks c w) ≡ 0 → Places c w (accepted c w .world)) →
-    isRefusal (refusedOr (firstRefusal (checks c w)) (accepted c w) w .said) ≡ false → Places c w (refusedOr (firstRefusal (checks c w)) (accepted c w) w .world)
+by-refusal : (c : Call) (w : World) → (firstRefusal (checks c w) ≡ 0 → Places c w (notRefused c w .world)) →
+    isRefusal (refusedOr (firstRefusal (checks c w)) (notRefused c w) w .said) ≡ false → Places c w (refusedOr (firstRefusal (checks c w)) (notRefused c w) w .world)
 unfolding refusedOr
 by-refusal c w p =
     by-cond (λ (d : Did). isRefusal (d .said) ≡ false → Places c w (d .world)) (eqb (firstRefusal (checks c w)) 0) _ _
@@ -130,8 +130,8 @@ quiet w t a b = record { rx = stays-same (w .rx) (w .state .rx) (t .rx) a; tx = 
 empty : (w : World) (t : State) → t .rx ≡ emptyRing → t .tx ≡ emptyRing → BothPlaced true [] [] w (world t (w .rx) (w .tx))
 empty w t a b = record { rx = emptied (w .rx) (w .state .rx) (t .rx) a; tx = emptied (w .tx) (w .state .tx) (t .tx) b }
 
-accepted-place : (c : Call) (w : World) → firstRefusal (checks c w) ≡ 0 → Places c w (accepted c w .world)
-unfolding accepted checks outcome settledBy settled rxAfter txAfter startState breakState keyState afterWrite setAfresh frameBytes
+accepted-place : (c : Call) (w : World) → firstRefusal (checks c w) ≡ 0 → Places c w (notRefused c w .world)
+unfolding notRefused checks outcome settledBy settled rxAfter txAfter startState breakState keyState afterWrite setAfresh frameBytes
 accepted-place (create m) w h = empty w _ refl refl
 accepted-place reset w h = empty w _ refl refl
 accepted-place (write n v) w h =

@@ -12,11 +12,11 @@ use Rattle.store.specs.Ring.{fitTest}
 use Rattle.state.specs.Answers.{said}
 use Rattle.state.specs.Sizes.{sizesObeyed, startState, fits}
 use Rattle.state.specs.Status.{conditions, enabledBy, asking, settled, shows, serviced}
-use Rattle.loops.specs.LoopToLine.{leaves, busy}
+use Rattle.loops.specs.LoopToLine.{adds, busy}
 use Rattle.loops.specs.Sending.{ruleOf}
-use Rattle.loops.specs.Frames.{readied, ready, frameTaken, deviceClear, frameBytes, leavesBytes}
-use Rattle.bridge.specs.Calls.{checks, outcome, settledBy, rxAfter, txAfter, accepted, refusedOr, step}
+use Rattle.loops.specs.Frames.{readied, ready, frameTaken, deviceClear, frameBytes, addsBytes}
+use Rattle.bridge.specs.Calls.{checks, outcome, settledBy, rxAfter, txAfter, notRefused, refusedOr, step}
 
 pub examples : AllAsThePaperSays
-unfolding given table inCuts byCuts cut ruleOf written registers-table.table registers-table.rowIn registers-table.carriedOf registers-table.startOf registers-table.startRegisters tooLarge bitNotCarried inRange values allInRange registersFit readyOf fitTest said sizesObeyed startState fits conditions enabledBy asking settled shows serviced leaves busy readied ready frameTaken deviceClear frameBytes leavesBytes checks outcome settledBy rxAfter txAfter accepted refusedOr step
+unfolding given table inCuts byCuts cut ruleOf written registers-table.table registers-table.rowIn registers-table.carriedOf registers-table.startOf registers-table.startRegisters tooLarge bitNotCarried inRange values allInRange registersFit readyOf fitTest said sizesObeyed startState fits conditions enabledBy asking settled shows serviced adds busy readied ready frameTaken deviceClear frameBytes addsBytes checks outcome settledBy rxAfter txAfter notRefused refusedOr step
 examples = refl

@@ -35,12 +35,12 @@ use Rattle.state.specs.State.{withRegisters, withRx, withTx}
 use Rattle.state.specs.Sizes.{sizesObeyed, startState, fits}
 use Rattle.state.specs.Status.{settled, conditions, shows, statusOf, statusSent, statusBack, breakState, keyState}
 use Rattle.state.proofs.Fits.{Tests, tests, rx-fits, tx-fits}
-use Rattle.line.specs.HoldingOff.{isFlow, flowed, storedWith, storedState, lostState, lineState, lineBytes, resumed, setAfresh, afterWrite, nextOut, goneState}
+use Rattle.line.specs.HoldingOff.{isGoOrStop, flowed, storedWith, storedState, lostState, lineState, lineBytes, resumed, setAfresh, afterWrite, nextOut, goneState}
 use Rattle.line.proofs.Parts.{gone-some}
-use Rattle.loops.specs.LoopToLine.{leaves, leftState, leftBytes}
+use Rattle.loops.specs.LoopToLine.{adds, leftState, leftBytes}
 use Rattle.loops.specs.Sending.{ruleOf, talking, ended, removedState, sendState, sendFrom, sendStatus}
-use Rattle.loops.specs.Frames.{isClear, orderIn, cleared, obeyed, commandState, command, finishing, readied, ready, returned, dataPassed, identify, frameTaken, deviceClear, leavesBytes, frameBytes}
-use Rattle.bridge.specs.Calls.{Call, create, reset, write, lineByte, lineBreak, key, nextLineByte, loopFrame, show, World, Did, world, outcome, settledBy, rxAfter, txAfter, accepted, refusedOr, checks, step}
+use Rattle.loops.specs.Frames.{isClear, orderIn, cleared, obeyed, commandState, command, finishing, readied, ready, returned, dataPassed, identify, frameTaken, deviceClear, addsBytes, frameBytes}
+use Rattle.bridge.specs.Calls.{Call, create, reset, write, lineByte, lineBreak, key, nextLineByte, loopFrame, show, World, Did, world, outcome, settledBy, rxAfter, txAfter, notRefused, refusedOr, checks, step}
 use Rattle.laws.specs.Fitting.{AllBytes, ByteCall, Fits, SameStores, CallsKeepFit, CreateMakesFit, CallsKeepStores, CallsKeepBytes}
 use Rattle.laws.proofs.Small.{put-bytes, given-small, status-small}
 use Rattle.laws.proofs.States.{tested, start-fits, with-registers, with-rx, with-tx, with-under, talking-tests, obeyed-tests, cleared-tests, assigned-tests}
@@ -49,11 +49,11 @@ use Rattle.laws.proofs.States.{tested, start-fits, with-registers, with
 
 line-size : (s : State) (rx : List ℕ) (b : ℕ) → length (lineBytes s rx b) ≡ length rx
 unfolding lineBytes
-line-size s rx b = by-cond (λ (x : List ℕ). length x ≡ length rx) (isFlow (s .regs) b) rx _ (λ _. refl) (λ _. store-laws.put-size rx (s .rx) b)
+line-size s rx b = by-cond (λ (x : List ℕ). length x ≡ length rx) (isGoOrStop (s .regs) b) rx _ (λ _. refl) (λ _. store-laws.put-size rx (s .rx) b)
 
 frame-size : (s : State) (tx : List ℕ) (f : ℕ) → length (frameBytes s tx f) ≡ length tx
 unfolding frameBytes leftBytes
-frame-size s tx f = by-cond (λ (x : List ℕ). length x ≡ length tx) (leavesBytes s f) _ tx (λ _. puts-size tx (s .tx) (leaves (s .regs) f)) (λ _. refl)
+frame-size s tx f = by-cond (λ (x : List ℕ). length x ≡ length tx) (addsBytes s f) _ tx (λ _. puts-size tx (s .tx) (adds (s .regs) f)) (λ _. refl)
 
 rx-size : (c : Call) (w : World) → length (rxAfter c w) ≡ length (w .rx)
 unfolding rxAfter
@@ -116,7 +116,7 @@ module _ (rx tx : List ℕ) where
     line-good : (x : ℕ) → Good rx tx (lineState s x)
     unfolding lineState
     line-good x =
-        by-cond (Good rx tx) (isFlow (s .regs) x) _ _ (λ _. unfold fits flowed in e)
+        by-cond (Good rx tx) (isGoOrStop (s .regs) x) _ _ (λ _. unfold fits flowed in e)
         (λ _. by-cond (Good rx tx) (store-ring.full (s .sizes .rx) (s .rx)) _ _ (λ _. unfold fits lostState in e) (λ _. stored-good))
 
     write-good : (n v : ℕ) → firstRefusal (writeChecks (s .regs) n v) ≡ 0 → Good rx tx (afterWrite s n (written (s .regs) n v))
@@ -140,12 +140,12 @@ module _ (rx tx : List ℕ) where
     left-good : (f : ℕ) → Good rx tx (leftState s f)
     unfolding leftState
     left-good f =
-        fits-with-tx (store-ring.putsRing (s .sizes .tx) (s .tx) (leaves (s .regs) f))
-        (subst (λ (n : ℕ). store-ring.Fit tx (store-ring.putsRing n (s .tx) (leaves (s .regs) f))) (sym (t .txSize)) puts-ring)
+        fits-with-tx (store-ring.putsRing (s .sizes .tx) (s .tx) (adds (s .regs) f))
+        (subst (λ (n : ℕ). store-ring.Fit tx (store-ring.putsRing n (s .tx) (adds (s .regs) f))) (sym (t .txSize)) puts-ring)
       where
-        puts-ring : store-ring.Fit tx (store-ring.putsRing (length tx) (s .tx) (leaves (s .regs) f))
+        puts-ring : store-ring.Fit tx (store-ring.putsRing (length tx) (s .tx) (adds (s .regs) f))
         puts-ring =
-            let l : List ℕ = leaves (s .regs) f in
+            let l : List ℕ = adds (s .regs) f in
             let h : store-ring.Fit (store-ring.putsBytes tx (s .tx) l) (store-ring.putsRing (length tx) (s .tx) l) = puts-fit tx (s .tx) l (tx-fits s rx tx e .ring) in
             let n : length (store-ring.putsBytes tx (s .tx) l) ≡ length tx = puts-size tx (s .tx) l in
             record { oldest = omega (arith, n, h .oldest); len = omega (arith, n, h .len); small = omega (arith, n, h .small) }
@@ -246,13 +246,13 @@ module _ (rx tx : List ℕ) where
 -- ---- every call
 
 -- the world of a call that is not refused, by its state
-by-state : (c : Call) (w : World) → Good (w .rx) (w .tx) (settledBy c (w .state) (outcome c w .state)) → Fits (accepted c w .world)
-unfolding accepted
+by-state : (c : Call) (w : World) → Good (w .rx) (w .tx) (settledBy c (w .state) (outcome c w .state)) → Fits (notRefused c w .world)
+unfolding notRefused
 by-state c w e = rw (rx-size c w, tx-size c w) e
 
 -- a call is refused and leaves the world, or is accepted
 by-refusal : (c : Call) (w : World) → Fits w → (firstRefusal (checks c w) ≡ 0 → Good (w .rx) (w .tx) (settledBy c (w .state) (outcome c w .state))) →
-    Fits (refusedOr (firstRefusal (checks c w)) (accepted c w) w .world)
+    Fits (refusedOr (firstRefusal (checks c w)) (notRefused c w) w .world)
 unfolding refusedOr
 by-refusal c w e f =
     by-cond (λ (d : Did). Fits (d .world)) (eqb (firstRefusal (checks c w)) 0) _ _
@@ -304,11 +304,11 @@ unfolding step refusedOr
 create-makes-fit m w = go (firstRefusal (checks (create m) w)) refl
   where
     go : (n : ℕ) → firstRefusal (checks (create m) w) ≡ n →
-        cond (eqb n 0) (accepted (create m) w) (record { said = refused n; world = w }) .said ≡ done → Fits (cond (eqb n 0) (accepted (create m) w) (record { said = refused n; world = w }) .world)
+        cond (eqb n 0) (notRefused (create m) w) (record { said = refused n; world = w }) .said ≡ done → Fits (cond (eqb n 0) (notRefused (create m) w) (record { said = refused n; world = w }) .world)
     go n h = by-cond (λ (d : Did). d .said ≡ done → Fits (d .world)) (eqb n 0) _ _ (λ z _. by-state (create m) w (create-good m w (h ∙ eqb-true n 0 z))) (λ _ z. let y : _≡_ {A = ℕ} 0 1 = cc in absurd (omega arith))
 
-kept : (c : Call) (w : World) → SameStores w (refusedOr (firstRefusal (checks c w)) (accepted c w) w .world)
-unfolding refusedOr accepted
+kept : (c : Call) (w : World) → SameStores w (refusedOr (firstRefusal (checks c w)) (notRefused c w) w .world)
+unfolding refusedOr notRefused
 kept c w =
     by-cond (λ (d : Did). SameStores w (d .world)) (eqb (firstRefusal (checks c w)) 0) _ _
     (λ _. record { rx = rx-size c w; tx = tx-size c w })
@@ -330,7 +330,7 @@ calls-keep-stores (loopFrame f) w = kept (loopFrame f) w
 
 line-bytes : (s : State) (rx : List ℕ) (b : ℕ) → b < 256 → AllBytes rx → AllBytes (lineBytes s rx b)
 unfolding lineBytes
-line-bytes s rx b h k = by-cond AllBytes (isFlow (s .regs) b) _ _ (λ _. k) (λ _. put-bytes rx (s .rx) b h k)
+line-bytes s rx b h k = by-cond AllBytes (isGoOrStop (s .regs) b) _ _ (λ _. k) (λ _. put-bytes rx (s .rx) b h k)
 
 rx-bytes : (c : Call) (w : World) → ByteCall c → AllBytes (w .rx) → AllBytes (rxAfter c w)
 unfolding rxAfter
@@ -344,8 +344,8 @@ rx-bytes nextLineByte w h k = k
 rx-bytes (loopFrame f) w h k = k
 rx-bytes (show side) w h k = k
 
-kept-bytes : (c : Call) (w : World) → ByteCall c → AllBytes (w .rx) → AllBytes (refusedOr (firstRefusal (checks c w)) (accepted c w) w .world .rx)
-unfolding refusedOr accepted
+kept-bytes : (c : Call) (w : World) → ByteCall c → AllBytes (w .rx) → AllBytes (refusedOr (firstRefusal (checks c w)) (notRefused c w) w .world .rx)
+unfolding refusedOr notRefused
 kept-bytes c w h k = by-cond (λ (d : Did). AllBytes (d .world .rx)) (eqb (firstRefusal (checks c w)) 0) _ _ (λ _. rx-bytes c w h k) (λ _. k)
 
 pub calls-keep-bytes : CallsKeepBytes

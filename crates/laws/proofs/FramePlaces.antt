@@ -22,9 +22,9 @@ use Rattle.state.specs.declared.State.{State}
 use Rattle.state.specs.declared.Outcome.{Outcome}
 use Rattle.state.specs.Status.{statusSent, statusBack}
 use Rattle.line.specs.HoldingOff.{resumed}
-use Rattle.loops.specs.LoopToLine.{leaves, leftState}
+use Rattle.loops.specs.LoopToLine.{adds, leftState}
 use Rattle.loops.specs.Sending.{ruleOf, talking, ended, removedState, sendState, sendFrom, sendStatus}
-use Rattle.loops.specs.Frames.{isClear, orderIn, cleared, obeyed, commandState, command, finishing, readied, ready, returned, dataPassed, identify, frameTaken, deviceClear, leavesBytes}
+use Rattle.loops.specs.Frames.{isClear, orderIn, cleared, obeyed, commandState, command, finishing, readied, ready, returned, dataPassed, identify, frameTaken, deviceClear, addsBytes}
 use Rattle.laws.specs.Places.{nextPlace}
 use Rattle.laws.proofs.OneStore.{left}
 
@@ -35,10 +35,10 @@ pub record Still (n : ℕ) (s t : State) : Type 0 where
 
 -- the three kinds of a frame f in the state s, with the state after it; n is the length of the receive store
 pub data Kind (n : ℕ) (s : State) (f : ℕ) (t : State) : Type 0 where
-  clears : deviceClear s f ≡ true → leavesBytes s f ≡ false → t .rx ≡ emptyRing → t .tx ≡ emptyRing → Kind n s f t
-  stores : deviceClear s f ≡ false → leavesBytes s f ≡ true → isData f ≡ true → s .role .listener ≡ true →
-      t .rx ≡ s .rx → t .tx ≡ putsRing (s .sizes .tx) (s .tx) (leaves (s .regs) f) → Kind n s f t
-  other : deviceClear s f ≡ false → leavesBytes s f ≡ false → Still n s t → Kind n s f t
+  clears : deviceClear s f ≡ true → addsBytes s f ≡ false → t .rx ≡ emptyRing → t .tx ≡ emptyRing → Kind n s f t
+  stores : deviceClear s f ≡ false → addsBytes s f ≡ true → isData f ≡ true → s .role .listener ≡ true →
+      t .rx ≡ s .rx → t .tx ≡ putsRing (s .sizes .tx) (s .tx) (adds (s .regs) f) → Kind n s f t
+  other : deviceClear s f ≡ false → addsBytes s f ≡ false → Still n s t → Kind n s f t
 
 module _ (rx : List ℕ) (s : State) (fit : Fit rx (s .rx)) where
   abbrev S : Outcome → Type 0
@@ -88,7 +88,7 @@ module _ (rx : List ℕ) (s : State) (fit : Fit rx (s .rx)) where
   no-clear f e = rw (ne-eqb (controlOf f) 4 (λ h. omega (arith, ltb-true (controlOf f) 4 e)))
 
   command-kind : (f : ℕ) → isData f ≡ false → eqb (controlOf f) 4 ≡ true → Kind (length rx) s f (command s f .state)
-  unfolding command commandState deviceClear leavesBytes
+  unfolding command commandState deviceClear addsBytes
   command-kind f d e = go (isClear (orderIn s f)) refl
     where
       o : Order
@@ -99,7 +99,7 @@ module _ (rx : List ℕ) (s : State) (fit : Fit rx (s .rx)) where
       go false h = unfold obeyed in other (rw (e, h)) (rw d) (record { place = rw h; ring = rw h })
 
   passed-kind : (f : ℕ) → isData f ≡ true → isActive (s .role) ≡ false → Kind (length rx) s f (dataPassed s f .state)
-  unfolding dataPassed leavesBytes leftState
+  unfolding dataPassed addsBytes leftState
   passed-kind f d a = go (s .role .listener) refl
     where
       go : (t : Bool) → s .role .listener ≡ t → Kind (length rx) s f (cond t (leftState s f) s)
@@ -107,7 +107,7 @@ module _ (rx : List ℕ) (s : State) (fit : Fit rx (s .rx)) where
       go false h = other (no-clear f d) (rw (d, a, h)) (record { place = refl; ring = refl })
 
   pub frame-kind : (f : ℕ) → Kind (length rx) s f (frameTaken s rx f .state)
-  unfolding frameTaken ready identify leavesBytes deviceClear
+  unfolding frameTaken ready identify addsBytes deviceClear
   frame-kind f =
       by-cond K (isData f) _ _
       (λ d. by-cond K (isActive (s .role)) _ _ (λ a. other (no-clear f d) (rw (d, a)) (returned-still f)) (λ a. passed-kind f d a))

@@ -28,7 +28,7 @@ use Rattle.state.specs.Status.{conditions, enabledBy, asking, settled}
 use Rattle.state.proofs.Fits.{Tests, tests, rx-fits}
 use Rattle.line.specs.HoldingOff.{resumed}
 use Rattle.loops.specs.Sending.{ruleOf, talking, ended, removedState, sendState, sendFrom}
-use Rattle.bridge.specs.Calls.{World, reset, outcome, settledBy, checks, accepted, refusedOr, step}
+use Rattle.bridge.specs.Calls.{World, reset, outcome, settledBy, checks, notRefused, refusedOr, step}
 use Rattle.laws.specs.Resuming.{EmptySendResumes, ResetGivesStart, RefusedCreateFitsNothing}
 
 -- ---- two bytes at most are undecided
@@ -129,7 +129,7 @@ empty-send-resumes s rx tx e h =
 -- ---- create and reset
 
 pub reset-gives-start : ResetGivesStart
-unfolding step refusedOr checks accepted outcome settledBy
+unfolding step refusedOr checks notRefused outcome settledBy
 reset-gives-start w e = rw e started
   where
     started : settled (w .state) (startState (w .state .sizes .margin) (length (w .rx)) (length (w .tx))) ≡ startState (w .state .sizes .margin) (length (w .rx)) (length (w .tx))

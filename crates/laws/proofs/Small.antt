@@ -90,7 +90,7 @@ pub status-small : (c : Conditions) (q : Bool) → statusByte c q < 256
 unfolding statusByte
 status-small c q =
     omega
-    (arith, most (c .txempty) 1, most (c .txroom) 2, most (c .rxsome) 4, most (c .rxfull) 8, most (c .brk) 16, most (c .overrun) 32, most q 64, most (c .key) 128)
+    (arith, most (c .txempty) 1, most (c .txnotfull) 2, most (c .rxnotempty) 4, most (c .rxfull) 8, most (c .brk) 16, most (c .overrun) 32, most q 64, most (c .key) 128)
   where
     most : (t : Bool) (v : ℕ) → cond t v 0 ≤ v
     most true v = omega arith

@@ -7,9 +7,9 @@ use mathlib.Core.List.{List, [], _∷_}
 use lib.ListN.{length, set}
 use Rattle.store.specs.declared.Ring.{Ring}
 use Rattle.store.specs.Ring.{full, wrap}
-use Rattle.line.specs.HoldingOff.{isFlow}
-use Rattle.loops.specs.LoopToLine.{leaves}
-use Rattle.loops.specs.Frames.{deviceClear, leavesBytes}
+use Rattle.line.specs.HoldingOff.{isGoOrStop}
+use Rattle.loops.specs.LoopToLine.{adds}
+use Rattle.loops.specs.Frames.{deviceClear, addsBytes}
 use Rattle.bridge.specs.Calls.{Call, create, reset, write, lineByte, lineBreak, key, nextLineByte, loopFrame, show, World, step}
 use Rattle.laws.specs.Answers.{isRefusal}
 use Rattle.laws.specs.Places.{nextPlace}
@@ -28,7 +28,7 @@ empties (show side) w = false
 
 -- the bytes that a call adds to the receive store: a line byte that is no go or stop, where there is room
 abbrev pub rxAdds : Call → World → List ℕ
-rxAdds (lineByte b) w = cond (isFlow (w .state .regs) b) [] (cond (full (w .state .sizes .rx) (w .state .rx)) [] (b ∷ []))
+rxAdds (lineByte b) w = cond (isGoOrStop (w .state .regs) b) [] (cond (full (w .state .sizes .rx) (w .state .rx)) [] (b ∷ []))
 rxAdds (create m) w = []
 rxAdds reset w = []
 rxAdds (write n v) w = []
@@ -40,7 +40,7 @@ rxAdds (show side) w = []
 
 -- and to the transmit store: what a data frame leaves there
 abbrev pub txAdds : Call → World → List ℕ
-txAdds (loopFrame f) w = cond (leavesBytes (w .state) f) (leaves (w .state .regs) f) []
+txAdds (loopFrame f) w = cond (addsBytes (w .state) f) (adds (w .state .regs) f) []
 txAdds (create m) w = []
 txAdds reset w = []
 txAdds (write n v) w = []

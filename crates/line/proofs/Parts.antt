@@ -21,16 +21,16 @@ use Rattle.state.specs.declared.Answer.the-variants as answer
 use Rattle.state.specs.State.{withRegisters, withLine, withRx, withTx, withNotes, withCounts}
 use Rattle.state.specs.Counts.{counted}
 use Rattle.state.specs.Sizes.{RxFits}
-use Rattle.line.specs.HoldingOff.{isFlow, flowed, free, storedWith, lostState, lineState, lineBytes, Taken, setAfresh, afterWrite, owed, nextOut, goneState, outAnswer}
+use Rattle.line.specs.HoldingOff.{isGoOrStop, flowed, free, storedWith, lostState, lineState, lineBytes, Taken, setAfresh, afterWrite, owed, nextOut, goneState, outAnswer}
 
 -- ---- a line byte
 
 module _ (s : State) (rx : List ℕ) (b : ℕ) where
-  pub taken-flow : (t : State) → isFlow (s .regs) b ≡ true → t ≡ flowed s b → Taken s rx b rx t
+  pub taken-flow : (t : State) → isGoOrStop (s .regs) b ≡ true → t ≡ flowed s b → Taken s rx b rx t
   unfolding lineState lineBytes
   taken-flow t e q = record { state = rw (q, e); bytes = rw e; size = refl }
 
-  module _ (rx′ : List ℕ) (o : Offered) (size : s .sizes .rx ≡ length rx) (e : isFlow (s .regs) b ≡ false) (p : Put rx (s .rx) b rx′ o) where
+  module _ (rx′ : List ℕ) (o : Offered) (size : s .sizes .rx ≡ length rx) (e : isGoOrStop (s .regs) b ≡ false) (p : Put rx (s .rx) b rx′ o) where
     put-written : rx′ ≡ lineBytes s rx b
     unfolding lineBytes
     put-written = rw e (p .bytes)
@@ -122,8 +122,8 @@ module _ (s : State) (o : Out) where
 
 -- ---- the smaller parts
 
-pub flow-met : (g : Registers) (b : ℕ) (on : Bool) → on ≡ protocolOn g → (on && (eqb b (g .c04) || eqb b (g .c05))) ≡ isFlow g b
-unfolding isFlow
+pub flow-met : (g : Registers) (b : ℕ) (on : Bool) → on ≡ protocolOn g → (on && (eqb b (g .c04) || eqb b (g .c05))) ≡ isGoOrStop g b
+unfolding isGoOrStop
 flow-met g b on p = rw p
 
 pub stored-met : (s : State) (r : Ring) (n : ℕ) (near on : Bool) → n ≡ counted (s .counts .stored) →

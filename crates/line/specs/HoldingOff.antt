@@ -21,8 +21,8 @@ use Rattle.state.specs.Counts.{storedMore, lostMore}
 -- ---- line bytes in
 
 -- "With R11 bit 3 on, a line byte equal to go or stop is never stored"
-unfoldable pub isFlow : Registers → ℕ → Bool
-isFlow g b = protocolOn g && (eqb b (go g) || eqb b (stop g))
+unfoldable pub isGoOrStop : Registers → ℕ → Bool
+isGoOrStop g b = protocolOn g && (eqb b (go g) || eqb b (stop g))
 
 -- "it permits or forbids our sending"
 unfoldable pub flowed : State → ℕ → State
@@ -59,10 +59,10 @@ lostState s =
 
 -- the state after a line byte, and the receive store's bytes
 unfoldable pub lineState : State → ℕ → State
-lineState s b = cond (isFlow (s .regs) b) (flowed s b) (cond (full (s .sizes .rx) (s .rx)) (lostState s) (storedState s))
+lineState s b = cond (isGoOrStop (s .regs) b) (flowed s b) (cond (full (s .sizes .rx) (s .rx)) (lostState s) (storedState s))
 
 unfoldable pub lineBytes : State → List ℕ → ℕ → List ℕ
-lineBytes s rx b = cond (isFlow (s .regs) b) rx (putBytes rx (s .rx) b)
+lineBytes s rx b = cond (isGoOrStop (s .regs) b) rx (putBytes rx (s .rx) b)
 
 -- the state and the receive store after a line byte
 pub record Taken (s : State) (rx : List ℕ) (b : ℕ) (rx′ : List ℕ) (t : State) : Type 0 where

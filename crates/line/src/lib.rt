@@ -3,7 +3,7 @@ ghost use mathlib.Core.Path.{_≡_};
 ghost use Prim.Native.Nat.{_≤_};
 ghost use lib.Dec.{leb};
 ghost use Rattle.state.specs.Sizes.{RxFits, TxFits};
-ghost use Rattle.line.specs.HoldingOff.{isFlow, flowed, free, storedWith, lostState, Taken, resumed, afterWrite, nextOut, goneState, outAnswer};
+ghost use Rattle.line.specs.HoldingOff.{isGoOrStop, flowed, free, storedWith, lostState, Taken, resumed, afterWrite, nextOut, goneState, outAnswer};
 use registers::Registers;
 use state::Answer;
 use state::Out;
@@ -11,8 +11,8 @@ use state::State;
 use store::Ring;
 
 // Whether a line byte is go or stop with the receiver protocol on.
-fn is_flow(g: Registers, b: u8) -> bool
-    ensures { λ r. ⌜ r ≡ isFlow g b ⌝ }
+fn is_go_or_stop(g: Registers, b: u8) -> bool
+    ensures { λ r. ⌜ r ≡ isGoOrStop g b ⌝ }
 {
     registers::protocol_on(g) & ((b == g.c04) | (b == g.c05))
 }
@@ -67,7 +67,7 @@ pub fn taken(s: State, rx: &mut [u8], b: u8) -> State
     requires { ⌜ RxFits s (now rx) ⌝ }
     ensures { λ r. ⌜ Taken s (now (rx .entry)) b (now (rx .exit)) r ⌝ }
 {
-    if is_flow(s.regs, b) {
+    if is_go_or_stop(s.regs, b) {
         return permitted(s, b);
     }
     let o = store::put(rx, s.rx, b);

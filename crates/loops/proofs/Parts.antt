@@ -33,7 +33,7 @@ use Rattle.state.specs.declared.Outcome.{Outcome}
 use Rattle.state.specs.declared.Answer.the-variants.{Frame}
 use Rattle.state.specs.State.{withRole, withUnder, withRx, withTx, withLine, withCounts, noFrame, noEvents, notesWith}
 use Rattle.state.specs.Counts.{counted}
-use Rattle.loops.specs.LoopToLine.{leaves, busy}
+use Rattle.loops.specs.LoopToLine.{adds, busy}
 use Rattle.line.specs.HoldingOff.{resumed}
 use Rattle.state.specs.Status.{settled, serviced, statusOf, statusSent, statusBack}
 use Rattle.loops.specs.Sending.{talking, ended, ruleOf, removedState, sendState, sendFrom, sendStatus}
@@ -42,12 +42,12 @@ use Rattle.loops.specs.Frames.{isClear, orderIn, forgotten, cleared, obe
 -- ---- what a frame adds
 
 module _ (g : Registers) (f : ℕ) (a b : Bool) (p : a ≡ isEnd f) (q : b ≡ endInserted g) where
-  pub adds-three : (a && b) ≡ true → leaves g f ≡ dataOf f ∷ g .c02 ∷ g .c03 ∷ []
-  unfolding leaves
+  pub adds-three : (a && b) ≡ true → adds g f ≡ dataOf f ∷ g .c02 ∷ g .c03 ∷ []
+  unfolding adds
   adds-three e = rw (← p, ← q, e)
 
-  pub adds-one : (a && b) ≡ false → leaves g f ≡ dataOf f ∷ []
-  unfolding leaves
+  pub adds-one : (a && b) ≡ false → adds g f ≡ dataOf f ∷ []
+  unfolding adds
   adds-one e = rw (← p, ← q, e)
 
 -- ---- commands
@@ -140,7 +140,7 @@ module _ (s : State) (rx : List ℕ) (f : ℕ) (o : Outcome) where
 
 -- ---- the smaller parts
 
-pub busy-met : (s : State) (f n : ℕ) (d : Bool) → d ≡ isData f → n ≡ length (leaves (s .regs) f) → ((s .role .listener && d) && ltb (s .sizes .tx - s .tx .len) n) ≡ busy s f
+pub busy-met : (s : State) (f n : ℕ) (d : Bool) → d ≡ isData f → n ≡ length (adds (s .regs) f) → ((s .role .listener && d) && ltb (s .sizes .tx - s .tx .len) n) ≡ busy s f
 unfolding busy
 busy-met s f n d p q = rw (p, q)
 

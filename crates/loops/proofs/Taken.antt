@@ -16,12 +16,12 @@ use Rattle.state.specs.declared.State.{State}
 use Rattle.state.specs.declared.Outcome.{Outcome}
 use Rattle.state.specs.declared.Answer.the-variants.{Frame}
 use Rattle.state.specs.State.{withTx}
-use Rattle.loops.specs.LoopToLine.{leaves, leftState, leftBytes, Left}
+use Rattle.loops.specs.LoopToLine.{adds, leftState, leftBytes, Left}
 use Rattle.state.specs.Status.{settled, serviced}
-use Rattle.loops.specs.Frames.{isClear, orderIn, cleared, obeyed, commandState, command, commandSettled, ready, returned, dataPassed, Passed, identify, outcomeSettled, frameTaken, passed, deviceClear, frameSettled, leavesBytes, frameBytes, Framed}
+use Rattle.loops.specs.Frames.{isClear, orderIn, cleared, obeyed, commandState, command, commandSettled, ready, returned, dataPassed, Passed, identify, outcomeSettled, frameTaken, passed, deviceClear, frameSettled, addsBytes, frameBytes, Framed}
 
 -- the transmit store with what a frame adds
-pub left-met : (s : State) (tx : List ℕ) (f : ℕ) (tx′ : List ℕ) (o : Ring) (l : List ℕ) → s .sizes .tx ≡ length tx → leaves (s .regs) f ≡ l → Puts tx (s .tx) l tx′ o → Left s tx f tx′ (withTx s o)
+pub left-met : (s : State) (tx : List ℕ) (f : ℕ) (tx′ : List ℕ) (o : Ring) (l : List ℕ) → s .sizes .tx ≡ length tx → adds (s .regs) f ≡ l → Puts tx (s .tx) l tx′ o → Left s tx f tx′ (withTx s o)
 unfolding leftState leftBytes
 left-met s tx f tx′ o l size e p =
     record {
@@ -57,20 +57,20 @@ module _ (s : State) (rx tx : List ℕ) (f : ℕ) (o : Outcome) where
   no-command e = ne-eqb (controlOf f) 4 (λ h. omega (arith, ltb-true (controlOf f) 4 e))
 
   pub taken-back : (p : Outcome) → isData f ≡ true → 2 ≤ s .role .talker → p ≡ returned s rx f → o ≡ outcomeSettled s p → Framed s rx tx f tx o
-  unfolding frameSettled frameTaken deviceClear frameBytes leavesBytes
+  unfolding frameSettled frameTaken deviceClear frameBytes addsBytes
   taken-back p e h a b =
       let r = le-leb 2 (s .role .talker) h in
       record { outcome = rw (b, a, e, no-command e, r); bytes = rw (e, r); size = refl }
 
   pub taken-passed : (p : Outcome) (tx′ : List ℕ) → isData f ≡ true → s .role .talker < 2 → Passed s tx f tx′ p → o ≡ outcomeSettled s p → Framed s rx tx f tx′ o
-  unfolding frameSettled frameTaken deviceClear frameBytes leavesBytes
+  unfolding frameSettled frameTaken deviceClear frameBytes addsBytes
   taken-passed p tx′ e h a b =
       let r = lt-leb 2 (s .role .talker) h in
       record { outcome = rw (b, a .outcome, e, no-command e, r); bytes = rw (e, r) (a .bytes); size = a .size }
 
   module _ (e : isData f ≡ false) where
     pub taken-command : controlOf f ≡ 4 → o ≡ commandSettled s f → Framed s rx tx f tx o
-    unfolding frameSettled frameTaken deviceClear frameBytes leavesBytes command commandSettled commandState
+    unfolding frameSettled frameTaken deviceClear frameBytes addsBytes command commandSettled commandState
     taken-command h q = record { outcome = rw (q, e, eq-eqb (controlOf f) 4 h) (by-clear (isClear (orderIn s f))); bytes = rw e; size = refl }
       where
         t : State
@@ -82,9 +82,9 @@ module _ (s : State) (rx tx : List ℕ) (f : ℕ) (o : Outcome) where
 
     module _ (h : controlOf f ≡ 4 → ⊥) where
       pub taken-ready : (p : Outcome) → controlOf f ≡ 5 → p ≡ ready s rx f → o ≡ outcomeSettled s p → Framed s rx tx f tx o
-      unfolding frameSettled frameTaken deviceClear frameBytes leavesBytes
+      unfolding frameSettled frameTaken deviceClear frameBytes addsBytes
       taken-ready p k a b = record { outcome = rw (b, a, e, ne-eqb (controlOf f) 4 h, eq-eqb (controlOf f) 5 k); bytes = rw e; size = refl }
 
       pub taken-identify : (x : ℕ) → (controlOf f ≡ 5 → ⊥) → x ≡ serviced s f → o ≡ outcomeSettled s (record { state = s; answer = Frame x }) → Framed s rx tx f tx o
-      unfolding frameSettled frameTaken deviceClear frameBytes leavesBytes identify
+      unfolding frameSettled frameTaken deviceClear frameBytes addsBytes identify
       taken-identify x k a b = record { outcome = rw (b, a, e, ne-eqb (controlOf f) 4 h, ne-eqb (controlOf f) 5 k); bytes = rw e; size = refl }

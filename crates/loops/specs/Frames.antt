@@ -151,12 +151,12 @@ frameSettled s rx f =
     }
 
 -- a data frame that a listener stores
-unfoldable pub leavesBytes : State → ℕ → Bool
-leavesBytes s f = (isData f && not (isActive (s .role))) && s .role .listener
+unfoldable pub addsBytes : State → ℕ → Bool
+addsBytes s f = (isData f && not (isActive (s .role))) && s .role .listener
 
 -- the bytes of the transmit store after a frame
 unfoldable pub frameBytes : State → List ℕ → ℕ → List ℕ
-frameBytes s tx f = cond (leavesBytes s f) (leftBytes s tx f) tx
+frameBytes s tx f = cond (addsBytes s f) (leftBytes s tx f) tx
 
 -- the outcome and the transmit store after a frame
 pub record Framed (s : State) (rx tx : List ℕ) (f : ℕ) (tx′ : List ℕ) (o : Outcome) : Type 0 where

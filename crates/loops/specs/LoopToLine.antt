@@ -13,19 +13,19 @@ use Rattle.state.specs.declared.State.{State}
 use Rattle.state.specs.State.{withTx}
 
 -- "A listener adds the byte; for an end byte with R10 bit 2 on, then C02 and C03."
-unfoldable pub leaves : Registers → ℕ → List ℕ
-leaves g f = cond (isEnd f && endInserted g) (dataOf f ∷ g .c02 ∷ g .c03 ∷ []) (dataOf f ∷ [])
+unfoldable pub adds : Registers → ℕ → List ℕ
+adds g f = cond (isEnd f && endInserted g) (dataOf f ∷ g .c02 ∷ g .c03 ∷ []) (dataOf f ∷ [])
 
 -- "busy: we are listener, the frame is data, the transmit store lacks room for what it adds"
 unfoldable pub busy : State → ℕ → Bool
-busy s f = (s .role .listener && isData f) && ltb (s .sizes .tx - s .tx .len) (length (leaves (s .regs) f))
+busy s f = (s .role .listener && isData f) && ltb (s .sizes .tx - s .tx .len) (length (adds (s .regs) f))
 
 -- the transmit store with what a data frame adds: "All fit, or refusal 4", which `busy` gives
 unfoldable pub leftState : State → ℕ → State
-leftState s f = withTx s (putsRing (s .sizes .tx) (s .tx) (leaves (s .regs) f))
+leftState s f = withTx s (putsRing (s .sizes .tx) (s .tx) (adds (s .regs) f))
 
 unfoldable pub leftBytes : State → List ℕ → ℕ → List ℕ
-leftBytes s tx f = putsBytes tx (s .tx) (leaves (s .regs) f)
+leftBytes s tx f = putsBytes tx (s .tx) (adds (s .regs) f)
 
 -- the state and the transmit store after a data frame that a listener stores
 pub record Left (s : State) (tx : List ℕ) (f : ℕ) (tx′ : List ℕ) (t : State) : Type 0 where

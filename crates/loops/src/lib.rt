@@ -3,7 +3,7 @@ ghost use mathlib.Core.Path.{_≡_};
 ghost use Prim.Native.Nat.{_≤_};
 ghost use lib.ListN.{length};
 ghost use Rattle.state.specs.Sizes.{RxFits, TxFits};
-ghost use Rattle.loops.specs.LoopToLine.{leaves, busy, Left};
+ghost use Rattle.loops.specs.LoopToLine.{adds, busy, Left};
 ghost use Rattle.loops.specs.Frames.{isClear, cleared, obeyed, commandSettled, finishing, ready, returned, Passed, outcomeSettled, Framed};
 use registers::Registers;
 use role::Order;
@@ -16,7 +16,7 @@ pub mod talk;
 
 // How many bytes a data frame adds to the transmit store.
 fn added(g: Registers, f: u16) -> usize
-    ensures { λ r. ⌜ r ≡ length (leaves g f) ⌝ }
+    ensures { λ r. ⌜ r ≡ length (adds g f) ⌝ }
 {
     if frame::is_end(f) & registers::end_inserted(g) {
         3

@@ -19,7 +19,7 @@ use Rattle.state.specs.Sizes.{TxFits}
 use Rattle.state.specs.Status.{settled}
 use Rattle.state.proofs.Fits.{tx-fits}
 use Rattle.line.specs.HoldingOff.{owed, nextOut, goneState, outAnswer}
-use Rattle.bridge.specs.Calls.{nextLineByte, World, Did, checks, outcome, settledBy, accepted, refusedOr, step}
+use Rattle.bridge.specs.Calls.{nextLineByte, World, Did, checks, outcome, settledBy, notRefused, refusedOr, step}
 use Rattle.laws.specs.Fitting.{AllBytes, Fits}
 use Rattle.laws.proofs.Fitting.{calls-keep-fit, calls-keep-bytes}
 use Rattle.pass.specs.Passing.{isByte, byteIn, lineOut, asks}
@@ -54,7 +54,7 @@ falls s tx =
     fewer (suc k) h = omega arith
 
 step-falls : (w : World) → isByte (step nextLineByte w .said) ≡ true → weight (step nextLineByte w .world .state) < weight (w .state)
-unfolding step refusedOr accepted outcome settledBy settled isByte
+unfolding step refusedOr notRefused outcome settledBy settled isByte
 step-falls w =
     by-cond (λ (d : Did). isByte (d .said) ≡ true → weight (d .world .state) < weight (w .state)) (eqb (firstRefusal (checks nextLineByte w)) 0) _ _
     (λ e. falls (w .state) (w .tx))
@@ -64,7 +64,7 @@ step-falls w =
 
 -- a state that fits is not refused, so that an answer which is no byte is none
 no-byte : (w : World) → Fits w → isByte (step nextLineByte w .said) ≡ false → step nextLineByte w .said ≡ none
-unfolding step refusedOr accepted checks outcome isByte said outAnswer
+unfolding step refusedOr notRefused checks outcome isByte said outAnswer
 no-byte w e = rw e (go (nextOut (w .state) (w .tx)))
   where
     go : (o : Out) → isByte (said (outAnswer o)) ≡ false → said (outAnswer o) ≡ none

@@ -9,7 +9,7 @@ use Rattle.cases.specs.Refusals.{firstRefusal}
 use Rattle.cases.proofs.Cases.{by-cond}
 use Rattle.state.specs.declared.State.{State}
 use Rattle.state.specs.Sizes.{sizesObeyed, startState}
-use Rattle.bridge.specs.Calls.{Call, write, lineByte, loopFrame, World, world, Did, checks, rxAfter, txAfter, accepted, refusedOr, step}
+use Rattle.bridge.specs.Calls.{Call, write, lineByte, loopFrame, World, world, Did, checks, rxAfter, txAfter, notRefused, refusedOr, step}
 use Rattle.laws.specs.Fitting.{AllBytes, ByteCall, Fits}
 use Rattle.laws.proofs.States.{start-fits}
 use Rattle.laws.proofs.Fitting.{calls-keep-fit, calls-keep-bytes, calls-keep-stores}
@@ -40,7 +40,7 @@ start-right = record { bytes = zeros-bytes 64; fits = start-fits 8 64 64 refl; s
 
 -- a register write leaves both stores
 write-stores : (n v : ℕ) (w : World) → (step (write n v) w .world .rx ≡ w .rx) × (step (write n v) w .world .tx ≡ w .tx)
-unfolding step refusedOr accepted rxAfter txAfter
+unfolding step refusedOr notRefused rxAfter txAfter
 write-stores n v w =
     by-cond (λ (d : Did). (d .world .rx ≡ w .rx) × (d .world .tx ≡ w .tx)) (eqb (firstRefusal (checks (write n v) w)) 0) _ _
     (λ _. (refl, refl))

@@ -24,7 +24,7 @@ use Rattle.block.specs.Packed.{blockLen, packed}
 use Rattle.block.specs.States.{isState, noState, meaning, fittingBlock}
 use Rattle.block.proofs.Same.{state-length, means-none}
 use Rattle.block.proofs.Laws.{no-state-misfits}
-use Rattle.bridge.specs.Calls.{Call, create, reset, write, lineByte, lineBreak, key, nextLineByte, loopFrame, show, World, Did, world, did, checks, accepted, outcome, settledBy, rxAfter, txAfter, refusedOr, step, handed, shown, Created}
+use Rattle.bridge.specs.Calls.{Call, create, reset, write, lineByte, lineBreak, key, nextLineByte, loopFrame, show, World, Did, world, did, checks, notRefused, outcome, settledBy, rxAfter, txAfter, refusedOr, step, handed, shown, Created}
 use Rattle.laws.specs.Answers.{isRefusal}
 use Rattle.raftershim.specs.Word.{word, kindOf, valueOf, placeWord, startOf, storeOf, shownWord}
 use Rattle.raftershim.specs.Calls.{Lent, lent, Returned, returned, opened, blockAfter, closed, createdFor, cStep, needsState}
@@ -102,7 +102,7 @@ module _ (m : ℕ) (b rx tx : List ℕ) where
   pub create-written : (o : Outcome) (r : ℕ) (b′ : List ℕ) → length b ≡ blockLen → Created m rx tx o →
       (r ≡ word (said (o .answer))) × (b′ ≡ blockAfter b (said (o .answer)) (o .state)) →
       returned r b′ rx tx ≡ cStep (create m) (lent b rx tx)
-  unfolding cStep createdFor closed step refusedOr checks accepted outcome settledBy rxAfter txAfter said word
+  unfolding cStep createdFor closed step refusedOr checks notRefused outcome settledBy rxAfter txAfter said word
   create-written o r b′ l q h = rw (eq-eqb (length b) blockLen l) (pick (sizesObeyed m (length rx) (length tx)) refl)
     where
       s : State

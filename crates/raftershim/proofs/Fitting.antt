@@ -14,7 +14,7 @@ use Rattle.block.specs.Packed.{blockLen}
 use Rattle.block.specs.States.{isState, fittingBlock, Ranged}
 use Rattle.block.proofs.Laws.{packed-length, meaning-fits, obeyed-ranged}
 use Rattle.block.proofs.Same.{state-length}
-use Rattle.bridge.specs.Calls.{Call, create, World, checks, outcome, settledBy, accepted, refusedOr, step}
+use Rattle.bridge.specs.Calls.{Call, create, World, checks, outcome, settledBy, notRefused, refusedOr, step}
 use Rattle.laws.specs.Answers.{isRefusal}
 use Rattle.laws.specs.Fitting.{Fits, SameStores}
 use Rattle.laws.proofs.Fitting.{calls-keep-fit, create-makes-fit, calls-keep-stores}
@@ -52,7 +52,7 @@ create-done m w e = pick (sizesObeyed m (length (w .rx)) (length (w .tx))) refl
     pick false q = let z : _≡_ {A = ℕ} (word (refused 1)) (word done) = rw q at e in absurd (omega (arith, z))
 
 pub obeyed-done : (m : ℕ) (w : World) → sizesObeyed m (length (w .rx)) (length (w .tx)) ≡ true → (step (create m) w .said ≡ done) × Ranged (step (create m) w .world .state)
-unfolding step refusedOr checks accepted outcome settledBy said
+unfolding step refusedOr checks notRefused outcome settledBy said
 obeyed-done m w e = rw e (refl, obeyed-ranged m (length (w .rx)) (length (w .tx)) e)
 
 pub create-fits : CreateFits

@@ -28,16 +28,16 @@ use Rattle.state.specs.declared.Out.the-variants as out
 use Rattle.state.specs.Counts.{counted}
 use Rattle.state.specs.Sizes.{sizesObeyed, startState, fits}
 use Rattle.state.specs.Status.{settled, statusBack, statusSent, breakState, keyState}
-use Rattle.line.specs.HoldingOff.{isFlow, flowed, storedWith, lostState, lineState, resumed, setAfresh, afterWrite, nextOut, goneState}
-use Rattle.loops.specs.LoopToLine.{leaves, leftState, leftBytes}
+use Rattle.line.specs.HoldingOff.{isGoOrStop, flowed, storedWith, lostState, lineState, resumed, setAfresh, afterWrite, nextOut, goneState}
+use Rattle.loops.specs.LoopToLine.{adds, leftState, leftBytes}
 use Rattle.loops.specs.Sending.{talking, ended, ruleOf, removedState, sendState, sendFrom, sendStatus}
-use Rattle.loops.specs.Frames.{cleared, isClear, obeyed, orderIn, commandState, command, finishing, readied, ready, returned, dataPassed, identify, frameTaken, deviceClear, leavesBytes, frameBytes}
+use Rattle.loops.specs.Frames.{cleared, isClear, obeyed, orderIn, commandState, command, finishing, readied, ready, returned, dataPassed, identify, frameTaken, deviceClear, addsBytes, frameBytes}
 use Rattle.laws.specs.Fitting.{ByteCall}
 use Rattle.laws.proofs.Fitting.{calls-keep-fit, calls-keep-bytes}
 use Rattle.laws.proofs.Small.{put-bytes}
 use Rattle.block.specs.States.{Bytes, RegistersRanged, CountsRanged, Ranged}
 use Rattle.block.proofs.Laws.{fits-ranged, obeyed-ranged}
-use Rattle.bridge.specs.Calls.{Call, create, reset, write, lineByte, lineBreak, key, nextLineByte, loopFrame, show, World, Did, checks, outcome, settledBy, rxAfter, txAfter, accepted, refusedOr, step}
+use Rattle.bridge.specs.Calls.{Call, create, reset, write, lineByte, lineBreak, key, nextLineByte, loopFrame, show, World, Did, checks, outcome, settledBy, rxAfter, txAfter, notRefused, refusedOr, step}
 use Rattle.raftershim.specs.Calls.{needsState}
 use Rattle.raftershim.specs.Runs.{isByteCall, Typed}
 use Rattle.raftershim.proofs.Closing.{misfit-step}
@@ -68,7 +68,7 @@ write-counts s n v k = by-cond Counted (eqb n 11) _ _ (λ e. k) (λ e. k)
 line-counts : (s : State) (b : ℕ) → Counted s → Counted (lineState s b)
 unfolding lineState flowed storedWith lostState
 line-counts s b k =
-    by-cond Counted (isFlow (s .regs) b) _ _
+    by-cond Counted (isGoOrStop (s .regs) b) _ _
     (λ e. k)
     (λ e. by-cond Counted (full (s .sizes .rx) (s .rx)) _ _
     (λ e. record { stored = k .stored; lost = counted-ranged (s .counts .lost); sent = k .sent })
@@ -127,8 +127,8 @@ frame-counts s rx f k =
     (λ e. command-counts s (orderIn s f) k)
     (λ e. by-cond Counts (eqb (controlOf f) 5) _ _ (λ e. ready-counts s rx f (readyOf (s .role) (dataOf f)) k) (λ e. k)))
 
-accepted-counts : (c : Call) (w : World) → Counted (w .state) → CountsRanged (accepted c w .world .state .counts)
-unfolding accepted settledBy outcome breakState keyState
+accepted-counts : (c : Call) (w : World) → Counted (w .state) → CountsRanged (notRefused c w .world .state .counts)
+unfolding notRefused settledBy outcome breakState keyState
 accepted-counts (create m) w k = start-counts m (length (w .rx)) (length (w .tx))
 accepted-counts reset w k = settled-counts (w .state) _ (start-counts (w .state .sizes .margin) (length (w .rx)) (length (w .tx)))
 accepted-counts (write n v) w k = settled-counts (w .state) _ (write-counts (w .state) n v k)
@@ -143,7 +143,7 @@ accepted-counts (loopFrame f) w k =
 accepted-counts (show side) w k = k
 
 -- what holds of the world before a call and of an accepted call holds after the call
-after : (P : World → Type 0) (c : Call) (w : World) → P w → P (accepted c w .world) → P (step c w .world)
+after : (P : World → Type 0) (c : Call) (w : World) → P w → P (notRefused c w .world) → P (step c w .world)
 unfolding step refusedOr
 after P (create m) w p q = by-cond (λ (d : Did). P (d .world)) (eqb (firstRefusal (checks (create m) w)) 0) _ _ (λ e. q) (λ e. p)
 after P reset w p q = by-cond (λ (d : Did). P (d .world)) (eqb (firstRefusal (checks reset w)) 0) _ _ (λ e. q) (λ e. p)
@@ -174,7 +174,7 @@ byte-call (show side) h = tt
 
 -- what a data frame adds to the transmit store is bytes
 left-bytes : (s : State) (tx : List ℕ) (f : ℕ) → RegistersRanged (s .regs) → Bytes tx → Bytes (leftBytes s tx f)
-unfolding leftBytes leaves putsBytes
+unfolding leftBytes adds putsBytes
 left-bytes s tx f h k =
     by-cond (λ (l : List ℕ). Bytes (putsBytes tx (s .tx) l)) (isEnd f && endInserted (s .regs)) _ _
     (λ e. put-bytes _ _ (s .regs .c03) (h .c03) (put-bytes _ _ (s .regs .c02) (h .c02) first))
@@ -183,9 +183,9 @@ left-bytes s tx f h k =
     first : Bytes (putBytes tx (s .tx) (dataOf f))
     first = put-bytes tx (s .tx) (dataOf f) (omega arith) k
 
-accepted-tx : (c : Call) (w : World) → Ranged (w .state) → Bytes (w .tx) → Bytes (accepted c w .world .tx)
-unfolding accepted txAfter frameBytes
-accepted-tx (loopFrame f) w h k = by-cond Bytes (leavesBytes (w .state) f) _ _ (λ e. left-bytes (w .state) (w .tx) f (h .regs) k) (λ e. k)
+accepted-tx : (c : Call) (w : World) → Ranged (w .state) → Bytes (w .tx) → Bytes (notRefused c w .world .tx)
+unfolding notRefused txAfter frameBytes
+accepted-tx (loopFrame f) w h k = by-cond Bytes (addsBytes (w .state) f) _ _ (λ e. left-bytes (w .state) (w .tx) f (h .regs) k) (λ e. k)
 accepted-tx (create m) w h k = k
 accepted-tx reset w h k = k
 accepted-tx (write n v) w h k = k
@@ -202,7 +202,7 @@ tx-kept c w h k = after (λ (x : World). Bytes (x .tx)) c w k (accepted-tx c w h
 
 -- a state that does not fit stays, unless create makes another
 misfit-ranged : (c : Call) (w : World) → fits (w .state) (length (w .rx)) (length (w .tx)) ≡ false → Ranged (w .state) → Ranged (step c w .world .state)
-unfolding step refusedOr checks accepted outcome settledBy rxAfter txAfter needsState
+unfolding step refusedOr checks notRefused outcome settledBy rxAfter txAfter needsState
 misfit-ranged (create m) w e h = pick (sizesObeyed m (length (w .rx)) (length (w .tx))) refl
   where
     pick : (t : Bool) → sizesObeyed m (length (w .rx)) (length (w .tx)) ≡ t → Ranged (step (create m) w .world .state)

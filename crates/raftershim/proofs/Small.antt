@@ -32,7 +32,7 @@ use Rattle.line.specs.HoldingOff.{owed, nextOut, outAnswer}
 use Rattle.loops.specs.Sending.{ended, ruleOf, sendState, removedState, sendFrom, sendStatus}
 use Rattle.loops.specs.Frames.{command, readied, ready, returned, dataPassed, identify, frameTaken}
 use Rattle.block.specs.States.{Bytes, Ranged}
-use Rattle.bridge.specs.Calls.{Call, create, reset, write, lineByte, lineBreak, key, nextLineByte, loopFrame, show, World, Did, checks, outcome, accepted, refusedOr}
+use Rattle.bridge.specs.Calls.{Call, create, reset, write, lineByte, lineBreak, key, nextLineByte, loopFrame, show, World, Did, checks, outcome, notRefused, refusedOr}
 use Rattle.laws.proofs.Small.{held-bytes, given-small}
 use Rattle.runs.proofs.Answered.{status-small}
 use Rattle.raftershim.specs.Word.{word, kindOf, valueOf}
@@ -157,8 +157,8 @@ small-numbers nextLineByte w = (omega arith, tt)
 small-numbers (loopFrame f) w = (omega arith, (omega arith, (omega arith, tt)))
 small-numbers (show side) w = tt
 
-pub told-or : (w : World) (c : Call) → (firstRefusal (checks c w) ≡ 0 → Small (outcome c w .answer)) → Tells (refusedOr (firstRefusal (checks c w)) (accepted c w) w .said)
-unfolding refusedOr accepted said
+pub told-or : (w : World) (c : Call) → (firstRefusal (checks c w) ≡ 0 → Small (outcome c w .answer)) → Tells (refusedOr (firstRefusal (checks c w)) (notRefused c w) w .said)
+unfolding refusedOr notRefused said
 told-or w c h =
     by-cond (λ (d : Did). Tells (d .said)) (eqb (firstRefusal (checks c w)) 0) _ _
     (λ e. small-tells (outcome c w .answer) (h (eqb-true (firstRefusal (checks c w)) 0 e)))

@@ -4,7 +4,7 @@ use mathlib.Core.Bool.{true, false, cond, _||_}
 use Rattle.role.specs.declared.Role.{Role}
 use Rattle.role.specs.declared.Order.{Order}
 use Rattle.role.specs.declared.Order.the-variants.{Unlisten, Listen, Untalk, Talk, Clear, Deselect, Enable, Disable, Local, Unassign, Nothing}
-use Rattle.role.specs.Parts.{none, idle, addressed, isActive, withAddress, withTalker, withListener, withEnabled, withRemote}
+use Rattle.role.specs.Parts.{unassigned, idle, addressed, isActive, withAddress, withTalker, withListener, withEnabled, withRemote}
 use Rattle.role.specs.Orders.{orderOf}
 
 -- "First, an active talker becomes merely addressed"
@@ -23,7 +23,7 @@ changedRole r Deselect = withListener (withTalker r idle) false
 changedRole r Enable = withEnabled r true
 changedRole r Disable = withRemote (withEnabled r false) false
 changedRole r Local = withRemote r false
-changedRole r Unassign = withAddress r none
+changedRole r Unassign = withAddress r unassigned
 changedRole r Nothing = r
 
 -- the role after an order: "First, an active talker becomes merely addressed", then what the order says

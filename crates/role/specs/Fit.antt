@@ -4,7 +4,7 @@ use mathlib.Core.Path.{_≡_}
 use mathlib.Core.Bool.{Bool, true, _&&_, not}
 use lib.Dec.{leb}
 use Rattle.role.specs.declared.Role.{Role}
-use Rattle.role.specs.Parts.{none, idle, activeStatus, isTalker}
+use Rattle.role.specs.Parts.{unassigned, idle, activeStatus, isTalker}
 
 -- "it is not talker and listener at once"
 abbrev pub Apart : Role → Type 0
@@ -12,10 +12,10 @@ Apart r = r .listener ≡ true → r .talker ≡ idle
 
 -- "every field is in its range, .. and it is not talker and listener at once"
 pub record Fit (r : Role) : Type 0 where
-  pub range : r .address ≤ none
+  pub range : r .address ≤ unassigned
   pub phase : r .talker ≤ activeStatus
   pub apart : Apart r
 
 -- the same, as a test
 abbrev pub fitTest : Role → Bool
-fitTest r = (leb (r .address) none && leb (r .talker) activeStatus) && not (isTalker r && r .listener)
+fitTest r = (leb (r .address) unassigned && leb (r .talker) activeStatus) && not (isTalker r && r .listener)

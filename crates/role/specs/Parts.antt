@@ -5,8 +5,8 @@ use lib.Dec.{eqb, leb}
 use Rattle.role.specs.declared.Role.{Role}
 
 -- the address field of a device that is "unassigned"
-abbrev pub none : ℕ
-none = 31
+abbrev pub unassigned : ℕ
+unassigned = 31
 
 -- the talker phases: no talker, "addressed, not active", "active with data", and active with the status byte
 abbrev pub idle : ℕ
@@ -22,7 +22,7 @@ abbrev pub activeStatus : ℕ
 activeStatus = 3
 
 abbrev pub isUnassigned : Role → Bool
-isUnassigned r = eqb (r .address) none
+isUnassigned r = eqb (r .address) unassigned
 
 -- talker in any phase
 abbrev pub isTalker : Role → Bool
@@ -34,7 +34,7 @@ isActive r = leb activeData (r .talker)
 
 -- "Start: address 31, unassigned."
 abbrev pub startRole : Role
-startRole = record { address = none; talker = idle; listener = false; enabled = false; remote = false }
+startRole = record { address = unassigned; talker = idle; listener = false; enabled = false; remote = false }
 
 -- a role with one part changed
 abbrev pub withAddress : Role → ℕ → Role

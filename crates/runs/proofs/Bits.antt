@@ -44,6 +44,6 @@ pub event-shown : (e : Event) (s : State) → showed (statusOf s) (worth e) ≡ 
 unfolding statusOf statusByte conditions
 event-shown e s =
     let c = conditions s in
-    bit-shown ((cond (c .txempty) 1 0 + cond (c .txroom) 2 0) + cond (c .rxsome) 4 0 + cond (c .rxfull) 8 0) (c .brk) (c .overrun) (shows s) (c .key)
-    (omega (arith, weight (c .txempty) 1, weight (c .txroom) 2, weight (c .rxsome) 4, weight (c .rxfull) 8))
+    bit-shown ((cond (c .txempty) 1 0 + cond (c .txnotfull) 2 0) + cond (c .rxnotempty) 4 0 + cond (c .rxfull) 8 0) (c .brk) (c .overrun) (shows s) (c .key)
+    (omega (arith, weight (c .txempty) 1, weight (c .txnotfull) 2, weight (c .rxnotempty) 4, weight (c .rxfull) 8))
     e

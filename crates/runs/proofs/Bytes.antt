@@ -18,7 +18,7 @@ use Rattle.reading.proofs.Lawful.{lawful}
 use Rattle.store.specs.declared.Ring.{Ring}
 use Rattle.store.specs.Ring.{Fit, held, full}
 use Rattle.store.proofs.Laws.{held-length, held-at}
-use Rattle.line.specs.HoldingOff.{isFlow}
+use Rattle.line.specs.HoldingOff.{isGoOrStop}
 use Rattle.bridge.specs.Calls.{Call, create, reset, write, lineByte, lineBreak, key, nextLineByte, loopFrame, show, World}
 use Rattle.cases.proofs.Cases.{by-cond}
 use Rattle.runs.specs.Observers.{taken, arrived, accepted}
@@ -77,7 +77,7 @@ accepted-bytes [] w b = tt
 accepted-bytes (lineByte n ∷ cs) w b =
     bytes-both (accepted (lineByte n) w (answer (lineByte n) w)) (all accepted cs (after (lineByte n) w))
     (by-cond Bytes (full (w .state .sizes .rx) (w .state .rx)) _ _ (λ _. tt)
-    (λ _. by-cond Bytes (taken (answer (lineByte n) w) && not (isFlow (w .state .regs) n)) (n ∷ []) [] (λ _. (b .0, tt)) (λ _. tt)))
+    (λ _. by-cond Bytes (taken (answer (lineByte n) w) && not (isGoOrStop (w .state .regs) n)) (n ∷ []) [] (λ _. (b .0, tt)) (λ _. tt)))
     (accepted-bytes cs (after (lineByte n) w) (b .1))
 accepted-bytes (create m ∷ cs) w b = none-first w (all accepted cs (after (create m) w)) (accepted-bytes cs (after (create m) w) b)
 accepted-bytes (reset ∷ cs) w b = none-first w (all accepted cs (after reset w)) (accepted-bytes cs (after reset w) b)

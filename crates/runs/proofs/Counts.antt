@@ -14,7 +14,7 @@ use Rattle.line.specs.HoldingOff.{storedWith}
 use Rattle.loops.specs.Sending.{ruleOf}
 use Rattle.bridge.specs.Calls.{Call, World}
 use Rattle.runs.specs.Observers.{accepted, lost, sent}
-use Rattle.runs.specs.Run.{answer, after, end, all, begins}
+use Rattle.runs.specs.Run.{answer, after, end, all, startsAnew}
 use Rattle.runs.specs.Worlds.{heldToSend, Bytes}
 use Rattle.runs.specs.Counts.{wrapped, Small, CountsGo, CountsSince}
 use Rattle.runs.proofs.Shapes.{Seen, seen, Heart, heart, Shape, isStill, isBegun, isWritten, isCleared, isStored, isLost, isSent, isNone, isLeft, isHanded}
@@ -42,7 +42,7 @@ module _ (w : World) (S : Small w) where
         sent = none-more _ (S .sent) ∙ ap (λ k. wrapped (w .state .counts .sent + length k)) (sym s);
       }
 
-  stepped : (x : Seen) (h : Heart) (rx tx : List ℕ) → Shape w x h rx tx → x .begins ≡ false → Bytes (heldToSend w) → Stepped x (w .state .counts) (h .counts)
+  stepped : (x : Seen) (h : Heart) (rx tx : List ℕ) → Shape w x h rx tx → x .startsAnew ≡ false → Bytes (heldToSend w) → Stepped x (w .state .counts) (h .counts)
   unfolding storedWith sendHeld
   stepped x h rx tx isStill n B = same x refl refl refl
   stepped x h rx tx (isBegun m) n B = absurd (false≢true (sym n))
@@ -60,7 +60,7 @@ module _ (w : World) (S : Small w) where
   stepped x h rx tx (isLeft l F e) n B = same x refl refl refl
   stepped x h rx tx (isHanded F e) n B = same x refl refl refl
 
-step-counts : (c : Call) (w : World) → begins c w (answer c w) ≡ false → Bytes (heldToSend w) → Small w → Stepped (seen c w (answer c w)) (w .state .counts) (after c w .state .counts)
+step-counts : (c : Call) (w : World) → startsAnew c w (answer c w) ≡ false → Bytes (heldToSend w) → Small w → Stepped (seen c w (answer c w)) (w .state .counts) (after c w .state .counts)
 step-counts c w n B S = stepped w S (seen c w (answer c w)) (heart (after c w .state)) (after c w .rx) (after c w .tx) (view c w) n B
 
 -- one call, and then the rest
@@ -74,7 +74,7 @@ pub counts-go : CountsGo
 unfolding end all
 counts-go [] w n B S = record { stored = none-more _ (S .stored); lost = none-more _ (S .lost); sent = none-more _ (S .sent) }
 counts-go (c ∷ cs) w n B S =
-    let m = first-not begins c cs w n in
+    let m = first-not startsAnew c cs w n in
     let t = step-counts c w (m .0) (bytes-first (heldToSend w) _ B) S in
     let r =
     counts-go cs (after c w) (m .1) (bytes-after c w (all accepted cs (after c w)) B)
@@ -93,7 +93,7 @@ record Zero (h : Heart) (rx : List ℕ) : Type 0 where
   sent : h .counts .sent ≡ 0
   empty : held rx (h .rx) ≡ []
 
-begun-zero : (w : World) (x : Seen) (h : Heart) (rx tx : List ℕ) → Shape w x h rx tx → x .begins ≡ true → Zero h rx
+begun-zero : (w : World) (x : Seen) (h : Heart) (rx tx : List ℕ) → Shape w x h rx tx → x .startsAnew ≡ true → Zero h rx
 unfolding startState
 begun-zero w x h rx tx isStill n = absurd (false≢true n)
 begun-zero w x h rx tx (isBegun m) n = record { stored = refl; lost = refl; sent = refl; empty = held-empty (w .rx) }

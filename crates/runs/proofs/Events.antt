@@ -12,7 +12,7 @@ use Rattle.store.specs.Ring.{full}
 use Rattle.state.specs.declared.State.{State}
 use Rattle.state.specs.Answers.{Said, said, refused}
 use Rattle.state.specs.Status.{settled, breakState, keyState}
-use Rattle.line.specs.HoldingOff.{isFlow, flowed, lostState, storedState, lineState}
+use Rattle.line.specs.HoldingOff.{isGoOrStop, flowed, lostState, storedState, lineState}
 use Rattle.bridge.specs.Calls.{Call, create, reset, write, lineByte, lineBreak, key, nextLineByte, loopFrame, show, World, Did, outcome, settledBy, refusedOr, step}
 use Rattle.bridge.specs.Calls as calls
 use Rattle.runs.specs.Observers.{arrived, lost}
@@ -82,7 +82,7 @@ line-lost s b false true h = (refl, refl)
 line-lost s b false false h = absurd (false≢true h)
 
 happened : (e : Event) (c : Call) (w : World) → happens e c w (answer c w) ≡ true → Noted e (part (after c w .state))
-unfolding step calls.accepted outcome settledBy settled said arrived lost lineState breakState keyState
+unfolding step calls.notRefused outcome settledBy settled said arrived lost lineState breakState keyState
 happened broken (create m) w h = absurd (false≢true h)
 happened broken reset w h = absurd (false≢true h)
 happened broken (write n v) w h = absurd (false≢true h)
@@ -97,7 +97,7 @@ happened overrun reset w h = absurd (none-lost (full (w .state .sizes .rx) (w .s
 happened overrun (write n v) w h = absurd (none-lost (full (w .state .sizes .rx) (w .state .rx)) h)
 happened overrun (lineByte b) w h =
     unless-refused overrun (lineByte b) w _ _ (none-lost (full (w .state .sizes .rx) (w .state .rx)))
-    (line-lost (w .state) b (isFlow (w .state .regs) b) (full (w .state .sizes .rx) (w .state .rx)))
+    (line-lost (w .state) b (isGoOrStop (w .state .regs) b) (full (w .state .sizes .rx) (w .state .rx)))
     h
 happened overrun lineBreak w h = absurd (none-lost (full (w .state .sizes .rx) (w .state .rx)) h)
 happened overrun key w h = absurd (none-lost (full (w .state .sizes .rx) (w .state .rx)) h)

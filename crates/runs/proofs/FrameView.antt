@@ -28,9 +28,9 @@ use Rattle.state.specs.Status.{settled}
 use Rattle.state.specs.Status as status
 use Rattle.state.proofs.Fits.{tests, tx-room}
 use Rattle.line.specs.HoldingOff.{resumed}
-use Rattle.loops.specs.LoopToLine.{leaves, busy, leftState, leftBytes}
+use Rattle.loops.specs.LoopToLine.{adds, busy, leftState, leftBytes}
 use Rattle.loops.specs.Sending.{ruleOf, removedState, sendState, sendFrom, sendStatus, talking, ended}
-use Rattle.loops.specs.Frames.{isClear, orderIn, obeyed, cleared, commandState, command, finishing, readied, ready, returned, dataPassed, identify, frameTaken, deviceClear, leavesBytes, frameBytes}
+use Rattle.loops.specs.Frames.{isClear, orderIn, obeyed, cleared, commandState, command, finishing, readied, ready, returned, dataPassed, identify, frameTaken, deviceClear, addsBytes, frameBytes}
 use Rattle.bridge.specs.Calls.{loopFrame, World, outcome, settledBy, rxAfter, txAfter}
 use Rattle.bridge.specs.Calls as calls
 use Rattle.runs.specs.Observers.{dataFrame, equalReturn, isSend, isDeviceClear, arrived, sent, left, handedOut, restarts, writes, clears}
@@ -50,14 +50,14 @@ abbrev FrameShaped : (w : World) → ℕ → List ℕ → Outcome → Type 0
 FrameShaped w f tx o = Shape w (seen (loopFrame f) w (said (o .answer))) (heart (o .state)) (w .rx) tx
 
 module _ (w : World) (f : ℕ) where
-  marked : (x : ℕ) (send adds clear : Bool) (h : Heart) (tx : List ℕ) → Marks (w .state) f send adds clear →
-      Shape w (frames (cond send (dataFrame (said (Frame x))) []) (cond adds (leaves (w .state .regs) f) []) clear) h (w .rx) tx →
+  marked : (x : ℕ) (send stores clear : Bool) (h : Heart) (tx : List ℕ) → Marks (w .state) f send stores clear →
+      Shape w (frames (cond send (dataFrame (said (Frame x))) []) (cond stores (adds (w .state .regs) f) []) clear) h (w .rx) tx →
       Shape w (seen (loopFrame f) w (said (Frame x))) h (w .rx) tx
   unfolding arrived sent left handedOut restarts writes clears said
   marked x p l c h tx m sh =
       quietly (loopFrame f) w (said (Frame x)) h (w .rx) tx refl
       (subst (λ z. Shape w z h (w .rx) tx)
-      (λ i. frames (cond (sym (m .send) i) (dataFrame (said (Frame x))) []) (cond (sym (m .adds) i) (leaves (w .state .regs) f) []) (sym (m .clear) i))
+      (λ i. frames (cond (sym (m .send) i) (dataFrame (said (Frame x))) []) (cond (sym (m .adds) i) (adds (w .state .regs) f) []) (sym (m .clear) i))
       sh)
 
   -- nothing of note
@@ -145,19 +145,19 @@ module _ (w : World) (F : Fits w) (f : ℕ) (D : isData f ≡ true) where
           clear = no-clear;
         }
 
-    room : w .state .role .listener ≡ true → w .state .tx .len + length (leaves (w .state .regs) f) ≤ w .state .sizes .tx
+    room : w .state .role .listener ≡ true → w .state .tx .len + length (adds (w .state .regs) f) ≤ w .state .sizes .tx
     unfolding busy
     room e =
-        let r : ltb (w .state .sizes .tx - w .state .tx .len) (length (leaves (w .state .regs) f)) ≡ false =
-        (λ i. (sym e i && sym D i) && ltb (w .state .sizes .tx - w .state .tx .len) (length (leaves (w .state .regs) f))) ∙ B in
-        omega (arith, ltb-false (w .state .sizes .tx - w .state .tx .len) (length (leaves (w .state .regs) f)) r, tx-room (w .state) (w .rx) (w .tx) F)
+        let r : ltb (w .state .sizes .tx - w .state .tx .len) (length (adds (w .state .regs) f)) ≡ false =
+        (λ i. (sym e i && sym D i) && ltb (w .state .sizes .tx - w .state .tx .len) (length (adds (w .state .regs) f))) ∙ B in
+        omega (arith, ltb-false (w .state .sizes .tx - w .state .tx .len) (length (adds (w .state .regs) f)) r, tx-room (w .state) (w .rx) (w .tx) F)
 
     pass-shape : FrameShaped w f (cond (w .state .role .listener) (leftBytes (w .state) (w .tx) f) (w .tx)) (dataPassed (w .state) f)
     unfolding dataPassed leftState leftBytes
     pass-shape = go (w .state .role .listener) refl
       where
         go : (l : Bool) → w .state .role .listener ≡ l → Shape w (seen (loopFrame f) w (said (Frame (status.serviced (w .state) f)))) (heart (cond l (leftState (w .state) f) (w .state))) (w .rx) (cond l (leftBytes (w .state) (w .tx) f) (w .tx))
-        go true e = marked w f (status.serviced (w .state) f) false true false _ _ (pass-marks true e) (isLeft (leaves (w .state .regs) f) F (room e))
+        go true e = marked w f (status.serviced (w .state) f) false true false _ _ (pass-marks true e) (isLeft (adds (w .state .regs) f) F (room e))
         go false e = marked w f (status.serviced (w .state) f) false false false _ _ (pass-marks false e) isStill
 
 -- ---- other frames
@@ -262,7 +262,7 @@ module _ (w : World) (f : ℕ) (D : isData f ≡ false) where
 
 module _ (w : World) (F : Fits w) (f : ℕ) (B : busy (w .state) f ≡ false) where
   frame-taken : FrameShaped w f (frameBytes (w .state) (w .tx) f) (frameTaken (w .state) (w .rx) f)
-  unfolding frameTaken frameBytes leavesBytes
+  unfolding frameTaken frameBytes addsBytes
   frame-taken = by-data (isData f) (isActive (w .state .role)) refl refl
     where
       s : State
@@ -279,8 +279,8 @@ module _ (w : World) (F : Fits w) (f : ℕ) (B : busy (w .state) f ≡ false) wh
           by-cond (FrameShaped w f (w .tx)) (eqb (controlOf f) 4) _ _ (command-shape w f hx)
           (λ c. by-cond (FrameShaped w f (w .tx)) (eqb (controlOf f) 5) _ _ (ready-shape w f hx c F) (identify-shape w f hx c))
 
-  pub frame-shape : Shaped w (loopFrame f) (calls.accepted (loopFrame f) w)
-  unfolding calls.accepted outcome settledBy rxAfter txAfter settled
+  pub frame-shape : Shaped w (loopFrame f) (calls.notRefused (loopFrame f) w)
+  unfolding calls.notRefused outcome settledBy rxAfter txAfter settled
   frame-shape = by-clear (deviceClear (w .state) f) frame-taken
     where
       o : Outcome

@@ -29,14 +29,14 @@ use Rattle.state.specs.Sizes.{startState}
 use Rattle.state.specs.Status.{settled, breakState, keyState}
 use Rattle.state.specs.Status as status
 use Rattle.state.proofs.Fits.{tests}
-use Rattle.line.specs.HoldingOff.{isFlow, flowed, lostState, storedWith, lineState, resumed, setAfresh, afterWrite, owed, nextOut, goneState, outAnswer}
+use Rattle.line.specs.HoldingOff.{isGoOrStop, flowed, lostState, storedWith, lineState, resumed, setAfresh, afterWrite, owed, nextOut, goneState, outAnswer}
 use Rattle.loops.specs.LoopToLine.{leftState}
 use Rattle.loops.specs.Sending.{ruleOf, removedState, sendState, sendFrom, sendStatus, talking, ended}
 use Rattle.loops.specs.Frames.{isClear, orderIn, obeyed, cleared, commandState, command, finishing, readied, ready, returned, dataPassed, identify, frameTaken, deviceClear}
 use Rattle.bridge.specs.Calls.{Call, create, reset, write, lineByte, lineBreak, key, nextLineByte, loopFrame, show, World, Did, checks, outcome, settledBy, refusedOr, step}
 use Rattle.bridge.specs.Calls as calls
 use Rattle.runs.specs.Observers.{restarts}
-use Rattle.runs.specs.Run.{answer, after, end, Without, begins}
+use Rattle.runs.specs.Run.{answer, after, end, Without, startsAnew}
 use Rattle.runs.specs.LastSent.{afterOwn, lastOf, lastSent, recorded, LastKept, LastSince}
 use Rattle.runs.proofs.Shapes.{Fits}
 use Rattle.runs.proofs.View.{fitting}
@@ -50,7 +50,7 @@ Same s t = t .line .stopped ≡ s .line .stopped
 
 line-same : (s : State) (b : ℕ) → Same s (lineState s b)
 unfolding lineState flowed lostState storedWith
-line-same s b = by-cond (Same s) (isFlow (s .regs) b) _ _ (λ _. refl) (λ _. by-cond (Same s) (full (s .sizes .rx) (s .rx)) _ _ (λ _. refl) (λ _. refl))
+line-same s b = by-cond (Same s) (isGoOrStop (s .regs) b) _ _ (λ _. refl) (λ _. by-cond (Same s) (full (s .sizes .rx) (s .rx)) _ _ (λ _. refl) (λ _. refl))
 
 write-same : (s : State) (n v : ℕ) → Same s (afterWrite s n (written (s .regs) n v))
 unfolding afterWrite setAfresh
@@ -123,7 +123,7 @@ module _ (w : World) where
 module _ (c : Call) (w : World) where
   -- "at start: go"
   abbrev LastRight : Did → Type 0
-  LastRight d = recorded (d .world) ≡ cond (begins c w (d .said)) false (lastOf (recorded w) c w (d .said))
+  LastRight d = recorded (d .world) ≡ cond (startsAnew c w (d .said)) false (lastOf (recorded w) c w (d .said))
 
   refused-or : (n : ℕ) (d : Did) → LastRight (record { said = refused n; world = w }) → (n ≡ 0 → LastRight d) → LastRight (refusedOr n d w)
   unfolding refusedOr
@@ -134,7 +134,7 @@ same-either true k = refl
 same-either false k = refl
 
 last-right : (c : Call) (w : World) → LastRight c w (step c w)
-unfolding step checks calls.accepted outcome settledBy settled said lastOf restarts startState breakState keyState
+unfolding step checks calls.notRefused outcome settledBy settled said lastOf restarts startState breakState keyState
 last-right (create m) w = refused-or (create m) w _ _ refl (λ _. refl)
 last-right reset w = refused-or reset w _ _ refl (λ _. refl)
 last-right (write n v) w = refused-or (write n v) w _ _ refl (λ _. write-same (w .state) n v)
@@ -156,8 +156,8 @@ last-kept (c ∷ cs) w n =
     last-kept cs (after c w) (m .1)
     ∙ ap (λ k. lastSent k cs (after c w)) (last-right c w ∙ (λ i. cond (m .0 i) false (lastOf (recorded w) c w (answer c w))))
   where
-    m : (begins c w (answer c w) ≡ false) × Without begins cs (after c w)
-    m = first-not begins c cs w n
+    m : (startsAnew c w (answer c w) ≡ false) × Without startsAnew cs (after c w)
+    m = first-not startsAnew c cs w n
 
 pub last-since : LastSince
 last-since c w b cs n =

@@ -16,7 +16,7 @@ use Rattle.state.specs.declared.Out.the-variants.{Own, Held, Nothing}
 use Rattle.state.specs.State.{withRegisters}
 use Rattle.state.specs.Answers.{said, done}
 use Rattle.state.proofs.Fits.{rx-fits}
-use Rattle.line.specs.HoldingOff.{isFlow, flowed, lostState, storedState, lineState, lineBytes, setAfresh, afterWrite, owed, nextOut, goneState, outAnswer}
+use Rattle.line.specs.HoldingOff.{isGoOrStop, flowed, lostState, storedState, lineState, lineBytes, setAfresh, afterWrite, owed, nextOut, goneState, outAnswer}
 use Rattle.line.proofs.Parts.{some-held}
 use Rattle.bridge.specs.Calls.{write, lineByte, nextLineByte, World}
 use Rattle.runs.specs.Observers.{arrived, accepted, lost, sent, left, handedOut, restarts, writes, clears}
@@ -28,9 +28,9 @@ use Rattle.runs.proofs.Quiet.{quiet, quietly}
 module _ (w : World) (F : Fits w) (b : ℕ) where
   pub line-shape : Shape w (seen (lineByte b) w done) (heart (lineState (w .state) b)) (lineBytes (w .state) (w .rx) b) (w .tx)
   unfolding arrived accepted lost sent left handedOut restarts writes clears lineState lineBytes flowed lostState
-  line-shape = by-tests (isFlow (w .state .regs) b) (full (w .state .sizes .rx) (w .state .rx)) refl refl
+  line-shape = by-tests (isGoOrStop (w .state .regs) b) (full (w .state .sizes .rx) (w .state .rx)) refl refl
     where
-      by-tests : (t u : Bool) → isFlow (w .state .regs) b ≡ t → full (w .state .sizes .rx) (w .state .rx) ≡ u →
+      by-tests : (t u : Bool) → isGoOrStop (w .state .regs) b ≡ t → full (w .state .sizes .rx) (w .state .rx) ≡ u →
           Shape w (seen (lineByte b) w done) (heart (cond t (flowed (w .state) b) (cond u (lostState (w .state)) (storedState (w .state)))))
           (cond t (w .rx) (putBytes (w .rx) (w .state .rx) b)) (w .tx)
       by-tests true true f e = simp (f, e) isStill

@@ -7,7 +7,7 @@ use Rattle.store.specs.Ring.{full}
 use Rattle.state.specs.Answers.{Said, said}
 use Rattle.bridge.specs.Calls.{Call, World, Did}
 use Rattle.runs.specs.Observers.{arrived, accepted, lost, sent, left, handedOut}
-use Rattle.runs.specs.Run.{changes, empties, begins}
+use Rattle.runs.specs.Run.{changes, empties, startsAnew}
 use Rattle.runs.proofs.Shapes.{Seen, seen, Heart, heart, Shape}
 
 -- what a call did has a shape
@@ -32,7 +32,7 @@ quiet c w a =
       handed = handedOut c w a;
       changes = changes c w a;
       empties = empties c w a;
-      begins = begins c w a;
+      startsAnew = startsAnew c w a;
     }
 
 module _ (c : Call) (w : World) (a : Said) (e : arrived c w a ≡ []) where
@@ -58,5 +58,5 @@ quietly c w a h rx tx e = subst (λ x. Shape w x h rx tx) same
           handed = handedOut c w a;
           changes = changes c w a;
           empties = empties c w a;
-          begins = begins c w a;
+          startsAnew = startsAnew c w a;
         }

@@ -88,7 +88,7 @@ module _ (w : World) where
   stays-or n d e = by-cond Stays (eqb n 0) d (record { said = refused n; world = w }) (λ _. not-refused d e) (λ _ _. refl)
 
 pub refused-stays : RefusedStays
-unfolding step calls.accepted outcome said
+unfolding step calls.notRefused outcome said
 refused-stays (create m) w = stays-or w _ _ refl
 refused-stays reset w = stays-or w _ _ refl
 refused-stays (write n v) w = stays-or w _ _ refl
@@ -100,9 +100,9 @@ refused-stays (loopFrame f) w = stays-or w _ _ (frame-taken (said (frameTaken (w
 refused-stays (show side) w = λ _. refl
 
 pub one-frame-out : OneFrameOut
-unfolding step calls.accepted outcome refusedOr
+unfolding step calls.notRefused outcome refusedOr
 one-frame-out f w =
     let n = firstRefusal (checks (loopFrame f) w) in
-    by-cond (λ (d : Did). taken (d .said) ≡ true → isFrame (d .said) ≡ true) (eqb n 0) (calls.accepted (loopFrame f) w) (record { said = refused n; world = w })
+    by-cond (λ (d : Did). taken (d .said) ≡ true → isFrame (d .said) ≡ true) (eqb n 0) (calls.notRefused (loopFrame f) w) (record { said = refused n; world = w })
     (λ _ _. frame-answers (w .state) (w .rx) f)
     (λ _ e. e)

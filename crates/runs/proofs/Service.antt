@@ -170,10 +170,10 @@ module _ (w : World) (f : ℕ) where
   refused-right n k d e = let z : _≡_ {A = ℕ} 0 1 = cc in absurd (omega arith)
 
 pub service-bit : ServiceBit
-unfolding step refusedOr calls.accepted outcome
+unfolding step refusedOr calls.notRefused outcome
 service-bit f k d w B =
     let n = firstRefusal (checks (loopFrame f) w) in
-    by-cond (λ (x : Did). Right w f (x .said)) (eqb n 0) (calls.accepted (loopFrame f) w) (record { said = refused n; world = w })
+    by-cond (λ (x : Did). Right w f (x .said)) (eqb n 0) (calls.notRefused (loopFrame f) w) (record { said = refused n; world = w })
     (λ _. frame-right w f B)
     (λ _. refused-right w f n)
     k d

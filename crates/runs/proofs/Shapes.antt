@@ -21,7 +21,7 @@ use Rattle.line.specs.HoldingOff.{storedState}
 use Rattle.loops.specs.Sending.{ruleOf, removedState}
 use Rattle.bridge.specs.Calls.{Call, World}
 use Rattle.runs.specs.Observers.{dataFrame, arrived, accepted, lost, sent, left, handedOut}
-use Rattle.runs.specs.Run.{changes, empties, begins}
+use Rattle.runs.specs.Run.{changes, empties, startsAnew}
 
 -- all that is seen of a call
 pub record Seen : Type 0 where
@@ -33,7 +33,7 @@ pub record Seen : Type 0 where
   pub handed : List ℕ
   pub changes : Bool
   pub empties : Bool
-  pub begins : Bool
+  pub startsAnew : Bool
 
 abbrev pub seen : Call → World → Said → Seen
 seen c w a =
@@ -46,7 +46,7 @@ seen c w a =
       handed = handedOut c w a;
       changes = changes c w a;
       empties = empties c w a;
-      begins = begins c w a;
+      startsAnew = startsAnew c w a;
     }
 
 -- the part of a state that runs are about
@@ -72,23 +72,23 @@ heart s =
 -- nothing is seen
 abbrev pub still : Seen
 still =
-    record { arrived = []; accepted = []; lost = []; sent = []; left = []; handed = []; changes = false; empties = false; begins = false }
+    record { arrived = []; accepted = []; lost = []; sent = []; left = []; handed = []; changes = false; empties = false; startsAnew = false }
 
 abbrev pub takes : List ℕ → List ℕ → List ℕ → Seen
 takes n a l =
-    record { arrived = n; accepted = a; lost = l; sent = []; left = []; handed = []; changes = false; empties = false; begins = false }
+    record { arrived = n; accepted = a; lost = l; sent = []; left = []; handed = []; changes = false; empties = false; startsAnew = false }
 
 abbrev pub frames : List ℕ → List ℕ → Bool → Seen
 frames s l c =
-    record { arrived = []; accepted = []; lost = []; sent = s; left = l; handed = []; changes = c; empties = c; begins = false }
+    record { arrived = []; accepted = []; lost = []; sent = s; left = l; handed = []; changes = c; empties = c; startsAnew = false }
 
 abbrev pub hands : List ℕ → Seen
 hands l =
-    record { arrived = []; accepted = []; lost = []; sent = []; left = []; handed = l; changes = false; empties = false; begins = false }
+    record { arrived = []; accepted = []; lost = []; sent = []; left = []; handed = l; changes = false; empties = false; startsAnew = false }
 
 abbrev pub begun : Bool → Bool → Seen
 begun x r =
-    record { arrived = []; accepted = []; lost = []; sent = []; left = []; handed = []; changes = x; empties = r; begins = r }
+    record { arrived = []; accepted = []; lost = []; sent = []; left = []; handed = []; changes = x; empties = r; startsAnew = r }
 
 abbrev pub Fits : World → Type 0
 Fits w = fits (w .state) (length (w .rx)) (length (w .tx)) ≡ true

@@ -31,7 +31,7 @@ use Rattle.state.specs.declared.Answer.the-variants.{Frame}
 use Rattle.state.specs.Answers.{Said, said, refused}
 use Rattle.state.specs.Status.{settled, serviced, breakState, keyState}
 use Rattle.state.specs.Status as status
-use Rattle.line.specs.HoldingOff.{isFlow, flowed, lostState, storedWith, lineState, resumed, setAfresh, afterWrite, nextOut, goneState}
+use Rattle.line.specs.HoldingOff.{isGoOrStop, flowed, lostState, storedWith, lineState, resumed, setAfresh, afterWrite, nextOut, goneState}
 use Rattle.loops.specs.LoopToLine.{leftState}
 use Rattle.loops.specs.Sending.{ruleOf, removedState, sendState, sendFrom, sendStatus, talking, ended}
 use Rattle.loops.specs.Frames.{isClear, orderIn, obeyed, commandState, command, finishing, readied, ready, returned, dataPassed, identify, frameTaken, deviceClear}
@@ -237,8 +237,8 @@ module _ (w : World) (f : ℕ) where
       (λ D. by-cond FrameKind (eqb (controlOf f) 4) _ _ command-kind
       (λ C. by-cond FrameKind (eqb (controlOf f) 5) _ _ (ready-kind D C) (identify-kind D C)))
 
-  frame-kind : Kind (loopFrame f) w (calls.accepted (loopFrame f) w .said) (part (calls.accepted (loopFrame f) w .world .state))
-  unfolding calls.accepted outcome settledBy settled
+  frame-kind : Kind (loopFrame f) w (calls.notRefused (loopFrame f) w .said) (part (calls.notRefused (loopFrame f) w .world .state))
+  unfolding calls.notRefused outcome settledBy settled
   frame-kind = by-clear (deviceClear (w .state) f) frame-taken
     where
       o : Outcome
@@ -253,7 +253,7 @@ module _ (w : World) (f : ℕ) where
 line-left : (s : State) (b : ℕ) → Left s (part (lineState s b))
 unfolding lineState flowed lostState storedWith
 line-left s b =
-    by-cond (λ (t : State). Left s (part t)) (isFlow (s .regs) b) _ _ (λ _. same s _ refl)
+    by-cond (λ (t : State). Left s (part t)) (isGoOrStop (s .regs) b) _ _ (λ _. same s _ refl)
     (λ _. by-cond (λ (t : State). Left s (part t)) (full (s .sizes .rx) (s .rx)) _ _
     (λ _. record { talker = refl; frame = refl; seen = noting overrun (s .notes .seen); again = noting overrun (s .notes .again) })
     (λ _. same s _ refl))
@@ -288,7 +288,7 @@ unfolding refusedOr
 refused-or c w n d k = by-cond (Did-kind c w) (eqb n 0) d (record { said = refused n; world = w }) (λ _. k) (λ _. refused-kind c w n)
 
 pub kind : (c : Call) (w : World) → Kind c w (answer c w) (part (after c w .state))
-unfolding step calls.accepted outcome settledBy settled said statusSent endsWay restarts breakState keyState
+unfolding step calls.notRefused outcome settledBy settled said statusSent endsWay restarts breakState keyState
 kind (create m) w = refused-or (create m) w _ _ (begins refl)
 kind reset w = refused-or reset w _ _ (begins refl)
 kind (write n v) w = refused-or (write n v) w _ _ (goesOn refl refl (write-left (w .state) n v))

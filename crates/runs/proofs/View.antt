@@ -62,7 +62,7 @@ fitting false k e = absurd (omega arith)
 -- ---- every call
 
 pub view : (c : Call) (w : World) → Shaped w c (step c w)
-unfolding step checks calls.accepted outcome settledBy rxAfter txAfter settled said arrived sent left handedOut restarts writes clears breakState keyState
+unfolding step checks calls.notRefused outcome settledBy rxAfter txAfter settled said arrived sent left handedOut restarts writes clears breakState keyState
 view (create m) w = refused-or w (create m) _ _ (λ e. quietly (create m) w done _ _ _ refl (isBegun m))
 view reset w = refused-or w reset _ _ (λ e. quietly reset w done _ _ _ refl (isBegun (w .state .sizes .margin)))
 view (write n v) w = refused-or w (write n v) _ _ (λ e. write-shape w n v)

@@ -6,7 +6,7 @@ use mathlib.Core.List.{List, _++_}
 use lib.ListN.{length}
 use Rattle.bridge.specs.Calls.{Call, World}
 use Rattle.runs.specs.Observers.{accepted, lost, sent}
-use Rattle.runs.specs.Run.{answer, after, end, all, Without, begins}
+use Rattle.runs.specs.Run.{answer, after, end, all, Without, startsAnew}
 use Rattle.runs.specs.Worlds.{heldToSend, Bytes}
 
 -- "bytes stored in the receive store, bytes lost, data frames sent from the receive store"
@@ -37,7 +37,7 @@ pub record Small (w : World) : Type 0 where
 
 -- from any counts: each has gone up by what the run accepted, lost and sent
 abbrev pub CountsGo : Type 0
-CountsGo = (cs : List Call) (w : World) → Without begins cs w → Bytes (heldToSend w ++ all accepted cs w) → Small w → Counted cs w (end cs w)
+CountsGo = (cs : List Call) (w : World) → Without startsAnew cs w → Bytes (heldToSend w ++ all accepted cs w) → Small w → Counted cs w (end cs w)
 
 -- "three counts since create or reset": "bytes stored in the receive store, bytes lost, data frames sent from the receive store"
 pub record CountedSince (cs : List Call) (v w : World) : Type 0 where
@@ -48,5 +48,5 @@ pub record CountedSince (cs : List Call) (v w : World) : Type 0 where
 -- "since create or reset", whatever calls follow it
 abbrev pub CountsSince : Type 0
 CountsSince =
-    (c : Call) (w : World) → begins c w (answer c w) ≡ true → (cs : List Call) → Without begins cs (after c w) →
+    (c : Call) (w : World) → startsAnew c w (answer c w) ≡ true → (cs : List Call) → Without startsAnew cs (after c w) →
     Bytes (all accepted cs (after c w)) → CountedSince cs (after c w) (end cs (after c w))

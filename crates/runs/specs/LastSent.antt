@@ -9,7 +9,7 @@ use Rattle.state.specs.Answers.{Said}
 use Rattle.line.specs.HoldingOff.{owed}
 use Rattle.bridge.specs.Calls.{Call, create, reset, write, lineByte, lineBreak, key, nextLineByte, loopFrame, show, World}
 use Rattle.runs.specs.Observers.{lineByteOf}
-use Rattle.runs.specs.Run.{answer, after, end, Without, begins}
+use Rattle.runs.specs.Run.{answer, after, end, Without, startsAnew}
 
 -- ---- here k is whether the last of go and stop we sent was stop
 
@@ -48,10 +48,10 @@ recorded w = w .state .line .stopped
 
 -- from any world: what is recorded at the end is the last of go and stop sent in the run, or what was recorded at its start
 abbrev pub LastKept : Type 0
-LastKept = (cs : List Call) (w : World) → Without begins cs w → recorded (end cs w) ≡ lastSent (recorded w) cs w
+LastKept = (cs : List Call) (w : World) → Without startsAnew cs w → recorded (end cs w) ≡ lastSent (recorded w) cs w
 
 -- "at start: go"
 abbrev pub LastSince : Type 0
 LastSince =
-    (c : Call) (w : World) → begins c w (answer c w) ≡ true → (cs : List Call) → Without begins cs (after c w) →
+    (c : Call) (w : World) → startsAnew c w (answer c w) ≡ true → (cs : List Call) → Without startsAnew cs (after c w) →
     recorded (end cs (after c w)) ≡ lastSent false cs (after c w)

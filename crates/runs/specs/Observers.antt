@@ -8,8 +8,8 @@ use Rattle.role.specs.Parts.{addressed, activeData, isActive}
 use Rattle.store.specs.Ring.{full}
 use Rattle.state.specs.declared.State.{State}
 use Rattle.state.specs.Answers.{Said, done, none, byte, frame, refused, part}
-use Rattle.line.specs.HoldingOff.{isFlow, owed}
-use Rattle.loops.specs.LoopToLine.{leaves}
+use Rattle.line.specs.HoldingOff.{isGoOrStop, owed}
+use Rattle.loops.specs.LoopToLine.{adds}
 use Rattle.bridge.specs.Calls.{Call, create, reset, write, lineByte, lineBreak, key, nextLineByte, loopFrame, show, World}
 
 -- ---- answers
@@ -94,7 +94,7 @@ isDeviceClear s f = eqb (controlOf f) 4 && (eqb (dataOf f) 20 || (eqb (dataOf f)
 
 -- the data byte that arrives: "With R11 bit 3 on, a line byte equal to go or stop" is none
 unfoldable pub arrived : Call → World → Said → List ℕ
-arrived (lineByte b) w a = cond (taken a && not (isFlow (w .state .regs) b)) (b ∷ []) []
+arrived (lineByte b) w a = cond (taken a && not (isGoOrStop (w .state .regs) b)) (b ∷ []) []
 arrived (create m) w a = []
 arrived reset w a = []
 arrived (write n v) w a = []
@@ -125,7 +125,7 @@ statusSent c w a = onFrame (λ f. cond (asksStatus (w .state) f) (dataFrame a) [
 
 -- the line bytes that the loop left: "A listener adds the byte; for an end byte with R10 bit 2 on, then C02 and C03."
 unfoldable pub left : Call → World → Said → List ℕ
-left c w a = onFrame (λ f. cond (taken a && (isData f && w .state .role .listener)) (leaves (w .state .regs) f) []) [] c
+left c w a = onFrame (λ f. cond (taken a && (isData f && w .state .role .listener)) (adds (w .state .regs) f) []) [] c
 
 -- the line byte handed out, "our own go and stop aside": it is our own "If the last of go and stop we sent .. differs from what holds"
 unfoldable pub handedOut : Call → World → Said → List ℕ

@@ -45,8 +45,8 @@ abbrev pub empties : Call → World → Said → Bool
 empties c w a = restarts c a || clears c w a
 
 -- "since create or reset"
-abbrev pub begins : Call → World → Said → Bool
-begins c w a = restarts c a
+abbrev pub startsAnew : Call → World → Said → Bool
+startsAnew c w a = restarts c a
 
 -- ---- spells of holding off
 

@@ -41,7 +41,7 @@ unfolding fits
 fits-met s a b z g r x y ez eg er ex ey = rw (ez, eg, er, ex, ey)
 
 pub enabled-met : (g : Registers) (a b c d e f h : Bool) → a ≡ transmitEmptyEnabled g → b ≡ transmitNotFullEnabled g → c ≡ receiveNotEmptyEnabled g → d ≡ receiveFullEnabled g → e ≡ breakEnabled g → f ≡ overrunEnabled g → h ≡ keyEnabled g →
-    record { txempty = a; txroom = b; rxsome = c; rxfull = d; brk = e; overrun = f; key = h } ≡ enabledBy g
+    record { txempty = a; txnotfull = b; rxnotempty = c; rxfull = d; brk = e; overrun = f; key = h } ≡ enabledBy g
 unfolding enabledBy
 enabled-met g a b c d e f h ea eb ec ed ee ef eh = rw (ea, eb, ec, ed, ee, ef, eh)
 

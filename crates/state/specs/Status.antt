@@ -17,8 +17,8 @@ unfoldable pub conditions : State → Conditions
 conditions s =
     record {
       txempty = eqb (s .tx .len) 0;
-      txroom = ltb (s .tx .len) (s .sizes .tx);
-      rxsome = ltb 0 (s .rx .len);
+      txnotfull = ltb (s .tx .len) (s .sizes .tx);
+      rxnotempty = ltb 0 (s .rx .len);
       rxfull = full (s .sizes .rx) (s .rx);
       brk = s .notes .seen .brk;
       overrun = s .notes .seen .overrun;
@@ -30,8 +30,8 @@ unfoldable pub enabledBy : Registers → Conditions
 enabledBy g =
     record {
       txempty = transmitEmptyEnabled g;
-      txroom = transmitNotFullEnabled g;
-      rxsome = receiveNotEmptyEnabled g;
+      txnotfull = transmitNotFullEnabled g;
+      rxnotempty = receiveNotEmptyEnabled g;
       rxfull = receiveFullEnabled g;
       brk = breakEnabled g;
       overrun = overrunEnabled g;

@@ -14,8 +14,8 @@ fn conditions(s: State) -> Conditions
 {
     Conditions {
         txempty: s.tx.len == 0,
-        txroom: s.tx.len < s.sizes.tx,
-        rxsome: 0 < s.rx.len,
+        txnotfull: s.tx.len < s.sizes.tx,
+        rxnotempty: 0 < s.rx.len,
         rxfull: s.sizes.rx <= s.rx.len,
         brk: s.notes.seen.brk,
         overrun: s.notes.seen.overrun,
@@ -29,8 +29,8 @@ fn enabled(g: Registers) -> Conditions
 {
     Conditions {
         txempty: registers::transmit_empty_enabled(g),
-        txroom: registers::transmit_not_full_enabled(g),
-        rxsome: registers::receive_not_empty_enabled(g),
+        txnotfull: registers::transmit_not_full_enabled(g),
+        rxnotempty: registers::receive_not_empty_enabled(g),
         rxfull: registers::receive_full_enabled(g),
         brk: registers::break_enabled(g),
         overrun: registers::overrun_enabled(g),

@@ -8,7 +8,7 @@ use Rattle.status.specs.declared.Events.{Events}
 -- "Bit 0 transmit empty, 1 transmit not full, 2 receive not empty, 3 receive full, 4 break, 5 overrun, 6 service requested, 7 MSRQ pressed."
 unfoldable pub statusByte : Conditions → Bool → ℕ
 statusByte c requested =
-    ((cond (c .txempty) 1 0 + cond (c .txroom) 2 0) + cond (c .rxsome) 4 0 + cond (c .rxfull) 8 0)
+    ((cond (c .txempty) 1 0 + cond (c .txnotfull) 2 0) + cond (c .rxnotempty) 4 0 + cond (c .rxfull) 8 0)
     + ((cond (c .brk) 16 0 + cond (c .overrun) 32 0) + cond requested 64 0 + cond (c .key) 128 0)
 
 -- a condition is enabled and holds
@@ -16,8 +16,8 @@ abbrev pub both : Conditions → Conditions → Conditions
 both e c =
     record {
       txempty = e .txempty && c .txempty;
-      txroom = e .txroom && c .txroom;
-      rxsome = e .rxsome && c .rxsome;
+      txnotfull = e .txnotfull && c .txnotfull;
+      rxnotempty = e .rxnotempty && c .rxnotempty;
       rxfull = e .rxfull && c .rxfull;
       brk = e .brk && c .brk;
       overrun = e .overrun && c .overrun;
@@ -31,7 +31,7 @@ comes before after = after && not before
 -- "A request begins when an enabled condition comes to hold that was not enabled-and-holding before the call"
 abbrev pub begins : Conditions → Conditions → Bool
 begins b a =
-    (((((comes (b .txempty) (a .txempty) || comes (b .txroom) (a .txroom)) || comes (b .rxsome) (a .rxsome)) || comes (b .rxfull) (a .rxfull))
+    (((((comes (b .txempty) (a .txempty) || comes (b .txnotfull) (a .txnotfull)) || comes (b .rxnotempty) (a .rxnotempty)) || comes (b .rxfull) (a .rxfull))
     || comes (b .brk) (a .brk)) || comes (b .overrun) (a .overrun)) || comes (b .key) (a .key)
 
 -- the status byte showed its bit of this worth

@@ -7,8 +7,8 @@ ghost use Rattle.status.specs.Status.{statusByte, both, begins, acknowle
 // The seven conditions that can ask for service: which of them hold, or which are enabled.
 pub struct Conditions {
     pub txempty: bool,
-    pub txroom: bool,
-    pub rxsome: bool,
+    pub txnotfull: bool,
+    pub rxnotempty: bool,
     pub rxfull: bool,
     pub brk: bool,
     pub overrun: bool,
@@ -33,7 +33,10 @@ fn worth(t: bool, v: u8) -> u8
 pub fn status_byte(c: Conditions, requested: bool) -> u8
     ensures { λ r. ⌜ r ≡ statusByte c requested ⌝ }
 {
-    let low = worth(c.txempty, 1) + worth(c.txroom, 2) + worth(c.rxsome, 4) + worth(c.rxfull, 8);
+    let low = worth(c.txempty, 1)
+        + worth(c.txnotfull, 2)
+        + worth(c.rxnotempty, 4)
+        + worth(c.rxfull, 8);
     let high = worth(c.brk, 16) + worth(c.overrun, 32) + worth(requested, 64) + worth(c.key, 128);
     low + high
 }
@@ -44,8 +47,8 @@ pub fn enabled_and_holding(e: Conditions, c: Conditions) -> Conditions
 {
     Conditions {
         txempty: e.txempty & c.txempty,
-        txroom: e.txroom & c.txroom,
-        rxsome: e.rxsome & c.rxsome,
+        txnotfull: e.txnotfull & c.txnotfull,
+        rxnotempty: e.rxnotempty & c.rxnotempty,
         rxfull: e.rxfull & c.rxfull,
         brk: e.brk & c.brk,
         overrun: e.overrun & c.overrun,
@@ -58,8 +61,8 @@ pub fn request_begins(b: Conditions, a: Conditions) -> bool
     ensures { λ r. ⌜ r ≡ begins b a ⌝ }
 {
     (a.txempty & !b.txempty)
-        | (a.txroom & !b.txroom)
-        | (a.rxsome & !b.rxsome)
+        | (a.txnotfull & !b.txnotfull)
+        | (a.rxnotempty & !b.rxnotempty)
         | (a.rxfull & !b.rxfull)
         | (a.brk & !b.brk)
         | (a.overrun & !b.overrun)
