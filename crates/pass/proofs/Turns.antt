@@ -1,5 +1,5 @@
 -- One turn of each loop, on plain values: what is left to do from here is what was to be done. Assumes nothing.
-use Prim.Native.Nat.{ℕ, zero, suc, _+_, _-_, _*_, _≤_, _<_}
+use Prim.Native.Nat.{ℕ, suc, _+_, _-_, _*_, _≤_, _<_}
 use native.Mathlib.Omega.{arith}
 use mathlib.Core.Path.{_≡_, refl, sym, ap, _∙_}
 use mathlib.Core.Bool.{Bool, true, false, cond, not}
@@ -20,6 +20,9 @@ use Rattle.pass.proofs.Writing.{over-then, over-none}
 none-left : (n : ℕ) → n ≤ 0 → n ≡ 0
 none-left n h = omega arith
 
+one-left : (n : ℕ) → 0 < n → n ≡ suc (n - 1)
+one-left n h = omega arith
+
 -- ---- registers
 
 module _ (x : List ℕ) (rx tx : List ℕ) where
@@ -28,8 +31,7 @@ module _ (x : List ℕ) (rx tx : List ℕ) where
       (setRegisters (n - 1) x (i + 2) (step (write (getD x i 0) (getD x (i + 1) 0)) w .world))
       (record { state = w .state; fault = faultOf (step (write (getD x i 0) (getD x (i + 1) 0)) w .said) })
   unfolding setRegisters
-  set-step zero i w h = absurd (omega arith)
-  set-step (suc k) i w h = let e : suc k - 1 ≡ k = omega arith in rw e
+  set-step n i w h = ap (λ (k : ℕ). setRegisters k x i w) (one-left n h)
 
   module _ (t : State) (i n a b : ℕ) (o : Outcome) (p : a ≡ getD x i 0) (q : b ≡ getD x (i + 1) 0)
       (e : did o rx tx ≡ step (write a b) (world t rx tx)) where
@@ -56,8 +58,7 @@ module _ (x : List ℕ) (rx tx : List ℕ) where
 
 take-step : (x : List ℕ) (n i : ℕ) (w : World) → 0 < n → takeBytes n x i w ≡ takeBytes (n - 1) x (i + 1) (step (lineByte (getD x i 0)) w .world)
 unfolding takeBytes
-take-step x zero i w h = absurd (omega arith)
-take-step x (suc k) i w h = let e : suc k - 1 ≡ k = omega arith in rw e
+take-step x n i w h = ap (λ (k : ℕ). takeBytes k x i w) (one-left n h)
 
 pub take-again : (x rx rx′ tx : List ℕ) (t : State) (i n : ℕ) (o : Outcome) {total : World} → 0 < n → did o rx′ tx ≡ step (lineByte (getD x i 0)) (world t rx tx) →
     takeBytes n x i (world t rx tx) ≡ total → takeBytes (n - 1) x (i + 1) (world (o .state) rx′ tx) ≡ total
@@ -73,13 +74,11 @@ take-ends x w i n h inv = ap (λ (k : ℕ). takeBytes k x i w) (sym (none-left n
 frames-step : (x : List ℕ) (n i : ℕ) (w : World) → 0 < n →
     framesText n x i w ≡ answerText (step (loopFrame (high x i)) w .said) ++ framesText (n - 1) x (i + 2) (step (loopFrame (high x i)) w .world)
 unfolding framesText
-frames-step x zero i w h = absurd (omega arith)
-frames-step x (suc k) i w h = let e : suc k - 1 ≡ k = omega arith in rw e
+frames-step x n i w h = ap (λ (k : ℕ). framesText k x i w) (one-left n h)
 
 world-step : (x : List ℕ) (n i : ℕ) (w : World) → 0 < n → framesWorld n x i w ≡ framesWorld (n - 1) x (i + 2) (step (loopFrame (high x i)) w .world)
 unfolding framesWorld
-world-step x zero i w h = absurd (omega arith)
-world-step x (suc k) i w h = let e : suc k - 1 ≡ k = omega arith in rw e
+world-step x n i w h = ap (λ (k : ℕ). framesWorld k x i w) (one-left n h)
 
 -- a text that is still to be written from k on: with what is written already, all of it from `to` on
 pub record Rest (out₀ : List ℕ) (to : ℕ) (all : List ℕ) (out : List ℕ) (k : ℕ) (left : List ℕ) : Type 0 where
@@ -144,8 +143,7 @@ offer-ends {x} {rx} {tx₀} {i} {n} {out₀} {to} {t₀} {tx} {out} {t} {at} {le
 
 line-step : (n : ℕ) (w : World) → 0 < n → lineOut n w ≡ cond (isByte (step nextLineByte w .said)) (byteIn (step nextLineByte w .said) ∷ lineOut (n - 1) (step nextLineByte w .world)) []
 unfolding lineOut
-line-step zero w h = absurd (omega arith)
-line-step (suc k) w h = let e : suc k - 1 ≡ k = omega arith in rw e
+line-step n w h = ap (λ (k : ℕ). lineOut k w) (one-left n h)
 
 module _ (rx tx : List ℕ) (t : State) (n : ℕ) (o : Outcome) (r : Bool) (h : 0 < n) (e : did o rx tx ≡ step nextLineByte (world t rx tx)) (b : r ≡ isByte (said (o .answer))) where
   line-is : lineOut n (world t rx tx) ≡ cond (isByte (said (o .answer))) (byteIn (said (o .answer)) ∷ lineOut (n - 1) (world (o .state) rx tx)) []
