@@ -15,6 +15,7 @@ use state::Under;
 use status::Events;
 use store::Ring;
 
+// A byte in more bits, here and in the next two: the caller is asked only for the place that it is read from.
 fn wide(x: u8) -> usize
     ensures { λ r. ⌜ (r ≡ x) × (r < 256) ⌝ }
 {

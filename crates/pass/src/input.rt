@@ -5,6 +5,7 @@ ghost use lib.ListN.{length};
 ghost use Rattle.pass.specs.Input.{high, malformed, sectionsOf, secondOf, thirdOf};
 use crate::Sections;
 
+// A byte in more bits: the caller is asked only for the place that it is read from.
 fn wide(x: u8) -> usize
     ensures { λ r. ⌜ (r ≡ x) × (r < 256) ⌝ }
 {

@@ -9,6 +9,7 @@ use crate::Offered;
 use crate::Set;
 use state::State;
 
+// A byte in more bits: the caller is asked only for the place that it is read from.
 fn wide32(x: u8) -> u32
     ensures { λ r. ⌜ r ≡ x ⌝ }
 {

@@ -46,6 +46,7 @@ pub fn put_number(out: &mut [u8], at: usize, n: u16) -> usize
     put(out, j, ones)
 }
 
+// A byte in more bits: the caller is asked for no proof that it fits them.
 fn wide16(x: u8) -> u16
     ensures { λ r. ⌜ (r ≡ x) × (r < 256) ⌝ }
 {
