@@ -20,3 +20,11 @@ pub mod LastSent
 pub mod Counts
 pub mod Service
 pub mod Refused
+pub mod StatusTold
+pub mod OwnGiven
+pub mod Ours
+pub mod SendRule
+pub mod Since
+pub mod Cleared
+pub mod Requests
+pub mod Holding

@@ -5,7 +5,7 @@ use mathlib.Core.Path.{_≡_, refl}
 use mathlib.Core.Bool.{Bool, true, false, cond, _||_}
 use lib.Dec.{eqb}
 use lib.ListN.{getD}
-use borrow.Author.Tests.{leb-true, leb-false}
+use borrow.Author.Tests.{leb-true, leb-false, eq-eqb}
 use Rattle.registers.specs.declared.Registers.{Registers}
 use Rattle.registers.specs.Meanings.{go, stop}
 use Rattle.registers.specs.Writing.{written}
@@ -48,12 +48,15 @@ module _ (w : World) (F : Fits w) where
   next-shape =
       quietly nextLineByte w _ _ _ _ refl (by-tests (owed (w .state .line)) (w .state .line .forbidden || eqb (w .state .tx .len) 0) refl refl)
     where
+      own : ℕ
+      own = cond (w .state .line .holding) (stop (w .state .regs)) (go (w .state .regs))
+
       out : Bool → Bool → Out
       out t u = cond t (Own (cond (w .state .line .holding) (stop (w .state .regs)) (go (w .state .regs)))) (cond u Nothing (Held (getD (held (w .tx) (w .state .tx)) 0 0)))
 
       by-tests : (t u : Bool) → owed (w .state .line) ≡ t → (w .state .line .forbidden || eqb (w .state .tx .len) 0) ≡ u →
           Shape w (quiet nextLineByte w (said (outAnswer (out t u)))) (heart (goneState (w .state) (out t u))) (w .rx) (w .tx)
-      by-tests true u o e = simp o isStill
+      by-tests true u o e = simp (o, eq-eqb own own refl) isStill
       by-tests false true o e = simp o isStill
       by-tests false false o e = simp o (isHanded F (some-held (w .state) (w .tx) e))
 

@@ -52,7 +52,7 @@ return-answers s rx f =
     (λ _. by-cond Answers (s .under .finishing) _ _ (λ _. refl) (λ _. send-answers s _ _)))
     (λ _. refl)
 
-frame-answers : (s : State) (rx : List ℕ) (f : ℕ) → Answers (frameTaken s rx f)
+pub frame-answers : (s : State) (rx : List ℕ) (f : ℕ) → Answers (frameTaken s rx f)
 unfolding frameTaken command ready identify dataPassed said
 frame-answers s rx f =
     by-cond Answers (isData f) _ _
@@ -61,7 +61,7 @@ frame-answers s rx f =
     (λ _. by-cond Answers (eqb (controlOf f) 5) _ _ (λ _. ready-answers s rx f (readyOf (s .role) _)) (λ _. refl)))
 
 -- a frame is no refusal
-frame-taken : (a : Said) → isFrame a ≡ true → taken a ≡ true
+pub frame-taken : (a : Said) → isFrame a ≡ true → taken a ≡ true
 frame-taken done e = refl
 frame-taken none e = refl
 frame-taken (byte b) e = refl

@@ -4,12 +4,12 @@ use mathlib.Core.Path.{_≡_}
 use mathlib.Core.Bool.{Bool, true, false, cond}
 use mathlib.Core.List.{List, [], _∷_}
 use lib.Dec.{eqb}
-use Rattle.registers.specs.Meanings.{stop}
-use Rattle.state.specs.Answers.{Said}
+use Rattle.registers.specs.Meanings.{go, stop}
+use Rattle.state.specs.Answers.{Said, byte}
 use Rattle.line.specs.HoldingOff.{owed}
 use Rattle.bridge.specs.Calls.{Call, create, reset, write, lineByte, lineBreak, key, nextLineByte, loopFrame, show, World}
-use Rattle.runs.specs.Observers.{lineByteOf}
-use Rattle.runs.specs.Run.{answer, after, end, Without, startsAnew}
+use Rattle.runs.specs.Observers.{taken, lineByteOf}
+use Rattle.runs.specs.Run.{answer, after, end, Without, startsAnew, holdsOff}
 
 -- ---- here k is whether the last of go and stop we sent was stop
 
@@ -55,3 +55,14 @@ abbrev pub LastSince : Type 0
 LastSince =
     (c : Call) (w : World) → startsAnew c w (answer c w) ≡ true → (cs : List Call) → Without startsAnew cs (after c w) →
     recorded (end cs (after c w)) ≡ lastSent false cs (after c w)
+
+-- ---- our own character
+
+-- "If the last of go and stop we sent (at start: go) differs from what holds, the next line byte is that character, before all else"
+abbrev pub OwnGiven : Type 0
+OwnGiven =
+    (c : Call) (w : World) → startsAnew c w (answer c w) ≡ true → (cs : List Call) → Without startsAnew cs (after c w) →
+    taken (answer nextLineByte (end cs (after c w))) ≡ true →
+    isOwn (lastSent false cs (after c w)) (end cs (after c w)) ≡ true →
+    answer nextLineByte (end cs (after c w))
+    ≡ byte (cond (holdsOff (end cs (after c w))) (stop (end cs (after c w) .state .regs)) (go (end cs (after c w) .state .regs)))

@@ -4,6 +4,7 @@ use mathlib.Core.Bool.{Bool, true, false, cond, _&&_, _||_, not}
 use mathlib.Core.List.{List, [], _∷_}
 use lib.Dec.{eqb, ltb}
 use Rattle.frame.specs.Frame.{controlOf, dataOf, made, isData, stripped, sameApart}
+use Rattle.registers.specs.Meanings.{go, stop}
 use Rattle.role.specs.Parts.{addressed, activeData, isActive}
 use Rattle.store.specs.Ring.{full}
 use Rattle.state.specs.declared.State.{State}
@@ -127,9 +128,16 @@ statusSent c w a = onFrame (λ f. cond (asksStatus (w .state) f) (dataFrame a) [
 unfoldable pub left : Call → World → Said → List ℕ
 left c w a = onFrame (λ f. cond (taken a && (isData f && w .state .role .listener)) (adds (w .state .regs) f) []) [] c
 
--- the line byte handed out, "our own go and stop aside": it is our own "If the last of go and stop we sent .. differs from what holds"
+-- without our own character, the one that is owed
+abbrev pub others : ℕ → List ℕ → List ℕ
+others x [] = []
+others x (b ∷ bs) = cond (eqb b x) bs (b ∷ bs)
+
+-- the line byte handed out, "our own go and stop aside": it is our own "If the last of go and stop we sent .. differs from what holds",
+-- and it "is that character"; any other byte that is answered there is handed out
 unfoldable pub handedOut : Call → World → Said → List ℕ
-handedOut nextLineByte w a = cond (owed (w .state .line)) [] (lineByteOf a)
+handedOut nextLineByte w a =
+    cond (owed (w .state .line)) (others (cond (w .state .line .holding) (stop (w .state .regs)) (go (w .state .regs))) (lineByteOf a)) (lineByteOf a)
 handedOut (create m) w a = []
 handedOut reset w a = []
 handedOut (write n v) w a = []

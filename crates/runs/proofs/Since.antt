@@ -1,0 +1,37 @@
+-- What is read since the receive store was emptied. Assumes nothing.
+use Prim.Native.Nat.{ℕ}
+use mathlib.Core.Path.{_≡_, sym, ap, subst, _∙_}
+use mathlib.Core.Bool.{true, false, false≢true}
+use mathlib.Core.List.{List, [], _++_}
+use Rattle.store.specs.Ring.{held}
+use Rattle.store.proofs.Laws.{held-empty}
+use Rattle.state.specs.Sizes.{startState}
+use Rattle.bridge.specs.Calls.{World}
+use Rattle.runs.specs.Observers.{accepted}
+use Rattle.runs.specs.Run.{answer, after, all}
+use Rattle.runs.specs.Worlds.{heldToSend, reading, Bytes}
+use Rattle.runs.specs.SendRule.{FramesSince}
+use Rattle.runs.proofs.Shapes.{Seen, seen, Heart, heart, Shape, isStill, isBegun, isWritten, isCleared, isStored, isLost, isSent, isNone, isLeft, isHanded}
+use Rattle.runs.proofs.View.{view}
+use Rattle.runs.proofs.FramesRead.{frames-read}
+
+emptied : (w : World) (x : Seen) (h : Heart) (rx tx : List ℕ) → Shape w x h rx tx → x .empties ≡ true → held rx (h .rx) ≡ []
+unfolding startState
+emptied w x h rx tx isStill n = absurd (false≢true n)
+emptied w x h rx tx (isBegun m) n = held-empty (w .rx)
+emptied w x h rx tx (isWritten g t) n = absurd (false≢true n)
+emptied w x h rx tx isCleared n = held-empty (w .rx)
+emptied w x h rx tx (isStored b F l) n = absurd (false≢true n)
+emptied w x h rx tx (isLost b l) n = absurd (false≢true n)
+emptied w x h rx tx (isSent f r F e) n = absurd (false≢true n)
+emptied w x h rx tx (isNone r F e) n = absurd (false≢true n)
+emptied w x h rx tx (isLeft l F e) n = absurd (false≢true n)
+emptied w x h rx tx (isHanded F e) n = absurd (false≢true n)
+
+pub frames-since : FramesSince
+frames-since c w e cs n B =
+    frames-read cs (after c w) n (subst (λ (l : List ℕ). Bytes (l ++ all accepted cs (after c w))) (sym none) B)
+    ∙ ap (λ (l : List ℕ). reading (after c w) (l ++ all accepted cs (after c w))) none
+  where
+    none : heldToSend (after c w) ≡ []
+    none = emptied w (seen c w (answer c w)) (heart (after c w .state)) (after c w .rx) (after c w .tx) (view c w) e
