@@ -14,7 +14,7 @@ use store::Ring;
 fn is_go_or_stop(g: Registers, b: u8) -> bool
     ensures { λ r. ⌜ r ≡ isGoOrStop g b ⌝ }
 {
-    registers::protocol_on(g) & ((b == g.c04) | (b == g.c05))
+    registers::meanings::protocol_on(g) & ((b == g.c04) | (b == g.c05))
 }
 
 // Go permits our sending and stop forbids it.
@@ -45,7 +45,7 @@ fn stored(s: State, ring: Ring) -> State
     let count = std::num::wrapping_add_u32(s.counts.stored, 1);
     t.counts.stored = count;
     let near = scarce(t);
-    let holding = s.line.holding | (registers::protocol_on(s.regs) & near);
+    let holding = s.line.holding | (registers::meanings::protocol_on(s.regs) & near);
     t.line.holding = holding;
     t
 }
@@ -98,7 +98,7 @@ pub fn after_write(s: State, n: u32, g: Registers) -> State
     t.regs = g;
     if n == 11 {
         let near = scarce(t);
-        let holding = registers::protocol_on(g) & near;
+        let holding = registers::meanings::protocol_on(g) & near;
         t.line.holding = holding;
         t.line.forbidden = false;
         return t;

@@ -18,7 +18,7 @@ pub mod talk;
 fn added(g: Registers, f: u16) -> usize
     ensures { λ r. ⌜ r ≡ length (adds g f) ⌝ }
 {
-    if frame::is_end(f) & registers::end_inserted(g) {
+    if frame::is_end(f) & registers::meanings::end_inserted(g) {
         3
     } else {
         1
@@ -43,7 +43,7 @@ fn leave(s: State, tx: &mut [u8], f: u16) -> State
     let d = frame::data_byte(f);
     let first = store::put(tx, s.tx, d);
     let one = first.ring;
-    if frame::is_end(f) & registers::end_inserted(s.regs) {
+    if frame::is_end(f) & registers::meanings::end_inserted(s.regs) {
         let second = store::put(tx, one, s.regs.c02);
         let two = second.ring;
         let third = store::put(tx, two, s.regs.c03);

@@ -36,7 +36,7 @@ fn rule_of(g: Registers) -> Rule
     ensures { λ r. ⌜ r ≡ ruleOf g ⌝ }
 {
     Rule {
-        on: registers::end_detected(g),
+        on: registers::meanings::end_detected(g),
         c00: g.c00,
         c01: g.c01,
     }

@@ -28,13 +28,13 @@ fn enabled(g: Registers) -> Conditions
     ensures { λ r. ⌜ r ≡ enabledBy g ⌝ }
 {
     Conditions {
-        txempty: registers::transmit_empty_enabled(g),
-        txnotfull: registers::transmit_not_full_enabled(g),
-        rxnotempty: registers::receive_not_empty_enabled(g),
-        rxfull: registers::receive_full_enabled(g),
-        brk: registers::break_enabled(g),
-        overrun: registers::overrun_enabled(g),
-        key: registers::key_enabled(g),
+        txempty: registers::meanings::transmit_empty_enabled(g),
+        txnotfull: registers::meanings::transmit_not_full_enabled(g),
+        rxnotempty: registers::meanings::receive_not_empty_enabled(g),
+        rxfull: registers::meanings::receive_full_enabled(g),
+        brk: registers::meanings::break_enabled(g),
+        overrun: registers::meanings::overrun_enabled(g),
+        key: registers::meanings::key_enabled(g),
     }
 }
 
@@ -60,7 +60,7 @@ pub fn settled(before: State, after: State) -> State
 pub fn shows(s: State) -> bool
     ensures { λ r. ⌜ r ≡ shows s ⌝ }
 {
-    registers::requests_show(s.regs) & s.notes.request
+    registers::meanings::requests_show(s.regs) & s.notes.request
 }
 
 // The frame with the service bit if a request shows, and as it was otherwise.
