@@ -86,7 +86,7 @@ abbrev Good : List ℕ → List ℕ → State → Type 0
 Good rx tx s = fits s (length rx) (length tx) ≡ true
 
 module _ (rx tx : List ℕ) where
-  -- requests, what happened, the line's flags and the counts have no part in fitting
+  -- requests, what happened, the line's flags and the counts have no part in fitting: where only these change, `fits` unfolds to the same
   settled-good : (s q : State) → Good rx tx q → Good rx tx (settled s q)
   unfolding fits settled
   settled-good s q e = e
