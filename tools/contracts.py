@@ -1,7 +1,7 @@
 """Holds every contract to its plain meaning.
 
 Usage: python3 tools/contracts.py [LOG]
-- No public call of the crates bridge and raftershim has a `requires`.
+- Every public call of the crates bridge and raftershim has an `ensures`, and none has a `requires`.
 - A name that a crate takes from a library comes from the one module of `HOME`, and no crate declares or renames one of these names: so
   `≡`, `<`, `length` and the like mean in every contract what the library says.
 - No crate declares an axiom.
@@ -39,9 +39,13 @@ PROVED = re.compile(r"^rt: (\w+) proved", re.M)
 AXIOMS = re.compile(r"^axioms \w+: (.*?) \(\d+ of the", re.M)
 
 
-def shut(path):
-    """Public calls of this file that ask something of their caller."""
-    return [f"{path}: {head.group(1)} has a requires" for head in HEAD.finditer(open(path, encoding="utf-8").read()) if "requires" in head.group(0)]
+def unpromised(path):
+    """Public calls of this file that promise nothing, or ask something of their caller."""
+    wrong = []
+    for head in HEAD.finditer(open(path, encoding="utf-8").read()):
+        wrong += [f"{path}: {head.group(1)} has a requires"] if "requires" in head.group(0) else []
+        wrong += [] if "ensures" in head.group(0) else [f"{path}: {head.group(1)} has no ensures"]
+    return wrong
 
 
 def own_meaning(path):
@@ -83,7 +87,7 @@ def main():
     wrong = []
     for crate in PUBLIC:
         for path in sorted(glob.glob(f"crates/{crate}/src/*.rt")):
-            wrong += shut(path)
+            wrong += unpromised(path)
     files = sorted(glob.glob("crates/*/src/*.rt") + glob.glob("crates/*/specs/**/*.antt", recursive=True) + glob.glob("crates/*/proofs/**/*.antt", recursive=True))
     for path in files:
         wrong += own_meaning(path)
