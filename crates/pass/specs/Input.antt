@@ -32,11 +32,12 @@ sections a b c = record { ok = true; regs = a; bytes = b; frames = c }
 abbrev pub counted : List ℕ → ℕ → Bool
 counted x i = leb (i + 2) (length x) && leb (high x i) 64
 
--- "Short or extra input, or a count above 64" is malformed; else the count at i decides
+-- input with no count at i, or with one above 64, is malformed; else that count decides
 unfoldable pub byCount : List ℕ → ℕ → (ℕ → Sections) → Sections
 byCount x i next = cond (counted x i) (next (high x i)) malformed
 
--- the numbers of items, when those of all three, two, one or none of the sections are read
+-- the numbers of items, when those of all three, two, one or none of the sections are read; "Short or extra input, or a count above 64"
+-- is malformed
 unfoldable pub endOf : List ℕ → ℕ → ℕ → ℕ → Sections
 endOf x a b c = cond (eqb (length x) (endAt a b c)) (sections a b c) malformed
 
