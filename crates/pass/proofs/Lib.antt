@@ -5,4 +5,5 @@ pub mod Parts
 pub mod Turns
 pub mod Whole
 pub mod Asks
+pub mod Start
 pub mod UntilNone
