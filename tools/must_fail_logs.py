@@ -14,6 +14,7 @@ import sys
 UNFIT = re.compile(
     r"that can be named from here|expected type `tie\.|not a `×` type|is not a function|too many arguments|BAD EDIT"
     r"|unexpected|parse error|not in scope|cannot be resolved|has no field|no occurrence of the path"
+    r"|is a declared record, built with|a λ needs a type here|binders, but its type has room"
 )
 ERROR = re.compile(r"error:|it is not proved that")
 IN_FUNCTION = re.compile(r"/proofs/(?:\w+/)?(\w+)/\w+\.antt:\d+:\d+: error:")

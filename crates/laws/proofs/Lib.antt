@@ -5,6 +5,7 @@ pub mod States
 pub mod Fitting
 pub mod OneResult
 pub mod Answers
+pub mod Order
 pub mod Places
 pub mod OneStore
 pub mod FramePlaces
