@@ -21,10 +21,10 @@ pub mod Counts
 pub mod Service
 pub mod Refused
 pub mod StatusTold
-pub mod OwnGiven
 pub mod Ours
 pub mod SendRule
 pub mod Since
 pub mod Cleared
 pub mod Requests
 pub mod Holding
+pub mod NextByte

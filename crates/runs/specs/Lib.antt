@@ -14,3 +14,4 @@ pub mod Service
 pub mod SendRule
 pub mod Requests
 pub mod Holding
+pub mod NextByte

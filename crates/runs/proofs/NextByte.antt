@@ -1,0 +1,55 @@
+-- The next line byte, and our own character when it is owed. Assumes nothing.
+use native.Mathlib.Omega.{arith}
+use Prim.Native.Nat.{ℕ, _-_}
+use mathlib.Core.Path.{_≡_, refl, sym, ap, _∙_}
+use mathlib.Core.Bool.{Bool, true, false, cond, _||_, false≢true}
+use mathlib.Core.List.{List, [], _∷_}
+use lib.Dec.{eqb}
+use lib.ListN.{length, getD}
+use borrow.Author.Tests.{eqb-true, ne-eqb}
+use Rattle.cases.proofs.Cases.{by-cond, cond-true}
+use Rattle.cases.specs.Refusals.{firstRefusal}
+use Rattle.registers.specs.Meanings.{go, stop}
+use Rattle.store.specs.Ring.{held}
+use Rattle.store.proofs.Laws.{held-length}
+use Rattle.state.specs.declared.Out.the-variants.{Own, Held, Nothing}
+use Rattle.state.specs.Answers.{said, none, byte, refused}
+use Rattle.state.proofs.Fits.{tx-fits}
+use Rattle.line.specs.HoldingOff.{owed, nextOut, outAnswer}
+use Rattle.bridge.specs.Calls.{nextLineByte, World, Did, checks, outcome, refusedOr, step}
+use Rattle.bridge.specs.Calls as calls
+use Rattle.runs.specs.Observers.{taken}
+use Rattle.runs.specs.Run.{after, end, holdsOff}
+use Rattle.runs.specs.LastSent.{isOwn, OwnGiven}
+use Rattle.runs.specs.NextByte.{oldestOf, nextGiven, NextGiven}
+use Rattle.runs.proofs.Shapes.{Fits}
+use Rattle.runs.proofs.View.{fitting}
+use Rattle.runs.proofs.LastSent.{last-since}
+
+module _ (w : World) (F : Fits w) where
+  -- by whether our own character is owed and our sending forbidden, and what is held
+  out-given : said (outAnswer (nextOut (w .state) (w .tx))) ≡ nextGiven w
+  unfolding nextOut outAnswer said nextGiven
+  out-given = by-tests (owed (w .state .line)) (w .state .line .forbidden) (held (w .tx) (w .state .tx)) (held-length (w .tx) (w .state .tx) (tx-fits (w .state) (w .rx) (w .tx) F .ring))
+    where
+      own : ℕ
+      own = cond (w .state .line .holding) (stop (w .state .regs)) (go (w .state .regs))
+
+      by-tests : (t u : Bool) (l : List ℕ) → length l ≡ w .state .tx .len →
+          said (outAnswer (cond t (Own own) (cond (u || eqb (w .state .tx .len) 0) Nothing (Held (getD l 0 0))))) ≡ cond t (byte own) (cond u none (oldestOf l))
+      by-tests true u l e = refl
+      by-tests false true l e = refl
+      by-tests false false [] e = rw (sym e)
+      by-tests false false (b ∷ l) e = rw (ne-eqb (w .state .tx .len) 0 (λ h. omega (arith, e)))
+
+pub next-given : NextGiven
+unfolding step refusedOr calls.notRefused outcome checks
+next-given w =
+    let n = firstRefusal (checks nextLineByte w) in
+    by-cond (λ (d : Did). taken (d .said) ≡ true → d .said ≡ nextGiven w) (eqb n 0) (calls.notRefused nextLineByte w) (record { said = refused n; world = w })
+    (λ e _. out-given w (fitting _ 0 (eqb-true n 0 e) .0))
+    (λ _ e. absurd (false≢true e))
+
+pub own-given : OwnGiven
+unfolding nextGiven
+own-given c w b cs m t o = next-given (end cs (after c w)) t ∙ cond-true _ _ _ (ap (λ k. isOwn k (end cs (after c w))) (last-since c w b cs m) ∙ o)
