@@ -1,7 +1,7 @@
 -- Every call that is not refused puts its bytes at the next places. Assumes nothing.
 use Prim.Native.Nat.{ℕ, _+_, _-_, _≤_}
 use native.Mathlib.Omega.{arith}
-use mathlib.Core.Path.{_≡_, refl, sym, _∙_}
+use mathlib.Core.Path.{_≡_, refl, sym, subst, _∙_}
 use mathlib.Core.Bool.{Bool, true, false, cond, _&&_, not, false≢true}
 use mathlib.Core.List.{[], _∷_}
 use lib.Dec.{eqb, ltb}
@@ -29,7 +29,7 @@ use Rattle.laws.specs.Fitting.{Fits}
 use Rattle.laws.specs.Places.{nextPlace}
 use Rattle.laws.specs.CallPlaces.{empties, rxAdds, txAdds, Placed, BothPlaced, CallsPlace}
 use Rattle.laws.proofs.OneStore.{stays, stays-same, emptied, added, left}
-use Rattle.laws.proofs.FramePlaces.{Kind, clears, stores, other, frame-kind}
+use Rattle.laws.proofs.FramePlaces.{Kind, clears, stores, other, clear-same, frame-kind}
 
 -- ---- what no refusal tells
 
@@ -131,7 +131,7 @@ empty : (w : World) (t : State) → t .rx ≡ emptyRing → t .tx ≡ emptyRing 
 empty w t a b = record { rx = emptied (w .rx) (w .state .rx) (t .rx) a; tx = emptied (w .tx) (w .state .tx) (t .tx) b }
 
 accepted-place : (c : Call) (w : World) → firstRefusal (checks c w) ≡ 0 → Places c w (notRefused c w .world)
-unfolding notRefused checks outcome settledBy settled rxAfter txAfter startState breakState keyState afterWrite setAfresh frameBytes
+unfolding notRefused checks outcome settledBy settled rxAfter txAfter startState breakState keyState afterWrite setAfresh frameBytes addsBytes
 accepted-place (create m) w h = empty w _ refl refl
 accepted-place reset w h = empty w _ refl refl
 accepted-place (write n v) w h =
@@ -149,7 +149,12 @@ accepted-place (loopFrame n) w h =
     let x = fitting _ _ h in
     let y = no-check (ltb 2047 n) 3 _ (λ z. omega arith) (x .1) in
     let b : busy (w .state) n ≡ false = no-check (busy (w .state) n) 4 0 (λ z. omega arith) (y .1) .0 in
-    by-kind w (x .0) n (frameTaken (w .state) (w .rx) n .state) b (frame-kind (w .rx) (w .state) (rx-fits (w .state) (w .rx) (w .tx) (x .0) .ring) n)
+    let t : State = frameTaken (w .state) (w .rx) n .state in
+    subst
+    (λ (c : Bool). BothPlaced c [] (cond (addsBytes (w .state) n) (adds (w .state .regs) n) []) w
+    (world (cond (deviceClear (w .state) n) t (settled (w .state) t)) (w .rx) (cond (addsBytes (w .state) n) (leftBytes (w .state) (w .tx) n) (w .tx))))
+    (sym (clear-same (w .state) n))
+    (by-kind w (x .0) n t b (frame-kind (w .rx) (w .state) (rx-fits (w .state) (w .rx) (w .tx) (x .0) .ring) n))
 accepted-place (show side) w h = quiet w _ refl refl
 
 pub calls-place : CallsPlace

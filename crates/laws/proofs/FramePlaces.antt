@@ -1,18 +1,20 @@
 -- What a frame does to both rings: a device clear empties them, a listener's data frame is stored, any other only removes. Assumes nothing.
-use Prim.Native.Nat.{ℕ}
+use Prim.Native.Nat.{ℕ, _-_, _%_, _≤_}
 use native.Mathlib.Omega.{arith}
-use mathlib.Core.Path.{_≡_, refl}
-use mathlib.Core.Bool.{Bool, true, false, cond}
+use mathlib.Core.Path.{_≡_, refl, sym, _∙_}
+use mathlib.Core.Bool.{Bool, true, false, cond, _&&_, _||_, not}
 use mathlib.Core.List.{List}
 use lib.Dec.{eqb}
 use lib.ListN.{length}
-use borrow.Author.Tests.{ltb-true, ne-eqb}
+use borrow.Author.Tests.{eqb-true, ltb-true, ne-eqb}
 use Rattle.cases.proofs.Cases.{by-cond}
 use Rattle.frame.specs.Frame.{controlOf, dataOf, isData, sameApart}
+use Rattle.role.specs.declared.Role.{Role}
 use Rattle.role.specs.declared.Order.{Order}
 use Rattle.role.specs.declared.Ready.{Ready}
 use Rattle.role.specs.declared.Ready.the-variants.{Pass, Address, Data, Status, Finish}
 use Rattle.role.specs.Parts.{activeStatus, isActive}
+use Rattle.role.specs.Orders.{ownAddress, listenOrder, talkOrder, otherOrder, orderOf}
 use Rattle.role.specs.ReadyFrames.{readyOf}
 use Rattle.store.specs.Ring.{Fit, emptyRing, putsRing}
 use Rattle.sending.specs.declared.Given.{Given}
@@ -26,7 +28,37 @@ use Rattle.loops.specs.LoopToLine.{adds, leftState}
 use Rattle.loops.specs.Sending.{ruleOf, talking, ended, removedState, sendState, sendFrom, sendStatus}
 use Rattle.loops.specs.Frames.{isClear, orderIn, cleared, obeyed, commandState, command, finishing, readied, ready, returned, dataPassed, identify, frameTaken, deviceClear, addsBytes}
 use Rattle.laws.specs.Places.{nextPlace}
+use Rattle.laws.specs.CallPlaces.{isDeviceClear}
 use Rattle.laws.proofs.OneStore.{left}
+
+-- which commands are a device clear
+pub clear-order : (r : Role) (d : ℕ) → isClear (orderOf 31 r d) ≡ (eqb d 20 || (eqb d 4 && r .listener))
+unfolding orderOf listenOrder talkOrder otherOrder
+clear-order r d =
+    by-cond (λ o. isClear o ≡ rest) (eqb (d - d % 32) 32) _ _
+    (λ e. by-cond Other (eqb (d % 32) 31) _ _ (λ _. refl) (λ _. by-cond Other (eqb (d % 32) (ownAddress 31 r)) _ _ (λ _. refl) (λ _. refl)) ∙ sym (high (omega (arith, eqb-true (d - d % 32) 32 e))))
+    (λ _. by-cond (λ o. isClear o ≡ rest) (eqb (d - d % 32) 64) _ _
+    (λ e. by-cond Other (eqb (d % 32) (ownAddress 31 r) && not (eqb (d % 32) 31)) _ _ (λ _. refl) (λ _. refl) ∙ sym (high (omega (arith, eqb-true (d - d % 32) 64 e))))
+    (λ _. by-cond (λ o. isClear o ≡ rest) rest _ _ (λ e. sym e)
+    (λ e. by-cond Other (eqb d 144) _ _ (λ _. refl)
+    (λ _. by-cond Other (eqb d 146) _ _ (λ _. refl)
+    (λ _. by-cond Other (eqb d 147) _ _ (λ _. refl)
+    (λ _. by-cond Other (eqb d 1 && r .listener) _ _ (λ _. refl)
+    (λ _. by-cond Other (eqb d 154) _ _ (λ _. refl) (λ _. refl)))))
+    ∙ sym e)))
+  where
+    rest : Bool
+    rest = eqb d 20 || (eqb d 4 && r .listener)
+
+    Other : Order → Type 0
+    Other o = isClear o ≡ false
+
+    high : 32 ≤ d → rest ≡ false
+    high h = λ i. ne-eqb d 20 (λ e. omega arith) i || (ne-eqb d 4 (λ e. omega arith) i && r .listener)
+
+pub clear-same : (s : State) (f : ℕ) → isDeviceClear s f ≡ deviceClear s f
+unfolding isDeviceClear deviceClear
+clear-same s f = λ i. eqb (controlOf f) 4 && sym (clear-order (s .role) (dataOf f)) i
 
 -- nothing is added: the receive store's next place and the transmit store's ring stay
 pub record Still (n : ℕ) (s t : State) : Type 0 where

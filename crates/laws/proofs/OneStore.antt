@@ -2,7 +2,7 @@
 use Prim.Native.Nat.{ℕ, _+_, _≤_, _<_}
 use native.Mathlib.Omega.{arith}
 use mathlib.Core.Path.{_≡_, refl, ap, _∙_}
-use mathlib.Core.Bool.{true, false}
+use mathlib.Core.Bool.{true, false, false≢true}
 use mathlib.Core.List.{List, [], _∷_}
 use mathlib.Core.Logic.{⊎-elim}
 use lib.ListN.{length}
@@ -17,14 +17,14 @@ use Rattle.laws.proofs.Places.{places-go-on}
 -- nothing is added, and the next place stays
 pub stays : (s : List ℕ) (r r′ : Ring) → nextPlace (length s) r′ ≡ nextPlace (length s) r → Placed false [] s r s r′
 unfolding writtenFrom placeAfter
-stays s r r′ e = record { bytes = refl; next = e }
+stays s r r′ e = record { bytes = refl; next = e; none = λ h. absurd (false≢true h) }
 
 pub stays-same : (s : List ℕ) (r r′ : Ring) → r′ ≡ r → Placed false [] s r s r′
 stays-same s r r′ e = stays s r r′ (ap (nextPlace (length s)) e)
 
 pub emptied : (s : List ℕ) (r r′ : Ring) → r′ ≡ emptyRing → Placed true [] s r s r′
 unfolding writtenFrom placeAfter
-emptied s r r′ e = record { bytes = refl; next = ap (nextPlace (length s)) e ∙ ⊎-elim (λ h. wrap-low (length s) 0 h) (λ h. wrap-high (length s) 0 h ∙ omega arith) (split 0 (length s)) }
+emptied s r r′ e = record { bytes = refl; next = ap (nextPlace (length s)) e ∙ ⊎-elim (λ h. wrap-low (length s) 0 h) (λ h. wrap-high (length s) 0 h ∙ omega arith) (split 0 (length s)); none = λ _. ap (λ (q : Ring). q .len) e }
 
 -- the ring after a byte fits the same list
 more-fits : (s : List ℕ) (r : Ring) → Fit s r → Fit s (putRing (length s) r)
@@ -56,7 +56,7 @@ next-goes s r (b ∷ l) f h =
 
 -- bytes are added, where there is room for all of them
 pub added : (s : List ℕ) (r : Ring) (l : List ℕ) (cap : ℕ) → Fit s r → cap ≡ length s → r .len + length l ≤ length s → Placed false l s r (putsBytes s r l) (putsRing cap r l)
-added s r l cap f e h = rw e (record { bytes = bytes-go s r l f h; next = next-goes s r l f h })
+added s r l cap f e h = rw e (record { bytes = bytes-go s r l f h; next = next-goes s r l f h; none = λ h. absurd (false≢true h) })
 
 -- the n oldest bytes leave
 pub left : (s : List ℕ) (r : Ring) (n cap : ℕ) → Fit s r → cap ≡ length s → n ≤ r .len → nextPlace (length s) (dropRing cap r n) ≡ nextPlace (length s) r

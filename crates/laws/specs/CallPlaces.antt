@@ -2,23 +2,34 @@
 -- in a store is written.": what every call does to the places of both stores.
 use Prim.Native.Nat.{ℕ, _+_}
 use mathlib.Core.Path.{_≡_}
-use mathlib.Core.Bool.{Bool, true, false, cond}
+use mathlib.Core.Bool.{Bool, true, false, cond, _&&_, _||_, not}
 use mathlib.Core.List.{List, [], _∷_}
+use lib.Dec.{eqb}
 use lib.ListN.{length, set}
+use Rattle.frame.specs.Frame.{controlOf, dataOf, isData}
+use Rattle.role.specs.Parts.{isActive}
 use Rattle.store.specs.declared.Ring.{Ring}
 use Rattle.store.specs.Ring.{full, wrap}
+use Rattle.state.specs.declared.State.{State}
 use Rattle.line.specs.HoldingOff.{isGoOrStop}
 use Rattle.loops.specs.LoopToLine.{adds}
-use Rattle.loops.specs.Frames.{deviceClear, addsBytes}
 use Rattle.bridge.specs.Calls.{Call, create, reset, write, lineByte, lineBreak, key, nextLineByte, loopFrame, show, World, step}
 use Rattle.laws.specs.Answers.{isRefusal}
 use Rattle.laws.specs.Places.{nextPlace}
+
+-- "20, or 4 when listener: device clear.", of a command
+unfoldable pub isDeviceClear : State → ℕ → Bool
+isDeviceClear s f = eqb (controlOf f) 4 && (eqb (dataOf f) 20 || (eqb (dataOf f) 4 && s .role .listener))
+
+-- "A data frame taken while ours is under way is its return. .. Other data frames pass; a listener also stores them."
+abbrev pub isKept : State → ℕ → Bool
+isKept s f = (isData f && not (isActive (s .role))) && s .role .listener
 
 -- "create, reset or device clear"
 abbrev pub empties : Call → World → Bool
 empties (create m) w = true
 empties reset w = true
-empties (loopFrame f) w = deviceClear (w .state) f
+empties (loopFrame f) w = isDeviceClear (w .state) f
 empties (write n v) w = false
 empties (lineByte b) w = false
 empties lineBreak w = false
@@ -38,9 +49,9 @@ rxAdds nextLineByte w = []
 rxAdds (loopFrame f) w = []
 rxAdds (show side) w = []
 
--- and to the transmit store: what a data frame leaves there
+-- and to the transmit store: "A listener adds the byte; for an end byte with R10 bit 2 on, then C02 and C03."
 abbrev pub txAdds : Call → World → List ℕ
-txAdds (loopFrame f) w = cond (addsBytes (w .state) f) (adds (w .state .regs) f) []
+txAdds (loopFrame f) w = cond (isKept (w .state) f) (adds (w .state .regs) f) []
 txAdds (create m) w = []
 txAdds reset w = []
 txAdds (write n v) w = []
@@ -66,6 +77,8 @@ pub record Placed (emptied : Bool) (l s : List ℕ) (r : Ring) (s′ : List ℕ)
   pub bytes : s′ ≡ writtenFrom (nextPlace (length s) r) l s
   -- the next place is place 0 in a store that was emptied, else the one after them; bytes that leave do not move it
   pub next : nextPlace (length s) r′ ≡ cond emptied 0 (placeAfter (length s) (nextPlace (length s) r) l)
+  -- "Both stores empty"
+  pub none : emptied ≡ true → r′ .len ≡ 0
 
 -- both stores, which are emptied or not and to which a and b are added
 pub record BothPlaced (emptied : Bool) (a b : List ℕ) (w v : World) : Type 0 where

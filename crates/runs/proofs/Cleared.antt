@@ -33,7 +33,8 @@ use Rattle.loops.specs.Sending.{ruleOf, removedState, sendState, sendFrom, send
 use Rattle.loops.specs.Frames.{isClear, orderIn, obeyed, cleared, commandState, command, finishing, readied, ready, returned, dataPassed, identify, frameTaken, deviceClear}
 use Rattle.bridge.specs.Calls.{Call, create, reset, write, lineByte, lineBreak, key, nextLineByte, loopFrame, show, World, Did, checks, outcome, settledBy, refusedOr, step}
 use Rattle.bridge.specs.Calls as calls
-use Rattle.runs.specs.Observers.{taken, dataFrame, asksStatus, isDeviceClear, statusSent, restarts, clears, arrived, lost}
+use Rattle.laws.specs.CallPlaces.{isDeviceClear}
+use Rattle.runs.specs.Observers.{taken, dataFrame, asksStatus, statusSent, restarts, clears, arrived, lost}
 use Rattle.runs.specs.Run.{answer, after, end, Without, empties}
 use Rattle.runs.specs.StatusWay.{endsWay, statusBack}
 use Rattle.runs.specs.Events.{Event, broken, overrun, pressed, worth, any, bitOf, happens}
@@ -42,7 +43,7 @@ use Rattle.runs.proofs.StatusView.{noted}
 use Rattle.runs.proofs.Bits.{event-shown}
 use Rattle.runs.proofs.Answered.{status-small, status-frame}
 use Rattle.runs.proofs.Runs.{neither, first-not}
-use Rattle.runs.proofs.FrameView.{clear-order}
+use Rattle.laws.proofs.FramePlaces.{clear-order}
 use Rattle.runs.proofs.Refused.{frame-answers, frame-taken}
 use Rattle.runs.proofs.StatusTold.{takes-status}
 

@@ -11,10 +11,8 @@ use Rattle.cases.proofs.Cases.{by-cond, and-left}
 use Rattle.frame.specs.Frame.{controlOf, dataOf, made, isData, sameApart}
 use Rattle.registers.specs.Meanings.{go}
 use Rattle.role.specs.declared.Role.{Role}
-use Rattle.role.specs.declared.Order.{Order}
 use Rattle.role.specs.declared.Ready.the-variants.{Pass, Address, Data, Status, Finish}
 use Rattle.role.specs.Parts.{isActive}
-use Rattle.role.specs.Orders.{ownAddress, listenOrder, talkOrder, otherOrder, orderOf}
 use Rattle.role.specs.ReadyFrames.{givesAddress, readyOf}
 use Rattle.role.specs.Fit as role-fit
 use Rattle.role.proofs.FitLaws as role-laws
@@ -33,7 +31,9 @@ use Rattle.loops.specs.Sending.{ruleOf, removedState, sendState, sendFrom, send
 use Rattle.loops.specs.Frames.{isClear, orderIn, obeyed, cleared, commandState, command, finishing, readied, ready, returned, dataPassed, identify, frameTaken, deviceClear, addsBytes, frameBytes}
 use Rattle.bridge.specs.Calls.{loopFrame, World, outcome, settledBy, rxAfter, txAfter}
 use Rattle.bridge.specs.Calls as calls
-use Rattle.runs.specs.Observers.{dataFrame, equalReturn, isSend, isDeviceClear, arrived, sent, left, handedOut, restarts, writes, clears}
+use Rattle.laws.specs.CallPlaces.{isDeviceClear}
+use Rattle.laws.proofs.FramePlaces.{clear-order}
+use Rattle.runs.specs.Observers.{dataFrame, equalReturn, isSend, arrived, sent, left, handedOut, restarts, writes, clears}
 use Rattle.runs.proofs.Shapes.{seen, Heart, heart, frames, Fits, Shape, isStill, isCleared, isSent, isNone, isLeft}
 use Rattle.runs.proofs.Quiet.{Shaped, quietly}
 
@@ -161,31 +161,6 @@ module _ (w : World) (F : Fits w) (f : ℕ) (D : isData f ≡ true) where
         go false e = marked w f (status.serviced (w .state) f) false false false _ _ (pass-marks false e) isStill
 
 -- ---- other frames
-
--- which commands are a device clear
-pub clear-order : (r : Role) (d : ℕ) → isClear (orderOf 31 r d) ≡ (eqb d 20 || (eqb d 4 && r .listener))
-unfolding orderOf listenOrder talkOrder otherOrder
-clear-order r d =
-    by-cond (λ o. isClear o ≡ rest) (eqb (d - d % 32) 32) _ _
-    (λ e. by-cond Other (eqb (d % 32) 31) _ _ (λ _. refl) (λ _. by-cond Other (eqb (d % 32) (ownAddress 31 r)) _ _ (λ _. refl) (λ _. refl)) ∙ sym (high (omega (arith, eqb-true (d - d % 32) 32 e))))
-    (λ _. by-cond (λ o. isClear o ≡ rest) (eqb (d - d % 32) 64) _ _
-    (λ e. by-cond Other (eqb (d % 32) (ownAddress 31 r) && not (eqb (d % 32) 31)) _ _ (λ _. refl) (λ _. refl) ∙ sym (high (omega (arith, eqb-true (d - d % 32) 64 e))))
-    (λ _. by-cond (λ o. isClear o ≡ rest) rest _ _ (λ e. sym e)
-    (λ e. by-cond Other (eqb d 144) _ _ (λ _. refl)
-    (λ _. by-cond Other (eqb d 146) _ _ (λ _. refl)
-    (λ _. by-cond Other (eqb d 147) _ _ (λ _. refl)
-    (λ _. by-cond Other (eqb d 1 && r .listener) _ _ (λ _. refl)
-    (λ _. by-cond Other (eqb d 154) _ _ (λ _. refl) (λ _. refl)))))
-    ∙ sym e)))
-  where
-    rest : Bool
-    rest = eqb d 20 || (eqb d 4 && r .listener)
-
-    Other : Order → Type 0
-    Other o = isClear o ≡ false
-
-    high : 32 ≤ d → rest ≡ false
-    high h = λ i. ne-eqb d 20 (λ e. omega arith) i || (ne-eqb d 4 (λ e. omega arith) i && r .listener)
 
 -- a ready frame that gives an address is no other
 pub address-high : (r : Role) (d n : ℕ) → n < 128 → givesAddress r d ≡ true → d ≡ n → ⊥

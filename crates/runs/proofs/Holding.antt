@@ -36,14 +36,15 @@ use Rattle.loops.specs.Sending.{ruleOf, removedState, sendState, sendFrom, send
 use Rattle.loops.specs.Frames.{isClear, orderIn, obeyed, cleared, commandState, command, finishing, readied, ready, returned, dataPassed, identify, frameTaken, deviceClear}
 use Rattle.bridge.specs.Calls.{Call, create, reset, write, lineByte, lineBreak, key, nextLineByte, loopFrame, show, World, Did, checks, outcome, settledBy, rxAfter, txAfter, refusedOr, step}
 use Rattle.bridge.specs.Calls as calls
-use Rattle.runs.specs.Observers.{taken, isSend, equalReturn, isDeviceClear, arrived, accepted, restarts, clears}
+use Rattle.laws.specs.CallPlaces.{isDeviceClear}
+use Rattle.laws.proofs.FramePlaces.{clear-same}
+use Rattle.runs.specs.Observers.{taken, isSend, equalReturn, arrived, accepted, restarts, clears}
 use Rattle.runs.specs.Run.{empties}
 use Rattle.runs.specs.Events.{any}
 use Rattle.runs.specs.Holding.{sends, writesR11, holdingAfter, HoldingGoes}
 use Rattle.runs.specs.NextByte.{afterByte, forbiddenAfter, ForbiddenGoes}
 use Rattle.runs.proofs.Refused.{frame-answers, frame-taken}
 use Rattle.runs.proofs.SendRule.{sends-from}
-use Rattle.runs.proofs.Requests.{clear-same}
 
 none-any : (t : Bool) → any (cond t [] []) ≡ false
 none-any true = refl

@@ -19,7 +19,7 @@ use Rattle.line.specs.HoldingOff.{owed, nextOut, outAnswer}
 use Rattle.bridge.specs.Calls.{nextLineByte, World, Did, checks, outcome, refusedOr, step}
 use Rattle.bridge.specs.Calls as calls
 use Rattle.runs.specs.Observers.{taken}
-use Rattle.runs.specs.Run.{after, end, holdsOff}
+use Rattle.runs.specs.Run.{after, end}
 use Rattle.runs.specs.LastSent.{isOwn, OwnGiven}
 use Rattle.runs.specs.NextByte.{oldestOf, nextGiven, NextGiven}
 use Rattle.runs.proofs.Shapes.{Fits}

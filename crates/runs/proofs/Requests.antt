@@ -33,12 +33,13 @@ use Rattle.loops.specs.Sending.{ruleOf, removedState, sendState, sendFrom, send
 use Rattle.loops.specs.Frames.{isClear, orderIn, obeyed, cleared, commandState, command, finishing, readied, ready, returned, dataPassed, identify, frameTaken, deviceClear}
 use Rattle.bridge.specs.Calls.{Call, create, reset, write, lineByte, lineBreak, key, nextLineByte, loopFrame, show, World, Did, checks, outcome, settledBy, refusedOr, step}
 use Rattle.bridge.specs.Calls as calls
-use Rattle.runs.specs.Observers.{taken, dataFrame, asksStatus, isDeviceClear, statusSent, restarts, clears}
+use Rattle.laws.specs.CallPlaces.{isDeviceClear}
+use Rattle.runs.specs.Observers.{taken, dataFrame, asksStatus, statusSent, restarts, clears}
 use Rattle.runs.specs.Run.{answer, after, empties}
 use Rattle.runs.specs.Events.{any}
 use Rattle.runs.specs.Requests.{requested, RequestsGo}
 use Rattle.runs.proofs.Answered.{status-frame}
-use Rattle.runs.proofs.FrameView.{clear-order}
+use Rattle.laws.proofs.FramePlaces.{clear-same}
 use Rattle.runs.proofs.Refused.{frame-answers, frame-taken}
 use Rattle.runs.proofs.StatusTold.{takes-status}
 
@@ -144,10 +145,6 @@ line-kept s b = by-cond Same (isGoOrStop (s .regs) b) _ _ (λ _. refl) (λ _. by
 
 write-kept : (s : State) (n : ℕ) (t u : State) → t .notes .request ≡ s .notes .request → u .notes .request ≡ s .notes .request → cond (eqb n 11) t u .notes .request ≡ s .notes .request
 write-kept s n t u p q = by-cond (λ (x : State). x .notes .request ≡ s .notes .request) (eqb n 11) t u (λ _. p) (λ _. q)
-
-pub clear-same : (s : State) (f : ℕ) → isDeviceClear s f ≡ deviceClear s f
-unfolding isDeviceClear deviceClear
-clear-same s f = λ i. eqb (controlOf f) 4 && sym (clear-order (s .role) (dataOf f)) i
 
 -- ---- loop frames
 

@@ -1,7 +1,7 @@
 -- What is read since the receive store was emptied. Assumes nothing.
 use Prim.Native.Nat.{ℕ}
 use mathlib.Core.Path.{_≡_, sym, ap, subst, _∙_}
-use mathlib.Core.Bool.{true, false, false≢true}
+use mathlib.Core.Bool.{true, false≢true}
 use mathlib.Core.List.{List, [], _++_}
 use Rattle.store.specs.Ring.{held}
 use Rattle.store.proofs.Laws.{held-empty}

@@ -37,12 +37,14 @@ use Rattle.loops.specs.Sending.{ruleOf, removedState, sendState, sendFrom, send
 use Rattle.loops.specs.Frames.{isClear, orderIn, obeyed, commandState, command, finishing, readied, ready, returned, dataPassed, identify, frameTaken, deviceClear}
 use Rattle.bridge.specs.Calls.{Call, create, reset, write, lineByte, lineBreak, key, nextLineByte, loopFrame, show, World, Did, outcome, settledBy, refusedOr, step}
 use Rattle.bridge.specs.Calls as calls
-use Rattle.runs.specs.Observers.{taken, dataFrame, asksStatus, isDeviceClear, statusSent, restarts, clears}
+use Rattle.laws.specs.CallPlaces.{isDeviceClear}
+use Rattle.runs.specs.Observers.{taken, dataFrame, asksStatus, statusSent, restarts, clears}
 use Rattle.runs.specs.Run.{answer, after, empties}
 use Rattle.runs.specs.StatusWay.{endsWay, statusBack}
 use Rattle.runs.specs.Events.{Event, broken, overrun, pressed}
 use Rattle.runs.proofs.Answered.{status-frame}
-use Rattle.runs.proofs.FrameView.{clear-order, address-high}
+use Rattle.laws.proofs.FramePlaces.{clear-order}
+use Rattle.runs.proofs.FrameView.{address-high}
 
 -- the part of a state that this is about
 pub record Part : Type 0 where

@@ -11,6 +11,7 @@ use Rattle.state.specs.declared.State.{State}
 use Rattle.state.specs.Answers.{Said, done, none, byte, frame, refused, part}
 use Rattle.line.specs.HoldingOff.{isGoOrStop, owed}
 use Rattle.loops.specs.LoopToLine.{adds}
+use Rattle.laws.specs.CallPlaces.{isDeviceClear}
 use Rattle.bridge.specs.Calls.{Call, create, reset, write, lineByte, lineBreak, key, nextLineByte, loopFrame, show, World}
 
 -- ---- answers
@@ -86,10 +87,6 @@ asksStatus s f = isAsked 97 s f
 -- "Other data frames pass", those that are no return; and identify frames
 unfoldable pub passesOn : State → ℕ → Bool
 passesOn s f = (isData f && not (isActive (s .role))) || ltb 5 (controlOf f)
-
--- "20, or 4 when listener: device clear."
-unfoldable pub isDeviceClear : State → ℕ → Bool
-isDeviceClear s f = eqb (controlOf f) 4 && (eqb (dataOf f) 20 || (eqb (dataOf f) 4 && s .role .listener))
 
 -- ---- line bytes in
 
