@@ -10,5 +10,5 @@ pub mod Places
 pub mod OneStore
 pub mod FramePlaces
 pub mod CallPlaces
-pub mod Resuming
+pub mod Starting
 pub mod Examples

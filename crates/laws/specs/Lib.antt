@@ -4,5 +4,5 @@ pub mod Answers
 pub mod Order
 pub mod Places
 pub mod CallPlaces
-pub mod Resuming
+pub mod Starting
 pub mod Examples

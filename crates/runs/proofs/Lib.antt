@@ -28,3 +28,4 @@ pub mod Cleared
 pub mod Requests
 pub mod Holding
 pub mod NextByte
+pub mod Resuming

@@ -15,3 +15,4 @@ pub mod SendRule
 pub mod Requests
 pub mod Holding
 pub mod NextByte
+pub mod Resuming

@@ -1,21 +1,10 @@
--- "(With two bytes undecided the bridge must still reach its resume level.)", and what create and reset give.
+-- What create and reset give.
 use Prim.Native.Nat.{ℕ}
 use mathlib.Core.Path.{_≡_}
 use mathlib.Core.Bool.{true, false}
-use mathlib.Core.List.{List}
 use lib.ListN.{length}
-use Rattle.sending.specs.declared.Given.the-variants.{Nothing}
-use Rattle.sending.specs.Sending.{givenOf, sendHeld}
-use Rattle.state.specs.declared.State.{State}
 use Rattle.state.specs.Sizes.{sizesObeyed, startState, fits}
-use Rattle.loops.specs.Sending.{ruleOf, sendFrom}
 use Rattle.bridge.specs.Calls.{World, reset, step}
-
--- a send that finds no frame ends holding off: the meter is never silent for good
-abbrev pub EmptySendResumes : Type 0
-EmptySendResumes =
-    (s : State) (rx tx : List ℕ) → fits s (length rx) (length tx) ≡ true →
-    givenOf (sendHeld (ruleOf (s .regs)) rx (s .rx)) ≡ Nothing → sendFrom s rx .state .line .holding ≡ false
 
 -- "Reset gives what create gives for the same sizes and margin"
 abbrev pub ResetGivesStart : Type 0

@@ -1,35 +1,44 @@
--- A send that finds no frame leaves two bytes at most, so holding off ends; and what create and reset give. Assumes nothing.
-use Prim.Native.Nat.{ℕ, _+_, _-_, _*_, _≤_, _<_}
+-- A send that finds no frame leaves two bytes at most, so holding off ends. Assumes nothing.
+use Prim.Native.Nat.{ℕ, _+_, _-_, _*_, _≤_}
 use native.Mathlib.Omega.{arith}
-use mathlib.Core.Path.{_≡_, refl, sym, ap, subst, _∙_}
+use mathlib.Core.Path.{_≡_, refl, sym, subst, _∙_}
 use mathlib.Core.Bool.{Bool, true, false, cond, _&&_, not, false≢true}
 use mathlib.Core.List.{List, [], _∷_}
 use lib.Dec.{eqb, leb}
 use lib.ListN.{length}
 use borrow.Author.Tests.{eqb-true, leb-true, le-leb}
-use Rattle.cases.proofs.Cases.{and-left, and-right}
 use Rattle.reading.specs.declared.Rule.{Rule}
 use Rattle.reading.specs.declared.Decision.{Decision}
 use Rattle.reading.specs.declared.Decision.the-variants.{Removed, End, Data, Wait}
-use Rattle.reading.specs.Reading.{Cut, wait, skip, give, Sent, none, one, sentRest, send}
+use Rattle.reading.specs.Reading.{wait, skip, give, Sent, none, one, sentRest, send}
 use Rattle.reading.specs.Steps.{startsWithPair, decision, carried, cut}
 use Rattle.reading.proofs.Cuts.{by-cuts}
 use Rattle.reading.proofs.Reading.{send-at}
 use Rattle.reading.proofs.Lawful.{lawful}
-use Rattle.registers.specs.Table as registers-table
-use Rattle.store.specs.Ring.{held, dropRing}
-use Rattle.store.proofs.Laws.{held-length, drop-len}
-use Rattle.sending.specs.declared.Given.{Given}
-use Rattle.sending.specs.declared.Given.the-variants.{Nothing, One}
+use Rattle.store.specs.Ring.{held}
+use Rattle.store.proofs.Laws.{drop-len}
 use Rattle.sending.specs.Sending.{givenOf, sendHeld, sentRing}
 use Rattle.state.specs.declared.State.{State}
-use Rattle.state.specs.Sizes.{sizesObeyed, startState, fits}
-use Rattle.state.specs.Status.{conditions, enabledBy, asking, settled}
-use Rattle.state.proofs.Fits.{Tests, tests, rx-fits}
+use Rattle.state.specs.Sizes.{sizesObeyed, fits}
+use Rattle.state.specs.Status.{settled}
+use Rattle.state.proofs.Fits.{tests}
 use Rattle.line.specs.HoldingOff.{resumed}
 use Rattle.loops.specs.Sending.{ruleOf, talking, ended, removedState, sendState, sendFrom}
-use Rattle.bridge.specs.Calls.{World, reset, outcome, settledBy, checks, notRefused, refusedOr, step}
-use Rattle.laws.specs.Resuming.{EmptySendResumes, ResetGivesStart, RefusedCreateFitsNothing}
+use Rattle.cases.specs.Refusals.{firstRefusal}
+use Rattle.cases.proofs.Cases.{and-left, and-right, by-cond, cond-true}
+use Rattle.state.specs.declared.Outcome.{Outcome}
+use Rattle.state.specs.Answers.{said, refused}
+use Rattle.loops.specs.Frames.{frameTaken, deviceClear}
+use Rattle.bridge.specs.Calls.{loopFrame, World, Did, checks, outcome, settledBy, refusedOr, step}
+use Rattle.bridge.specs.Calls as calls
+use Rattle.runs.specs.Observers.{taken, dataFrame, isSend, sent}
+use Rattle.runs.specs.Worlds.{heldToSend, Bytes}
+use Rattle.runs.specs.Resuming.{EmptySendResumes}
+use Rattle.runs.proofs.Shapes.{Fits}
+use Rattle.runs.proofs.View.{fitting}
+use Rattle.runs.proofs.Bytes.{sent-plain}
+use Rattle.runs.proofs.Sends.{seen-plain}
+use Rattle.runs.proofs.SendRule.{sends-from}
 
 -- ---- two bytes at most are undecided
 
@@ -86,10 +95,6 @@ few-left r =
 
 -- ---- so holding off ends
 
-rest-few : (x : Sent ℕ ℕ) → FewLeft x → givenOf x ≡ Nothing → length (sentRest x) ≤ 2
-rest-few (none rest) h e = h
-rest-few (one f rest) h e = let z : _≡_ {A = ℕ} 0 1 = cc in absurd (omega arith)
-
 -- the least size of a receive store
 least-size : (m a b : ℕ) → sizesObeyed m a b ≡ true → 2 * m + 2 ≤ a
 unfolding sizesObeyed
@@ -101,16 +106,13 @@ least-size m a b e =
     let e₂ = and-left ((p && q) && leb a 32768) (leb 3 b) e₁ in
     leb-true (2 * m + 2) a (and-right p q (and-left (p && q) (leb a 32768) e₂))
 
-pub empty-send-resumes : EmptySendResumes
-unfolding sendFrom
-empty-send-resumes s rx tx e h =
-    ap (λ (g : Given). sendState s (removedState s rx) g .state .line .holding) h ∙ ended-so ∙ resumed-so
+none-resumes : (s : State) (rx tx r : List ℕ) → fits s (length rx) (length tx) ≡ true → sendHeld (ruleOf (s .regs)) rx (s .rx) ≡ none r → removedState s rx .line .holding ≡ false
+none-resumes s rx tx r e h = unfold removedState resumed in off (s .line .holding) _ (le-leb (2 * s .sizes .margin) _ room)
   where
-    ended-so : sendState s (removedState s rx) Nothing .state .line .holding ≡ removedState s rx .line .holding
-    ended-so = unfold sendState ended talking in refl
-
     few : length (sentRest (sendHeld (ruleOf (s .regs)) rx (s .rx))) ≤ 2
-    few = rest-few (sendHeld (ruleOf (s .regs)) rx (s .rx)) (unfold sendHeld in few-left (ruleOf (s .regs)) (held rx (s .rx))) h
+    few =
+        let l : length r ≤ 2 = subst FewLeft h (unfold sendHeld in few-left (ruleOf (s .regs)) (held rx (s .rx))) in
+        subst (λ (x : Sent ℕ ℕ). length (sentRest x) ≤ 2) (sym h) l
 
     left : sentRing (ruleOf (s .regs)) rx (s .rx) .len ≤ 2
     left = unfold sentRing in omega (arith, few, drop-len (length rx) (s .rx) (s .rx .len - length (sentRest (sendHeld (ruleOf (s .regs)) rx (s .rx)))))
@@ -123,24 +125,33 @@ empty-send-resumes s rx tx e h =
     off false y q = refl
     off true false q = absurd (false≢true q)
 
-    resumed-so : removedState s rx .line .holding ≡ false
-    resumed-so = unfold removedState resumed in off (s .line .holding) _ (le-leb (2 * s .sizes .margin) _ room)
+-- ---- every send
 
--- ---- create and reset
+module _ (f : ℕ) (w : World) (B : Bytes (heldToSend w)) (S : isSend (w .state) f ≡ true) (F : Fits w) where
+  abbrev Resumes : Outcome → Type 0
+  Resumes o = dataFrame (said (o .answer)) ≡ [] → o .state .line .holding ≡ false
 
-pub reset-gives-start : ResetGivesStart
-unfolding step refusedOr checks notRefused outcome settledBy
-reset-gives-start w e = rw e started
-  where
-    started : settled (w .state) (startState (w .state .sizes .margin) (length (w .rx)) (length (w .tx))) ≡ startState (w .state .sizes .margin) (length (w .rx)) (length (w .tx))
-    started = unfold settled asking enabledBy conditions startState registers-table.startRegisters registers-table.startOf registers-table.rowIn registers-table.table in refl
+  send-resumes : Resumes (sendFrom (w .state) (w .rx))
+  unfolding sendFrom sendState ended talking sendHeld
+  send-resumes = go (sendHeld (ruleOf (w .state .regs)) (w .rx) (w .state .rx)) refl
+    where
+      go : (x : Sent ℕ ℕ) → sendHeld (ruleOf (w .state .regs)) (w .rx) (w .state .rx) ≡ x → Resumes (sendState (w .state) (removedState (w .state) (w .rx)) (givenOf x))
+      go (none r) e = λ _. none-resumes (w .state) (w .rx) (w .tx) r F e
+      go (one g r) e = λ n. let z : g ∷ [] ≡ [] = sym (seen-plain (w .state) g (sent-plain (ruleOf (w .state .regs)) (heldToSend w) g r e B)) ∙ n in cc
 
-pub refused-create-fits-nothing : RefusedCreateFitsNothing
-refused-create-fits-nothing m a b e x y = go (fits (startState m a b) x y) refl
-  where
-    go : (t : Bool) → fits (startState m a b) x y ≡ t → t ≡ false
-    go false h = refl
-    go true h = absurd (false≢true (sym e ∙ obeyed))
-      where
-        obeyed : sizesObeyed m a b ≡ true
-        obeyed = unfold startState in let t = tests (startState m a b) x y h in (λ i. sizesObeyed m (t .rxSize i) (t .txSize i)) ∙ t .sizes
+  frame-resumes : Resumes (frameTaken (w .state) (w .rx) f)
+  frame-resumes = subst Resumes (sym (sends-from (w .state) (w .rx) f S)) send-resumes
+
+  settled-resumes : (t : Bool) (u : State) → u .line .holding ≡ false → cond t u (settled (w .state) u) .line .holding ≡ false
+  unfolding settled
+  settled-resumes true u h = h
+  settled-resumes false u h = h
+
+pub empty-send-resumes : EmptySendResumes
+unfolding step refusedOr calls.notRefused outcome settledBy checks sent
+empty-send-resumes f w B t S n =
+    let k = firstRefusal (checks (loopFrame f) w) in
+    by-cond (λ (d : Did). taken (d .said) ≡ true → dataFrame (d .said) ≡ [] → d .world .state .line .holding ≡ false) (eqb k 0) (calls.notRefused (loopFrame f) w) (record { said = refused k; world = w })
+    (λ e _ q. settled-resumes f w B S (fitting _ _ (eqb-true k 0 e) .0) (deviceClear (w .state) f) _ (frame-resumes f w B S (fitting _ _ (eqb-true k 0 e) .0) q))
+    (λ _ e. absurd (false≢true e))
+    t (sym (cond-true _ _ _ S) ∙ n)
