@@ -46,7 +46,7 @@ put-bytes s r b h k = by-cond AllBytes (full (length s) r) _ _ (λ _. k) (λ _ j
     set-bytes (x ∷ xs) (suc i) zero k = k 0
     set-bytes (x ∷ xs) (suc i) (suc j) k = set-bytes xs i j (λ n. k (suc n))
 
-drop-bytes : (n : ℕ) (xs : List ℕ) → AllBytes xs → AllBytes (drop n xs)
+pub drop-bytes : (n : ℕ) (xs : List ℕ) → AllBytes xs → AllBytes (drop n xs)
 drop-bytes n xs b k = subst (λ (m : ℕ). m < 256) (sym (getD-drop n xs k 0)) (b (n + k))
 
 -- a cut's frame is a data frame

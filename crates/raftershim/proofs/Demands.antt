@@ -16,8 +16,9 @@ use Rattle.runs.specs.Observers.{accepted, lost, sent}
 use Rattle.runs.specs.Run.{end, all, Without, changes, empties, AtMost}
 use Rattle.runs.specs.StatusWay.{sentAndBack}
 use Rattle.runs.specs.Events.{Event, overrun, bitOf, happens}
-use Rattle.runs.specs.Worlds.{heldToSend, reading, Bytes}
-use Rattle.runs.proofs.Bytes.{held-bytes, bytes-both, ByteCalls, accepted-bytes}
+use Rattle.runs.specs.Worlds.{heldToSend, reading}
+use Rattle.laws.proofs.Small.{held-bytes}
+use Rattle.runs.proofs.Bytes.{bytes-both, ByteCalls, accepted-bytes}
 use Rattle.runs.proofs.FramesRead.{frames-read}
 use Rattle.runs.proofs.Events.{events-stay}
 use Rattle.runs.proofs.Margin.{none-lost}

@@ -4,7 +4,7 @@ use native.Mathlib.Omega.{arith}
 use mathlib.Core.Path.{_≡_, sym, subst}
 use mathlib.Core.Bool.{true, cond, _&&_, not}
 use mathlib.Core.List.{List, [], _∷_, _++_}
-use lib.ListN.{length, drop, getD}
+use lib.ListN.{length, getD}
 use borrow.Author.Tests.{lt-ltb}
 use Rattle.frame.specs.Frame.{controlOf, made, isData, stripped}
 use Rattle.reading.specs.declared.Rule.{Rule}
@@ -15,45 +15,37 @@ use Rattle.reading.specs.Steps.{decision, carried, cut}
 use Rattle.reading.proofs.Cuts.{by-cuts, skip-oldest}
 use Rattle.reading.proofs.Reading.{send-at}
 use Rattle.reading.proofs.Lawful.{lawful}
-use Rattle.store.specs.declared.Ring.{Ring}
-use Rattle.store.specs.Ring.{Fit, held, full}
-use Rattle.store.proofs.Laws.{held-length, held-at}
+use Rattle.store.specs.Ring.{full}
 use Rattle.line.specs.HoldingOff.{isGoOrStop}
 use Rattle.bridge.specs.Calls.{Call, create, reset, write, lineByte, lineBreak, key, nextLineByte, loopFrame, show, World}
+use Rattle.laws.specs.Fitting.{AllBytes}
+use Rattle.laws.proofs.Small.{drop-bytes}
 use Rattle.cases.proofs.Cases.{by-cond}
 use Rattle.runs.specs.Observers.{taken, arrived, accepted}
 use Rattle.runs.specs.Run.{answer, after, all}
-use Rattle.runs.specs.Worlds.{Bytes}
 
-pub bytes-first : (xs ys : List ℕ) → Bytes (xs ++ ys) → Bytes xs
-bytes-first [] ys b = tt
-bytes-first (x ∷ xs) ys b = (b .0, bytes-first xs ys (b .1))
+pub bytes-first : (xs ys : List ℕ) → AllBytes (xs ++ ys) → AllBytes xs
+bytes-first [] ys b k = omega arith
+bytes-first (x ∷ xs) ys b zero = b 0
+bytes-first (x ∷ xs) ys b (suc k) = bytes-first xs ys (λ n. b (suc n)) k
 
-pub bytes-second : (xs ys : List ℕ) → Bytes (xs ++ ys) → Bytes ys
+pub bytes-second : (xs ys : List ℕ) → AllBytes (xs ++ ys) → AllBytes ys
 bytes-second [] ys b = b
-bytes-second (x ∷ xs) ys b = bytes-second xs ys (b .1)
+bytes-second (x ∷ xs) ys b = bytes-second xs ys (λ n. b (suc n))
 
-pub bytes-both : (xs ys : List ℕ) → Bytes xs → Bytes ys → Bytes (xs ++ ys)
-bytes-both [] ys a b = b
-bytes-both (x ∷ xs) ys a b = (a .0, bytes-both xs ys (a .1) b)
+pub bytes-both : (xs ys : List ℕ) → AllBytes xs → AllBytes ys → AllBytes (xs ++ ys)
+bytes-both [] ys a b k = b k
+bytes-both (x ∷ xs) ys a b zero = a 0
+bytes-both (x ∷ xs) ys a b (suc k) = bytes-both xs ys (λ n. a (suc n)) b k
 
-pub bytes-drop : (n : ℕ) (xs : List ℕ) → Bytes xs → Bytes (drop n xs)
-bytes-drop zero xs b = b
-bytes-drop (suc n) [] b = tt
-bytes-drop (suc n) (x ∷ xs) b = bytes-drop n xs (b .1)
+-- ---- what is accepted from line bytes is bytes
 
-bytes-oldest : (xs : List ℕ) → Bytes xs → getD xs 0 0 < 256
-bytes-oldest [] b = omega arith
-bytes-oldest (x ∷ xs) b = b .0
+no-bytes : AllBytes []
+no-bytes k = omega arith
 
--- ---- what is held in a store of bytes, and accepted from line bytes, is bytes
-
-bytes-at : (xs : List ℕ) → ((i : ℕ) → i < length xs → getD xs i 0 < 256) → Bytes xs
-bytes-at [] h = tt
-bytes-at (x ∷ xs) h = (h 0 (omega arith), bytes-at xs (λ i l. h (suc i) (omega arith)))
-
-pub held-bytes : (s : List ℕ) (r : Ring) → Fit s r → ((k : ℕ) → getD s k 0 < 256) → Bytes (held s r)
-held-bytes s r f h = bytes-at (held s r) (λ i l. subst (λ n. n < 256) (sym (held-at s r i f (omega (arith, held-length s r f)))) (h _))
+one-byte : (b : ℕ) → b < 256 → AllBytes (b ∷ [])
+one-byte b h zero = h
+one-byte b h (suc k) = omega arith
 
 -- a line byte is a byte
 abbrev pub ByteCalls : List Call → Type 0
@@ -68,16 +60,16 @@ ByteCalls (nextLineByte ∷ cs) = ByteCalls cs
 ByteCalls (loopFrame f ∷ cs) = ByteCalls cs
 ByteCalls (show side ∷ cs) = ByteCalls cs
 
-none-first : (w : World) (ys : List ℕ) → Bytes ys → Bytes (cond (full (w .state .sizes .rx) (w .state .rx)) [] [] ++ ys)
-none-first w ys b = by-cond (λ l. Bytes (l ++ ys)) (full (w .state .sizes .rx) (w .state .rx)) [] [] (λ _. b) (λ _. b)
+none-first : (w : World) (ys : List ℕ) → AllBytes ys → AllBytes (cond (full (w .state .sizes .rx) (w .state .rx)) [] [] ++ ys)
+none-first w ys b = by-cond (λ l. AllBytes (l ++ ys)) (full (w .state .sizes .rx) (w .state .rx)) [] [] (λ _. b) (λ _. b)
 
-pub accepted-bytes : (cs : List Call) (w : World) → ByteCalls cs → Bytes (all accepted cs w)
+pub accepted-bytes : (cs : List Call) (w : World) → ByteCalls cs → AllBytes (all accepted cs w)
 unfolding all accepted arrived
-accepted-bytes [] w b = tt
+accepted-bytes [] w b = no-bytes
 accepted-bytes (lineByte n ∷ cs) w b =
     bytes-both (accepted (lineByte n) w (answer (lineByte n) w)) (all accepted cs (after (lineByte n) w))
-    (by-cond Bytes (full (w .state .sizes .rx) (w .state .rx)) _ _ (λ _. tt)
-    (λ _. by-cond Bytes (taken (answer (lineByte n) w) && not (isGoOrStop (w .state .regs) n)) (n ∷ []) [] (λ _. (b .0, tt)) (λ _. tt)))
+    (by-cond AllBytes (full (w .state .sizes .rx) (w .state .rx)) _ _ (λ _. no-bytes)
+    (λ _. by-cond AllBytes (taken (answer (lineByte n) w) && not (isGoOrStop (w .state .regs) n)) (n ∷ []) [] (λ _. one-byte n (b .0)) (λ _. no-bytes)))
     (accepted-bytes cs (after (lineByte n) w) (b .1))
 accepted-bytes (create m ∷ cs) w b = none-first w (all accepted cs (after (create m) w)) (accepted-bytes cs (after (create m) w) b)
 accepted-bytes (reset ∷ cs) w b = none-first w (all accepted cs (after reset w)) (accepted-bytes cs (after reset w) b)
@@ -103,10 +95,10 @@ plain-end : (b : ℕ) → b < 256 → Plain (made 2 b)
 unfolding stripped
 plain-end b h = record { isdata = lt-ltb (controlOf (made 2 b)) 4 (omega arith); bare = omega arith }
 
-gives-plain : (d : Decision) (xs : List ℕ) (f : ℕ) (r : List ℕ) → carried d xs ≡ give f r → Bytes xs → Plain f
+gives-plain : (d : Decision) (xs : List ℕ) (f : ℕ) (r : List ℕ) → carried d xs ≡ give f r → AllBytes xs → Plain f
 gives-plain Removed xs f r e b = let z : _≡_ {A = ℕ} 0 1 = cc in absurd (omega arith)
-gives-plain End xs f r e b = let q : made 2 (getD xs 0 0) ≡ f = cc in subst Plain q (plain-end (getD xs 0 0) (bytes-oldest xs b))
-gives-plain Data xs f r e b = let q : made 0 (getD xs 0 0) ≡ f = cc in subst Plain q (plain-data (getD xs 0 0) (bytes-oldest xs b))
+gives-plain End xs f r e b = let q : made 2 (getD xs 0 0) ≡ f = cc in subst Plain q (plain-end (getD xs 0 0) (b 0))
+gives-plain Data xs f r e b = let q : made 0 (getD xs 0 0) ≡ f = cc in subst Plain q (plain-data (getD xs 0 0) (b 0))
 gives-plain Wait xs f r e b = let z : _≡_ {A = ℕ} 0 1 = cc in absurd (omega arith)
 
 abbrev PlainSent : Sent ℕ ℕ → Type 0
@@ -114,17 +106,17 @@ PlainSent (none r) = Unit {0}
 PlainSent (one f r) = Plain f
 
 module _ (rule : Rule) where
-  cut-plain : (xs : List ℕ) (f : ℕ) (r : List ℕ) → cut rule xs ≡ give f r → Bytes xs → Plain f
+  cut-plain : (xs : List ℕ) (f : ℕ) (r : List ℕ) → cut rule xs ≡ give f r → AllBytes xs → Plain f
   unfolding cut
   cut-plain xs f r e b = gives-plain (decision rule xs) xs f r e b
 
-  sends-plain : (xs : List ℕ) → Bytes xs → PlainSent (send (cut rule) xs)
+  sends-plain : (xs : List ℕ) → AllBytes xs → PlainSent (send (cut rule) xs)
   sends-plain =
-      by-cuts (cut rule) (lawful rule) (λ xs. Bytes xs → PlainSent (send (cut rule) xs))
+      by-cuts (cut rule) (lawful rule) (λ xs. AllBytes xs → PlainSent (send (cut rule) xs))
       (λ xs e b. rw (send-at (cut rule) (lawful rule) xs wait e) tt)
-      (λ xs r e ih b. rw (send-at (cut rule) (lawful rule) xs (skip r) e) (ih (subst Bytes (sym (skip-oldest (cut rule) (lawful rule) xs r e .suffix)) (bytes-drop (length xs - length r) xs b))))
+      (λ xs r e ih b. rw (send-at (cut rule) (lawful rule) xs (skip r) e) (ih (subst AllBytes (sym (skip-oldest (cut rule) (lawful rule) xs r e .suffix)) (drop-bytes (length xs - length r) xs b))))
       (λ xs f r e ih b. rw (send-at (cut rule) (lawful rule) xs (give f r) e) (cut-plain xs f r e b))
 
   -- a frame that is sent from bytes is a data frame with its service bit off
-  pub sent-plain : (xs : List ℕ) (f : ℕ) (r : List ℕ) → send (cut rule) xs ≡ one f r → Bytes xs → Plain f
+  pub sent-plain : (xs : List ℕ) (f : ℕ) (r : List ℕ) → send (cut rule) xs ≡ one f r → AllBytes xs → Plain f
   sent-plain xs f r e b = subst PlainSent e (sends-plain xs b)

@@ -13,9 +13,10 @@ use Rattle.state.specs.Sizes.{startState}
 use Rattle.line.specs.HoldingOff.{storedWith}
 use Rattle.loops.specs.Sending.{ruleOf}
 use Rattle.bridge.specs.Calls.{Call, World}
+use Rattle.laws.specs.Fitting.{AllBytes}
 use Rattle.runs.specs.Observers.{accepted, lost, sent}
 use Rattle.runs.specs.Run.{answer, after, end, all, startsAnew}
-use Rattle.runs.specs.Worlds.{heldToSend, Bytes}
+use Rattle.runs.specs.Worlds.{heldToSend}
 use Rattle.runs.specs.Counts.{wrapped, Small, CountsGo, CountsSince}
 use Rattle.runs.proofs.Shapes.{Seen, seen, Heart, heart, Shape, isStill, isBegun, isWritten, isCleared, isStored, isLost, isSent, isNone, isLeft, isHanded}
 use Rattle.runs.proofs.View.{view}
@@ -42,7 +43,7 @@ module _ (w : World) (S : Small w) where
         sent = none-more _ (S .sent) ∙ ap (λ k. wrapped (w .state .counts .sent + length k)) (sym s);
       }
 
-  stepped : (x : Seen) (h : Heart) (rx tx : List ℕ) → Shape w x h rx tx → x .startsAnew ≡ false → Bytes (heldToSend w) → Stepped x (w .state .counts) (h .counts)
+  stepped : (x : Seen) (h : Heart) (rx tx : List ℕ) → Shape w x h rx tx → x .startsAnew ≡ false → AllBytes (heldToSend w) → Stepped x (w .state .counts) (h .counts)
   unfolding storedWith sendHeld
   stepped x h rx tx isStill n B = same x refl refl refl
   stepped x h rx tx (isBegun m) n B = absurd (false≢true (sym n))
@@ -60,7 +61,7 @@ module _ (w : World) (S : Small w) where
   stepped x h rx tx (isLeft l F e) n B = same x refl refl refl
   stepped x h rx tx (isHanded F e) n B = same x refl refl refl
 
-step-counts : (c : Call) (w : World) → startsAnew c w (answer c w) ≡ false → Bytes (heldToSend w) → Small w → Stepped (seen c w (answer c w)) (w .state .counts) (after c w .state .counts)
+step-counts : (c : Call) (w : World) → startsAnew c w (answer c w) ≡ false → AllBytes (heldToSend w) → Small w → Stepped (seen c w (answer c w)) (w .state .counts) (after c w .state .counts)
 step-counts c w n B S = stepped w S (seen c w (answer c w)) (heart (after c w .state)) (after c w .rx) (after c w .tx) (view c w) n B
 
 -- one call, and then the rest
@@ -110,7 +111,7 @@ pub counts-since : CountsSince
 counts-since c w b cs n B =
     let z = begun-zero w (seen c w (answer c w)) (heart (after c w .state)) (after c w .rx) (after c w .tx) (view c w) b in
     let r =
-    counts-go cs (after c w) n (subst (λ l. Bytes (l ++ all accepted cs (after c w))) (sym (z .empty)) B)
+    counts-go cs (after c w) n (subst (λ l. AllBytes (l ++ all accepted cs (after c w))) (sym (z .empty)) B)
     (record { stored = omega (arith, z .stored); lost = omega (arith, z .lost); sent = omega (arith, z .sent) }) in
     record {
       stored = r .stored ∙ ap (λ (k : ℕ). wrapped (k + length (all accepted cs (after c w)))) (z .stored) ∙ ap wrapped (omega arith);

@@ -20,13 +20,15 @@ use Rattle.state.proofs.Fits.{rx-fits}
 use Rattle.line.specs.HoldingOff.{storedWith}
 use Rattle.loops.specs.Sending.{ruleOf}
 use Rattle.bridge.specs.Calls.{Call, World}
+use Rattle.laws.specs.Fitting.{AllBytes}
+use Rattle.laws.proofs.Small.{drop-bytes}
 use Rattle.runs.specs.Observers.{accepted, sent}
 use Rattle.runs.specs.Run.{answer, after, all, Without, changes}
-use Rattle.runs.specs.Worlds.{heldToSend, reading, Bytes}
+use Rattle.runs.specs.Worlds.{heldToSend, reading}
 use Rattle.runs.specs.Demands.{lineToLoop, FramesRead}
 use Rattle.runs.proofs.Shapes.{Seen, seen, Heart, heart, Fits, Shape, isStill, isBegun, isWritten, isCleared, isStored, isLost, isSent, isNone, isLeft, isHanded}
 use Rattle.runs.proofs.View.{view}
-use Rattle.runs.proofs.Bytes.{bytes-first, bytes-second, bytes-both, bytes-drop, sent-plain}
+use Rattle.runs.proofs.Bytes.{bytes-first, bytes-second, bytes-both, sent-plain}
 use Rattle.runs.proofs.Sends.{held-sent, seen-plain}
 use Rattle.runs.proofs.Runs.{first-not, in-plain-words}
 
@@ -57,7 +59,7 @@ module _ (w : World) where
       ∙ (λ i. sentFrames (e i) ++ reading w (sentRest (e i) ++ ys))
       ∙ ap (λ l. sentFrames x ++ reading w (l ++ ys)) (sym (held-after x F e))
 
-  keeps : (x : Seen) (h : Heart) (rx tx : List ℕ) → Shape w x h rx tx → x .changes ≡ false → Bytes (heldToSend w) → (ys : List ℕ) →
+  keeps : (x : Seen) (h : Heart) (rx tx : List ℕ) → Shape w x h rx tx → x .changes ≡ false → AllBytes (heldToSend w) → (ys : List ℕ) →
       reading w (heldToSend w ++ (x .accepted ++ ys)) ≡ x .sent ++ frames (cut (ruleOf (h .regs))) (held rx (h .rx) ++ ys)
   unfolding storedWith sendHeld
   keeps x h rx tx isStill n B ys = refl
@@ -75,20 +77,20 @@ module _ (w : World) where
   keeps x h rx tx (isHanded F e) n B ys = refl
 
   -- bytes stay bytes, whatever is done
-  send-bytes : (x : Sent ℕ ℕ) → Fits w → sendHeld (ruleOf (w .state .regs)) (w .rx) (w .state .rx) ≡ x → Bytes (heldToSend w) →
-      Bytes (afterSend w)
+  send-bytes : (x : Sent ℕ ℕ) → Fits w → sendHeld (ruleOf (w .state .regs)) (w .rx) (w .state .rx) ≡ x → AllBytes (heldToSend w) →
+      AllBytes (afterSend w)
   unfolding sendHeld
   send-bytes x F e B =
-      subst Bytes (sym (held-after x F e ∙ ap sentRest (sym e) ∙ send-suffix (cut (ruleOf (w .state .regs))) (lawful (ruleOf (w .state .regs))) (heldToSend w)))
-      (bytes-drop (length (heldToSend w) - length (sentRest (send (cut (ruleOf (w .state .regs))) (heldToSend w)))) (heldToSend w) B)
+      subst AllBytes (sym (held-after x F e ∙ ap sentRest (sym e) ∙ send-suffix (cut (ruleOf (w .state .regs))) (lawful (ruleOf (w .state .regs))) (heldToSend w)))
+      (drop-bytes (length (heldToSend w) - length (sentRest (send (cut (ruleOf (w .state .regs))) (heldToSend w)))) (heldToSend w) B)
 
-  pub bytes-kept : (x : Seen) (h : Heart) (rx tx : List ℕ) → Shape w x h rx tx → (ys : List ℕ) → Bytes (heldToSend w ++ (x .accepted ++ ys)) → Bytes (held rx (h .rx) ++ ys)
+  pub bytes-kept : (x : Seen) (h : Heart) (rx tx : List ℕ) → Shape w x h rx tx → (ys : List ℕ) → AllBytes (heldToSend w ++ (x .accepted ++ ys)) → AllBytes (held rx (h .rx) ++ ys)
   unfolding storedWith startState
   bytes-kept x h rx tx isStill ys B = B
-  bytes-kept x h rx tx (isBegun m) ys B = subst (λ l. Bytes (l ++ ys)) (sym (held-empty (w .rx))) (bytes-second (heldToSend w) ys B)
+  bytes-kept x h rx tx (isBegun m) ys B = subst (λ l. AllBytes (l ++ ys)) (sym (held-empty (w .rx))) (bytes-second (heldToSend w) ys B)
   bytes-kept x h rx tx (isWritten g t) ys B = B
-  bytes-kept x h rx tx isCleared ys B = subst (λ l. Bytes (l ++ ys)) (sym (held-empty (w .rx))) (bytes-second (heldToSend w) ys B)
-  bytes-kept x h rx tx (isStored b F l) ys B = subst (λ l. Bytes (l ++ ys)) (sym (held-stored b F l)) (subst Bytes (sym (append-assoc (heldToSend w) (b ∷ []) ys)) B)
+  bytes-kept x h rx tx isCleared ys B = subst (λ l. AllBytes (l ++ ys)) (sym (held-empty (w .rx))) (bytes-second (heldToSend w) ys B)
+  bytes-kept x h rx tx (isStored b F l) ys B = subst (λ l. AllBytes (l ++ ys)) (sym (held-stored b F l)) (subst AllBytes (sym (append-assoc (heldToSend w) (b ∷ []) ys)) B)
   bytes-kept x h rx tx (isLost b l) ys B = B
   bytes-kept x h rx tx (isSent f r F e) ys B = bytes-both (afterSend w) ys (send-bytes (one f r) F e (bytes-first (heldToSend w) ys B)) (bytes-second (heldToSend w) ys B)
   bytes-kept x h rx tx (isNone r F e) ys B = bytes-both (afterSend w) ys (send-bytes (none r) F e (bytes-first (heldToSend w) ys B)) (bytes-second (heldToSend w) ys B)
@@ -96,7 +98,7 @@ module _ (w : World) where
   bytes-kept x h rx tx (isHanded F e) ys B = B
 
 -- the same of a call
-pub bytes-after : (c : Call) (w : World) (ys : List ℕ) → Bytes (heldToSend w ++ (accepted c w (answer c w) ++ ys)) → Bytes (heldToSend (after c w) ++ ys)
+pub bytes-after : (c : Call) (w : World) (ys : List ℕ) → AllBytes (heldToSend w ++ (accepted c w (answer c w) ++ ys)) → AllBytes (heldToSend (after c w) ++ ys)
 bytes-after c w ys B = bytes-kept w (seen c w (answer c w)) (heart (after c w .state)) (after c w .rx) (after c w .tx) (view c w) ys B
 
 turn-reads : TurnReads lineToLoop
@@ -106,7 +108,7 @@ turn-reads c w a ys = keeps w (seen c w (answer c w)) (heart (after c w .state))
 pub line-to-loop : AllRead lineToLoop
 line-to-loop = all-read lineToLoop turn-reads
 
-allowed : (cs : List Call) (w : World) → Without changes cs w → Bytes (heldToSend w ++ all accepted cs w) → Allowed lineToLoop cs w
+allowed : (cs : List Call) (w : World) → Without changes cs w → AllBytes (heldToSend w ++ all accepted cs w) → Allowed lineToLoop cs w
 unfolding all
 allowed [] w n B = tt
 allowed (c ∷ cs) w n B =

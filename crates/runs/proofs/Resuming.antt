@@ -31,8 +31,9 @@ use Rattle.state.specs.Answers.{said, refused}
 use Rattle.loops.specs.Frames.{frameTaken, deviceClear}
 use Rattle.bridge.specs.Calls.{loopFrame, World, Did, checks, outcome, settledBy, refusedOr, step}
 use Rattle.bridge.specs.Calls as calls
+use Rattle.laws.specs.Fitting.{AllBytes}
 use Rattle.runs.specs.Observers.{taken, dataFrame, isSend, sent}
-use Rattle.runs.specs.Worlds.{heldToSend, Bytes}
+use Rattle.runs.specs.Worlds.{heldToSend}
 use Rattle.runs.specs.Resuming.{EmptySendResumes}
 use Rattle.runs.proofs.Shapes.{Fits}
 use Rattle.runs.proofs.View.{fitting}
@@ -127,7 +128,7 @@ none-resumes s rx tx r e h = unfold removedState resumed in off (s .line .holdin
 
 -- ---- every send
 
-module _ (f : ℕ) (w : World) (B : Bytes (heldToSend w)) (S : isSend (w .state) f ≡ true) (F : Fits w) where
+module _ (f : ℕ) (w : World) (B : AllBytes (heldToSend w)) (S : isSend (w .state) f ≡ true) (F : Fits w) where
   abbrev Resumes : Outcome → Type 0
   Resumes o = dataFrame (said (o .answer)) ≡ [] → o .state .line .holding ≡ false
 

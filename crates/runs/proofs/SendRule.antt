@@ -23,9 +23,10 @@ use Rattle.loops.specs.Sending.{ruleOf, removedState, sendState, sendFrom, ende
 use Rattle.loops.specs.Frames.{readied, ready, returned, frameTaken}
 use Rattle.bridge.specs.Calls.{loopFrame, World, Did, checks, outcome, refusedOr, step}
 use Rattle.bridge.specs.Calls as calls
+use Rattle.laws.specs.Fitting.{AllBytes}
 use Rattle.runs.specs.Observers.{taken, dataFrame, isAsked, equalReturn, isSend, sent}
 use Rattle.runs.specs.Run.{answer}
-use Rattle.runs.specs.Worlds.{heldToSend, reading, Bytes}
+use Rattle.runs.specs.Worlds.{heldToSend, reading}
 use Rattle.runs.specs.SendRule.{firstOf, SendRule}
 use Rattle.runs.proofs.Bytes.{sent-plain}
 use Rattle.runs.proofs.Sends.{seen-plain}
@@ -70,7 +71,7 @@ module _ (s : State) (rx : List ℕ) (f : ℕ) where
       go true e = asked-sends e
       go false e = back-sends ((λ i. sym e i || (equalReturn s f && (eqb (s .role .talker) 2 && not (s .under .finishing)))) ∙ A)
 
-module _ (w : World) (B : Bytes (heldToSend w)) where
+module _ (w : World) (B : AllBytes (heldToSend w)) where
   record First (a : Said) : Type 0 where
     first : dataFrame a ≡ firstOf (reading w (heldToSend w))
     ends : reading w (heldToSend w) ≡ [] → a ≡ frame 5 64
@@ -92,7 +93,7 @@ module _ (w : World) (B : Bytes (heldToSend w)) where
             ends = λ h. let z : g ∷ reading w (r ++ []) ≡ [] = sym n ∙ h in cc;
           }
 
-module _ (f : ℕ) (w : World) (B : Bytes (heldToSend w)) (S : isSend (w .state) f ≡ true) where
+module _ (f : ℕ) (w : World) (B : AllBytes (heldToSend w)) (S : isSend (w .state) f ≡ true) where
   abbrev Right : Said → Type 0
   Right a = (cond (isSend (w .state) f) (dataFrame a) [] ≡ firstOf (reading w (heldToSend w))) × (reading w (heldToSend w) ≡ [] → a ≡ frame 5 64)
 

@@ -24,8 +24,9 @@ use Rattle.loops.specs.Frames.{command, readied, ready, returned, dataPassed, i
 use Rattle.cases.specs.Refusals.{firstRefusal}
 use Rattle.bridge.specs.Calls.{loopFrame, World, Did, checks, outcome, refusedOr, step}
 use Rattle.bridge.specs.Calls as calls
+use Rattle.laws.specs.Fitting.{AllBytes}
 use Rattle.runs.specs.Observers.{passesOn}
-use Rattle.runs.specs.Worlds.{heldToSend, Bytes}
+use Rattle.runs.specs.Worlds.{heldToSend}
 use Rattle.runs.specs.Service.{carriesService, ServiceRight, ServiceBit}
 use Rattle.runs.proofs.Answered.{serviced-kind, serviced-rest, status-small}
 use Rattle.runs.proofs.Bytes.{Plain, plain-data, sent-plain}
@@ -80,7 +81,7 @@ module _ (w : World) (f : ℕ) where
           other = λ _ _. ap (λ k. ltb k 4 || eqb k 5) e;
         })
 
-    send-right : Bytes (heldToSend w) → OutRight (sendFrom (w .state) (w .rx))
+    send-right : AllBytes (heldToSend w) → OutRight (sendFrom (w .state) (w .rx))
     unfolding sendFrom sendState ended sendHeld
     send-right B = go (sendHeld (ruleOf (w .state .regs)) (w .rx) (w .state .rx)) refl
       where
@@ -96,7 +97,7 @@ module _ (w : World) (f : ℕ) where
     unfolding ended
     ended-right s d h = plain-ready (made 5 d) (omega arith)
 
-    return-right : Bytes (heldToSend w) → OutRight (returned (w .state) (w .rx) f)
+    return-right : AllBytes (heldToSend w) → OutRight (returned (w .state) (w .rx) f)
     unfolding returned
     return-right B =
         by-cond OutRight (sameApart f (w .state .under .frame)) _ _
@@ -104,7 +105,7 @@ module _ (w : World) (f : ℕ) where
         (λ _. by-cond OutRight (w .state .under .finishing) _ _ (λ _. ended-right (w .state) 64 (omega arith)) (λ _. send-right B)))
         (λ _. ended-right (w .state) 65 (omega arith))
 
-    ready-right : Bytes (heldToSend w) → controlOf f ≡ 5 → OutRight (ready (w .state) (w .rx) f)
+    ready-right : AllBytes (heldToSend w) → controlOf f ≡ 5 → OutRight (ready (w .state) (w .rx) f)
     unfolding ready readied readyOf
     ready-right B R =
         by-cond Readied (givesAddress (w .state .role) (dataOf f)) _ _ (λ e. plain-ready (made 5 (dataOf f + 1)) (next e))
@@ -147,7 +148,7 @@ module _ (w : World) (f : ℕ) where
   abbrev passing : Bool → Bool → Bool → Bool
   passing x a i = (x && not a) || i
 
-  frame-right : Bytes (heldToSend w) → OutRight (frameTaken (w .state) (w .rx) f)
+  frame-right : AllBytes (heldToSend w) → OutRight (frameTaken (w .state) (w .rx) f)
   unfolding frameTaken passesOn dataPassed identify
   frame-right B =
       by-cond OutRight (isData f) _ _

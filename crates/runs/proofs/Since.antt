@@ -7,9 +7,10 @@ use Rattle.store.specs.Ring.{held}
 use Rattle.store.proofs.Laws.{held-empty}
 use Rattle.state.specs.Sizes.{startState}
 use Rattle.bridge.specs.Calls.{World}
+use Rattle.laws.specs.Fitting.{AllBytes}
 use Rattle.runs.specs.Observers.{accepted}
 use Rattle.runs.specs.Run.{answer, after, all}
-use Rattle.runs.specs.Worlds.{heldToSend, reading, Bytes}
+use Rattle.runs.specs.Worlds.{heldToSend, reading}
 use Rattle.runs.specs.SendRule.{FramesSince}
 use Rattle.runs.proofs.Shapes.{Seen, seen, Heart, heart, Shape, isStill, isBegun, isWritten, isCleared, isStored, isLost, isSent, isNone, isLeft, isHanded}
 use Rattle.runs.proofs.View.{view}
@@ -30,7 +31,7 @@ emptied w x h rx tx (isHanded F e) n = absurd (false≢true n)
 
 pub frames-since : FramesSince
 frames-since c w e cs n B =
-    frames-read cs (after c w) n (subst (λ (l : List ℕ). Bytes (l ++ all accepted cs (after c w))) (sym none) B)
+    frames-read cs (after c w) n (subst (λ (l : List ℕ). AllBytes (l ++ all accepted cs (after c w))) (sym none) B)
     ∙ ap (λ (l : List ℕ). reading (after c w) (l ++ all accepted cs (after c w))) none
   where
     none : heldToSend (after c w) ≡ []

@@ -5,9 +5,10 @@ use mathlib.Core.Bool.{true}
 use mathlib.Core.List.{List, _++_}
 use lib.ListN.{length}
 use Rattle.bridge.specs.Calls.{Call, World}
+use Rattle.laws.specs.Fitting.{AllBytes}
 use Rattle.runs.specs.Observers.{accepted, lost, sent}
 use Rattle.runs.specs.Run.{answer, after, end, all, Without, startsAnew}
-use Rattle.runs.specs.Worlds.{heldToSend, Bytes}
+use Rattle.runs.specs.Worlds.{heldToSend}
 
 -- "bytes stored in the receive store, bytes lost, data frames sent from the receive store"
 abbrev pub stored : World → ℕ
@@ -37,7 +38,7 @@ pub record Small (w : World) : Type 0 where
 
 -- from any counts: each has gone up by what the run accepted, lost and sent
 abbrev pub CountsGo : Type 0
-CountsGo = (cs : List Call) (w : World) → Without startsAnew cs w → Bytes (heldToSend w ++ all accepted cs w) → Small w → Counted cs w (end cs w)
+CountsGo = (cs : List Call) (w : World) → Without startsAnew cs w → AllBytes (heldToSend w ++ all accepted cs w) → Small w → Counted cs w (end cs w)
 
 -- "three counts since create or reset": "bytes stored in the receive store, bytes lost, data frames sent from the receive store"
 pub record CountedSince (cs : List Call) (v w : World) : Type 0 where
@@ -49,4 +50,4 @@ pub record CountedSince (cs : List Call) (v w : World) : Type 0 where
 abbrev pub CountsSince : Type 0
 CountsSince =
     (c : Call) (w : World) → startsAnew c w (answer c w) ≡ true → (cs : List Call) → Without startsAnew cs (after c w) →
-    Bytes (all accepted cs (after c w)) → CountedSince cs (after c w) (end cs (after c w))
+    AllBytes (all accepted cs (after c w)) → CountedSince cs (after c w) (end cs (after c w))

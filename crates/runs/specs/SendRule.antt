@@ -5,9 +5,10 @@ use mathlib.Core.Bool.{true, cond, _||_}
 use mathlib.Core.List.{List, [], _∷_, _++_}
 use Rattle.state.specs.Answers.{Said, frame}
 use Rattle.bridge.specs.Calls.{Call, loopFrame, World}
+use Rattle.laws.specs.Fitting.{AllBytes}
 use Rattle.runs.specs.Observers.{taken, onFrame, dataFrame, asksStatus, passesOn, isSend, sent, accepted}
 use Rattle.runs.specs.Run.{answer, after, end, all, Without, changes, empties}
-use Rattle.runs.specs.Worlds.{heldToSend, reading, Bytes}
+use Rattle.runs.specs.Worlds.{heldToSend, reading}
 
 -- every data frame out that is neither passed on nor the status byte
 unfoldable pub ours : Call → World → Said → List ℕ
@@ -28,7 +29,7 @@ pub record SendsFirst (f : ℕ) (w : World) : Type 0 where
   pub ends : reading w (heldToSend w) ≡ [] → answer (loopFrame f) w ≡ frame 5 64
 
 abbrev pub SendRule : Type 0
-SendRule = (f : ℕ) (w : World) → Bytes (heldToSend w) → taken (answer (loopFrame f) w) ≡ true → isSend (w .state) f ≡ true → SendsFirst f w
+SendRule = (f : ℕ) (w : World) → AllBytes (heldToSend w) → taken (answer (loopFrame f) w) ≡ true → isSend (w .state) f ≡ true → SendsFirst f w
 
 -- ---- the receive store since it was emptied
 
@@ -36,5 +37,5 @@ SendRule = (f : ℕ) (w : World) → Bytes (heldToSend w) → taken (answer (loo
 -- of all accepted since, and of nothing that was held before
 abbrev pub FramesSince : Type 0
 FramesSince =
-    (c : Call) (w : World) → empties c w (answer c w) ≡ true → (cs : List Call) → Without changes cs (after c w) → Bytes (all accepted cs (after c w)) →
+    (c : Call) (w : World) → empties c w (answer c w) ≡ true → (cs : List Call) → Without changes cs (after c w) → AllBytes (all accepted cs (after c w)) →
     all sent cs (after c w) ++ reading (end cs (after c w)) (heldToSend (end cs (after c w))) ≡ reading (after c w) (all accepted cs (after c w))

@@ -7,9 +7,10 @@ use Rattle.frame.specs.Frame.{controlOf, made, hasService, stripped}
 use Rattle.state.specs.Answers.{frame}
 use Rattle.state.specs.Status.{shows}
 use Rattle.bridge.specs.Calls.{loopFrame, World}
+use Rattle.laws.specs.Fitting.{AllBytes}
 use Rattle.runs.specs.Observers.{passesOn}
 use Rattle.runs.specs.Run.{answer}
-use Rattle.runs.specs.Worlds.{heldToSend, Bytes}
+use Rattle.runs.specs.Worlds.{heldToSend}
 
 -- by its control bits, a data or an identify frame
 abbrev pub carriesService : ℕ → Bool
@@ -29,4 +30,4 @@ pub record ServiceRight (w : World) (f k d : ℕ) : Type 0 where
 
 -- of every frame taken, in every world
 abbrev pub ServiceBit : Type 0
-ServiceBit = (f k d : ℕ) (w : World) → Bytes (heldToSend w) → answer (loopFrame f) w ≡ frame k d → ServiceRight w f k d
+ServiceBit = (f k d : ℕ) (w : World) → AllBytes (heldToSend w) → answer (loopFrame f) w ≡ frame k d → ServiceRight w f k d

@@ -1,6 +1,6 @@
 -- What a world holds, and how it is read.
-use Prim.Native.Nat.{ℕ, _<_}
-use mathlib.Core.List.{List, [], _∷_}
+use Prim.Native.Nat.{ℕ}
+use mathlib.Core.List.{List}
 use Rattle.store.specs.Ring.{held}
 use Rattle.reading.specs.Reading.{frames}
 use Rattle.reading.specs.Steps.{cut}
@@ -21,11 +21,6 @@ heldForLine w = held (w .tx) (w .state .tx)
 -- "those the reading rule gives"
 abbrev pub reading : World → List ℕ → List ℕ
 reading w = frames (cut (ruleOf (w .state .regs)))
-
--- numbers that a byte can be
-abbrev pub Bytes : List ℕ → Type 0
-Bytes [] = Unit {0}
-Bytes (b ∷ bs) = (b < 256) × Bytes bs
 
 -- what is accepted, sent and held in a run of calls, and how what is held is read
 abbrev pub over : (accepted sent : Call → World → Said → List ℕ) → (World → List ℕ) → (World → List ℕ → List ℕ) → (Call → World → Type 0) → Product
