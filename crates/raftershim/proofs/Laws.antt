@@ -7,7 +7,8 @@ use mathlib.Core.List.{List, [], _∷_}
 use lib.ListN.{length, take, drop}
 use lib.Dec.{eqb}
 use borrow.Author.Tests.{eqb-false, eqb-true}
-use Rattle.cases.proofs.Cases.{by-cond}
+use Rattle.cases.proofs.Cases.{by-cond, cond-false}
+use Rattle.state.specs.Sizes.{fits}
 use Rattle.block.specs.Packed.{blockLen, packed}
 use Rattle.block.specs.States.{Ranged}
 use Rattle.block.proofs.Laws.{packed-length, packed-means, meaning-fits}
@@ -17,7 +18,7 @@ use Rattle.laws.proofs.Answers.{refused-exactly}
 use Rattle.raftershim.specs.Word.{word, placeWord, startOf, storeOf, shownWord}
 use Rattle.raftershim.specs.Calls.{Lent, lent, Returned, returned, opened, closed, createdFor, cStep, needsState}
 use Rattle.raftershim.specs.Runs.{packedWorld, answerWord}
-use Rattle.raftershim.specs.Laws.{OneResult, WordTells, ShownPlace, MisfitRefused, WrongBlockRefused, SameCall}
+use Rattle.raftershim.specs.Laws.{OneResult, WordTells, ShownPlace, MisfitShowsNothing, MisfitRefused, WrongBlockRefused, SameCall}
 use Rattle.raftershim.proofs.Closing.{misfit-step, Shown, shown-part}
 
 -- every call is create, showing, or one on a state
@@ -118,6 +119,22 @@ shown-place side w = pick (eqb (length p) 0) refl
         let low : placeWord k (length p) % 4294967296 ≡ length p = omega (arith, t .start, t .len) in
         let high : placeWord k (length p) / 4294967296 ≡ k = omega (arith, t .start, t .len) in
         rw (e, low, high) (t .place)
+
+-- "an empty part if .. the state misfits"
+shown-none : (side : ℕ) (w : World) → fits (w .state) (length (w .rx)) (length (w .tx)) ≡ false → shown side w ≡ []
+unfolding shown
+shown-none side w e = cond-false _ _ _ e
+
+-- an empty part is the number 0
+word-none : (side : ℕ) (w : World) → shown side w ≡ [] → shownWord side w ≡ 0
+unfolding shownWord
+word-none side w e = λ i. cond (eqb (length (e i)) 0) 0 (placeWord (startOf side (w .state)) (length (e i)))
+
+pub misfit-shows-nothing : MisfitShowsNothing
+unfolding cStep
+misfit-shows-nothing side l e =
+    let misfits : fits (opened l .state) (length (l .rx)) (length (l .tx)) ≡ false = meaning-fits (l .block) (length (l .rx)) (length (l .tx)) ∙ e in
+    λ i. record { word = word-none side (opened l) (shown-none side (opened l) misfits) i; lent = l }
 
 -- ---- the C functions are the same calls
 

@@ -8,7 +8,7 @@ use lib.Dec.{eqb}
 use Rattle.state.specs.Answers.{Said, refused}
 use Rattle.block.specs.Packed.{blockLen}
 use Rattle.block.specs.States.{fittingBlock, Ranged}
-use Rattle.bridge.specs.Calls.{Call, create, World, step, shown}
+use Rattle.bridge.specs.Calls.{Call, create, show, World, step, shown}
 use Rattle.laws.specs.Answers.{isRefusal}
 use Rattle.runs.specs.Run.{end}
 use Rattle.raftershim.specs.Word.{word, kindOf, valueOf, storeOf, shownWord}
@@ -32,6 +32,11 @@ WordTells = (a : Said) → valueOf a < 65536 → (word a / 65536 ≡ kindOf a) �
 -- its length and bits 32 to 63 its start in the buffer of that side
 abbrev pub ShownPlace : Type 0
 ShownPlace = (side : ℕ) (w : World) → shown side w ≡ take (shownWord side w % 4294967296) (drop (shownWord side w / 4294967296) (storeOf side w))
+
+-- "showing a store with a misfit state gives an empty part", the number 0, and nothing is written: of any block that is no fitting state
+abbrev pub MisfitShowsNothing : Type 0
+MisfitShowsNothing =
+    (side : ℕ) (l : Lent) → fittingBlock (l .block) (length (l .rx)) (length (l .tx)) ≡ false → cStep (show side) l ≡ record { word = 0; lent = l }
 
 -- ---- refusals
 
