@@ -1,5 +1,5 @@
--- `Closing` serves the proofs of the functions. `Laws` and `Runs` are the laws of the C calls on the block of a state, `Opened`, `Told` and
--- `Fitting` those on any block, `Demands` is demand 3; `Kept`, `Small` and `Idle` serve them.
+-- `Closing` serves the proofs of the functions. `Laws` and `Runs` are the laws of the C calls on the block of a state, `Opened`, `Told`,
+-- `Refusals` and `Fitting` those on any block, `Demands` is demand 3; `Kept`, `Small` and `Idle` serve them.
 pub mod Closing
 pub mod Kept
 pub mod Laws
@@ -7,6 +7,7 @@ pub mod Runs
 pub mod Opened
 pub mod Small
 pub mod Told
+pub mod Refusals
 pub mod Fitting
 pub mod Idle
 pub mod Demands

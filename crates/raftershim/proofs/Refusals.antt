@@ -1,0 +1,177 @@
+-- A C call refuses exactly when a check of the table is given. Assumes nothing.
+use Prim.Native.Nat.{ℕ}
+use native.Mathlib.Omega.{arith}
+use mathlib.Core.Path.{_≡_, refl, sym, ap, subst, _∙_}
+use mathlib.Core.Bool.{Bool, true, false, _||_, not, false≢true}
+use mathlib.Core.List.{[], _∷_}
+use lib.ListN.{length}
+use lib.Dec.{eqb}
+use borrow.Author.Tests.{eqb-true}
+use Rattle.cases.specs.Refusals.{check, firstRefusal}
+use Rattle.registers.specs.Writing.{writeChecks}
+use Rattle.state.specs.declared.Out.{Out}
+use Rattle.state.specs.declared.Out.the-variants as out
+use Rattle.state.specs.Answers.{Said, said, done, none, byte, frame, refused, part}
+use Rattle.state.specs.Sizes.{sizesObeyed, fits}
+use Rattle.line.specs.HoldingOff.{nextOut, outAnswer}
+use Rattle.loops.specs.Frames.{frameTaken}
+use Rattle.block.specs.Packed.{blockLen}
+use Rattle.block.specs.States.{isState, fittingBlock}
+use Rattle.block.proofs.Laws.{meaning-fits}
+use Rattle.bridge.specs.Calls.{Call, create, reset, write, lineByte, lineBreak, key, nextLineByte, loopFrame, show, World, checks, outcome, notRefused, refusedOr, step}
+use Rattle.laws.specs.Answers.{isRefusal}
+use Rattle.laws.proofs.Answers.{refused-exactly}
+use Rattle.runs.specs.Observers.{isFrame}
+use Rattle.runs.proofs.Refused.{frame-answers}
+use Rattle.raftershim.specs.Word.{word, kindOf, valueOf}
+use Rattle.raftershim.specs.Calls.{Lent, Returned, opened, cStep, needsState}
+use Rattle.raftershim.specs.Told.{told, saidBy, toldPart, cAnswer}
+use Rattle.raftershim.specs.Laws.{refusedBy}
+use Rattle.raftershim.specs.Refusals.{cChecks, RefusesInC, RefusedExactlyInC}
+use Rattle.raftershim.proofs.Laws.{by-kind, misfit-refused, wrong-block-refused}
+use Rattle.raftershim.proofs.Told.{answers-told, refusal-keeps-all}
+
+-- ---- what is not refused answers no refusal
+
+frame-accepted : (a : Said) → isFrame a ≡ true → isRefusal a ≡ false
+frame-accepted (frame k d) e = refl
+frame-accepted (refused n) e = absurd (false≢true e)
+frame-accepted done e = refl
+frame-accepted none e = refl
+frame-accepted (byte b) e = refl
+frame-accepted (part xs) e = refl
+
+out-accepted : (o : Out) → isRefusal (said (outAnswer o)) ≡ false
+unfolding outAnswer said
+out-accepted (out.Own b) = refl
+out-accepted (out.Held b) = refl
+out-accepted out.Nothing = refl
+
+accepted : (c : Call) (w : World) → firstRefusal (checks c w) ≡ 0 → isRefusal (step c w .said) ≡ false
+unfolding step refusedOr notRefused outcome said
+accepted (create m) w e = rw e
+accepted reset w e = rw e
+accepted (write n v) w e = rw e
+accepted (lineByte b) w e = rw e
+accepted lineBreak w e = rw e
+accepted key w e = rw e
+accepted nextLineByte w e = rw e (out-accepted (nextOut (w .state) (w .tx)))
+accepted (loopFrame f) w e = rw e (frame-accepted (said (frameTaken (w .state) (w .rx) f .answer)) (frame-answers (w .state) (w .rx) f))
+accepted (show side) w e = refl
+
+-- ---- a block of the one length: the checks are those of the call
+
+same-first : (c : Call) (l : Lent) → eqb (length (l .block)) blockLen ≡ true → firstRefusal (checks c (opened l)) ≡ firstRefusal (cChecks c l)
+unfolding checks writeChecks cChecks
+same-first c l e = each c
+  where
+    same : fits (opened l .state) (length (l .rx)) (length (l .tx)) ≡ fittingBlock (l .block) (length (l .rx)) (length (l .tx))
+    same = meaning-fits (l .block) (length (l .rx)) (length (l .tx))
+
+    either : (t : Bool) → firstRefusal (check 1 (not t) ∷ []) ≡ firstRefusal (check 1 (not t || false) ∷ [])
+    either true = refl
+    either false = refl
+
+    each : (c : Call) → firstRefusal (checks c (opened l)) ≡ firstRefusal (cChecks c l)
+    each (create m) = rw e (either (sizesObeyed m (length (l .rx)) (length (l .tx))))
+    each reset = rw same
+    each (write n v) = rw same
+    each (lineByte b) = rw same
+    each lineBreak = rw same
+    each key = rw same
+    each nextLineByte = rw same
+    each (loopFrame f) = rw same
+    each (show side) = refl
+
+-- ---- a block of another length: the first check is given
+
+-- the number tells its refusal
+told-one : told (word (refused 1)) ≡ refused 1
+told-one = unfold told word kindOf valueOf saidBy in refl
+
+told-two : told (word (refused 2)) ≡ refused 2
+told-two = unfold told word kindOf valueOf saidBy in refl
+
+-- a call that is refused by the first of its checks
+refuses : (a : Said) (k : Lent) (n : ℕ) (l : Lent) → (n ≡ 0 → ⊥) → a ≡ refused n → k ≡ l → RefusesInC a k n l
+refuses a k n l z e h =
+    record {
+      when = λ m q. let r : refused n ≡ refused m = sym e ∙ q in cc;
+      given = λ q. e;
+      accepts = λ q. absurd (z q);
+      leaves = λ q. h;
+    }
+
+module _ (l : Lent) (e : eqb (length (l .block)) blockLen ≡ false) where
+  misfits : fittingBlock (l .block) (length (l .rx)) (length (l .tx)) ≡ false
+  unfolding fittingBlock isState
+  misfits = rw e
+
+  abbrev Right : Call → Type 0
+  Right c = RefusesInC (cAnswer c l) (cStep c l .lent) (firstRefusal (cChecks c l)) l
+
+  creating : (m : ℕ) → Right (create m)
+  unfolding cAnswer cChecks
+  creating m =
+      let r : cStep (create m) l ≡ refusedBy 1 l = wrong-block-refused m l e in
+      let n : firstRefusal (cChecks (create m) l) ≡ 1 = rw e (either (sizesObeyed m (length (l .rx)) (length (l .tx)))) in
+      subst (λ (k : ℕ). RefusesInC (cAnswer (create m) l) (cStep (create m) l .lent) k l) (sym n)
+      (refuses _ _ 1 l (λ z. omega arith) (ap (λ (x : Returned). told (x .word)) r ∙ told-one) (ap (λ (x : Returned). x .lent) r))
+    where
+      either : (t : Bool) → firstRefusal (check 1 (not t || true) ∷ []) ≡ 1
+      either true = refl
+      either false = refl
+
+  showing : (side : ℕ) → Right (show side)
+  unfolding cAnswer cStep toldPart cChecks
+  showing side = record { when = λ m q. cc; given = λ z. absurd (z refl); accepts = λ z. refl; leaves = λ q. refl }
+
+  calling : (c : Call) → needsState c ≡ true → Right c
+  unfolding cAnswer cChecks needsState
+  calling c n =
+      let r : cStep c l ≡ refusedBy 2 l = misfit-refused c l n misfits in
+      subst (λ (k : ℕ). RefusesInC (cAnswer c l) (cStep c l .lent) k l) (sym (misfit-first c n))
+      (refuses _ _ 2 l (λ z. omega arith) (by-number c n ∙ ap (λ (x : Returned). told (x .word)) r ∙ told-two) (ap (λ (x : Returned). x .lent) r))
+    where
+      by-number : (c : Call) → needsState c ≡ true → cAnswer c l ≡ told (cStep c l .word)
+      by-number (create m) n = refl
+      by-number (show side) n = absurd (false≢true n)
+      by-number reset n = refl
+      by-number (write k v) n = refl
+      by-number (lineByte b) n = refl
+      by-number lineBreak n = refl
+      by-number key n = refl
+      by-number nextLineByte n = refl
+      by-number (loopFrame f) n = refl
+
+      misfit-first : (c : Call) → needsState c ≡ true → firstRefusal (cChecks c l) ≡ 2
+      misfit-first (create m) n = absurd (false≢true n)
+      misfit-first (show side) n = absurd (false≢true n)
+      misfit-first reset n = rw misfits
+      misfit-first (write k v) n = rw misfits
+      misfit-first (lineByte b) n = rw misfits
+      misfit-first lineBreak n = rw misfits
+      misfit-first key n = rw misfits
+      misfit-first nextLineByte n = rw misfits
+      misfit-first (loopFrame f) n = rw misfits
+
+  other-length : (c : Call) → Right c
+  other-length = by-kind Right creating showing calling
+
+pub refused-exactly-in-c : RefusedExactlyInC
+refused-exactly-in-c c l h = pick (eqb (length (l .block)) blockLen) refl
+  where
+    w : World
+    w = opened l
+
+    pick : (t : Bool) → eqb (length (l .block)) blockLen ≡ t → RefusesInC (cAnswer c l) (cStep c l .lent) (firstRefusal (cChecks c l)) l
+    pick false e = other-length l e c
+    pick true e =
+        let a : cAnswer c l ≡ step c w .said = answers-told c l (record { size = eqb-true (length (l .block)) blockLen e; bytes = h }) in
+        let n : firstRefusal (checks c w) ≡ firstRefusal (cChecks c l) = same-first c l e in
+        record {
+          when = λ m q. sym n ∙ refused-exactly c w .when m (sym a ∙ q);
+          given = λ z. a ∙ refused-exactly c w .given (λ q. z (sym n ∙ q)) ∙ ap refused n;
+          accepts = λ z. ap isRefusal a ∙ accepted c w (n ∙ z);
+          leaves = refusal-keeps-all c l h;
+        }
