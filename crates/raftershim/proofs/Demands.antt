@@ -1,8 +1,8 @@
 -- Demand 3 of every run of C calls, from what is proved of every run of the bridge's calls. Assumes nothing.
 use Prim.Native.Nat.{ℕ}
-use mathlib.Core.Path.{_≡_, refl, sym, ap, subst, _∙_}
+use mathlib.Core.Path.{_≡_, refl, sym, ap, subst, transport⁻¹, _∙_}
 use mathlib.Core.Bool.{Bool, true, false}
-use mathlib.Core.Logic.{_⊎_, inl, inr}
+use mathlib.Core.Logic.{_⊎_}
 use mathlib.Core.List.{List, [], _∷_, _++_, append-nil}
 use lib.ListN.{length}
 use borrow.Author.Tests.{ltb-true}
@@ -10,22 +10,26 @@ use Rattle.cases.proofs.Cases.{and-left, and-right}
 use Rattle.state.specs.Sizes.{fits}
 use Rattle.state.proofs.Fits.{rx-fits}
 use Rattle.block.specs.States as block
-use Rattle.bridge.specs.Calls.{Call, create, reset, write, lineByte, lineBreak, key, nextLineByte, loopFrame, show, World, step}
+use Rattle.bridge.specs.Calls.{Call, create, reset, write, lineByte, lineBreak, key, nextLineByte, loopFrame, show, World}
 use Rattle.state.specs.Answers.{Said}
-use Rattle.runs.specs.Observers.{accepted, lost, sent}
-use Rattle.runs.specs.Run.{end, all, Without, changes, empties, AtMost}
+use Rattle.runs.specs.Observers.{taken, asksStatus, accepted, lost, sent, statusSent}
+use Rattle.runs.specs.Run.{answer, after, end, all, Without, changes, AtMost}
 use Rattle.runs.specs.StatusWay.{sentAndBack}
-use Rattle.runs.specs.Events.{Event, overrun, bitOf, happens}
+use Rattle.runs.specs.Events.{overrun, bitOf, happens}
 use Rattle.runs.specs.Worlds.{heldToSend, reading}
 use Rattle.laws.proofs.Small.{held-bytes}
 use Rattle.runs.proofs.Bytes.{bytes-both, ByteCalls, accepted-bytes}
 use Rattle.runs.proofs.FramesRead.{frames-read}
+use Rattle.runs.specs.StatusTold.{Shows}
+use Rattle.runs.specs.SendRule.{ours}
 use Rattle.runs.proofs.Events.{events-stay}
+use Rattle.runs.proofs.StatusTold.{tells-until-back}
+use Rattle.runs.proofs.Ours.{ours-are-sent}
 use Rattle.runs.proofs.Margin.{none-lost}
 use Rattle.raftershim.specs.Calls.{Lent, opened, cStep}
-use Rattle.raftershim.specs.Runs.{cEnd, isByteCall, allByteCalls}
-use Rattle.raftershim.specs.Told.{cSentAndBack}
-use Rattle.raftershim.specs.Demands.{Run, FramesReadInC, StaysInC, EventsStayInC, OverrunStaysInC, NoneLostInC}
+use Rattle.raftershim.specs.Runs.{cEnd, isByteCall, allByteCalls, Whole}
+use Rattle.raftershim.specs.Told.{cAnswer, cSentAndBack}
+use Rattle.raftershim.specs.Demands.{Run, FramesReadInC, OursAreSentInC, EventsStayInC, OverrunStaysInC, EventsToldInC, NoneLostInC}
 use Rattle.raftershim.proofs.Opened.{call-means, runs-mean}
 use Rattle.raftershim.proofs.Idle.{IdleRun, misfit-run}
 use Rattle.raftershim.proofs.Told.{answers-told, same-all, same-some, same-back, same-spells}
@@ -74,19 +78,39 @@ frames-read-in-c cs l r =
     ∙ all-read cs (opened l) (r .start .bytes .rx) (r .calls) (without cs l r)
     ∙ ap (λ (xs : List ℕ). reading (opened l) (heldToSend (opened l) ++ xs)) (sym (same-all accepted cs l (r .calls) (r .start)))
 
+pub ours-are-sent-in-c : OursAreSentInC
+ours-are-sent-in-c c l h = transport⁻¹ (λ i. ours c (opened l) (answers-told c l h i) ≡ sent c (opened l) (answers-told c l h i)) (ours-are-sent c (opened l))
+
+-- ---- a call, and then a run
+
+module _ {leftOut : Call → World → Said → Bool} (c : Call) (l : Lent) (h : Whole l) (cs : List Call) (r : Run leftOut cs (cStep c l .lent)) where
+  next : opened (cStep c l .lent) ≡ after c (opened l)
+  next = call-means c l h .world
+
+  met : Without leftOut cs (after c (opened l))
+  met = subst (Without leftOut cs) next (without cs (cStep c l .lent) r)
+
+  last : opened (cEnd cs (cStep c l .lent)) ≡ end cs (after c (opened l))
+  last = at-end cs (cStep c l .lent) r ∙ ap (end cs) next
+
+  back : cSentAndBack cs (cStep c l .lent) ≡ sentAndBack cs (after c (opened l))
+  back = same-back [] cs (cStep c l .lent) (r .calls) (r .start) ∙ ap (sentAndBack cs) next
+
+  -- the answer of a further call
+  further : (d : Call) → cAnswer d (cEnd cs (cStep c l .lent)) ≡ answer d (end cs (after c (opened l)))
+  further d = answers-told d (cEnd cs (cStep c l .lent)) (runs-mean cs (cStep c l .lent) (r .calls) (r .start) .whole) ∙ ap (answer d) last
+
 pub events-stay-in-c : EventsStayInC
 events-stay-in-c e c l h q cs r =
-    given
-    (subst (λ (w : World). (bitOf e (end cs w) ≡ true) ⊎ (sentAndBack cs w ≡ true)) (sym next)
-    (events-stay e c (opened l) (sym (ap (happens e c (opened l)) (answers-told c l h)) ∙ q) cs (subst (Without empties cs) next (without cs (cStep c l .lent) r))))
-  where
-    next : opened (cStep c l .lent) ≡ step c (opened l) .world
-    next = call-means c l h .world
+    transport⁻¹ (λ i. (bitOf e (last c l h cs r i) ≡ true) ⊎ (back c l h cs r i ≡ true))
+    (events-stay e c (opened l) (sym (ap (happens e c (opened l)) (answers-told c l h)) ∙ q) cs (met c l h cs r))
 
-    given : (bitOf e (end cs (opened (cStep c l .lent))) ≡ true) ⊎ (sentAndBack cs (opened (cStep c l .lent)) ≡ true) →
-        (bitOf e (opened (cEnd cs (cStep c l .lent))) ≡ true) ⊎ (cSentAndBack cs (cStep c l .lent) ≡ true)
-    given (inl x) = inl (ap (bitOf e) (at-end cs (cStep c l .lent) r) ∙ x)
-    given (inr x) = inr (same-back [] cs (cStep c l .lent) (r .calls) (r .start) ∙ x)
+pub events-told-in-c : EventsToldInC
+events-told-in-c e c l h q cs r b f =
+    transport⁻¹
+    (λ i. taken (further c l h cs r (loopFrame f) i) ≡ true → asksStatus (last c l h cs r i .state) f ≡ true →
+    Shows e (statusSent (loopFrame f) (last c l h cs r i) (further c l h cs r (loopFrame f) i)))
+    (tells-until-back e c (opened l) (sym (ap (happens e c (opened l)) (answers-told c l h)) ∙ q) cs (met c l h cs r) (sym (back c l h cs r) ∙ b) f)
 
 pub overrun-stays-in-c : OverrunStaysInC
 overrun-stays-in-c = events-stay-in-c overrun

@@ -3,15 +3,17 @@ use Prim.Native.Nat.{ℕ, _<_}
 use mathlib.Core.Path.{_≡_}
 use mathlib.Core.Bool.{Bool, true, false}
 use mathlib.Core.Logic.{_⊎_}
-use mathlib.Core.List.{List, [], _∷_, _++_}
+use mathlib.Core.List.{List, [], _++_}
 use Rattle.registers.specs.Meanings.{protocolOn}
 use Rattle.line.specs.HoldingOff.{free}
 use Rattle.state.specs.Answers.{Said}
-use Rattle.bridge.specs.Calls.{Call, World}
-use Rattle.runs.specs.Observers.{accepted, lost, sent}
+use Rattle.bridge.specs.Calls.{Call, loopFrame, World}
+use Rattle.runs.specs.Observers.{taken, asksStatus, accepted, lost, sent, statusSent}
 use Rattle.runs.specs.Run.{changes, empties, holdsOff, AtMost}
 use Rattle.runs.specs.Worlds.{heldToSend, reading}
 use Rattle.runs.specs.Events.{Event, overrun, bitOf, happens}
+use Rattle.runs.specs.StatusTold.{Shows}
+use Rattle.runs.specs.SendRule.{ours}
 use Rattle.raftershim.specs.Calls.{Lent, opened, cStep}
 use Rattle.raftershim.specs.Runs.{cEnd, allByteCalls, Whole}
 use Rattle.raftershim.specs.Told.{cAnswer, cAll, cSome, cSentAndBack, cSpells}
@@ -33,6 +35,10 @@ FramesReadInC =
     (cs : List Call) (l : Lent) → Run changes cs l →
     cAll sent cs l ++ reading (opened (cEnd cs l)) (heldToSend (opened (cEnd cs l))) ≡ reading (opened l) (heldToSend (opened l) ++ cAll accepted cs l)
 
+-- every data frame that a C call answers, and that is neither passed on nor the status byte, is one sent from the receive store
+abbrev pub OursAreSentInC : Type 0
+OursAreSentInC = (c : Call) (l : Lent) → Whole l → ours c (opened l) (cAnswer c l) ≡ sent c (opened l) (cAnswer c l)
+
 -- the bit of what happened stays set until a status byte sent after it has come back unchanged, also where registers are written
 abbrev pub StaysInC : Event → Type 0
 StaysInC e =
@@ -46,6 +52,18 @@ EventsStayInC = (e : Event) → StaysInC e
 -- "If a byte is lost, the overrun bit stays set until a status byte sent after that loss has come back unchanged."
 abbrev pub OverrunStaysInC : Type 0
 OverrunStaysInC = StaysInC overrun
+
+-- (3b) as the loop sees it: until a status byte sent after the loss has come back unchanged, every one that is asked for shows it
+abbrev pub TellsUntilBackInC : Event → Type 0
+TellsUntilBackInC e =
+    (c : Call) (l : Lent) → Whole l → happens e c (opened l) (cAnswer c l) ≡ true → (cs : List Call) → Run empties cs (cStep c l .lent) →
+    cSentAndBack cs (cStep c l .lent) ≡ false → (f : ℕ) → taken (cAnswer (loopFrame f) (cEnd cs (cStep c l .lent))) ≡ true →
+    asksStatus (opened (cEnd cs (cStep c l .lent)) .state) f ≡ true →
+    Shows e (statusSent (loopFrame f) (opened (cEnd cs (cStep c l .lent))) (cAnswer (loopFrame f) (cEnd cs (cStep c l .lent))))
+
+-- so of a break, of a byte lost and of a press of the MSRQ key
+abbrev pub EventsToldInC : Type 0
+EventsToldInC = (e : Event) → TellsUntilBackInC e
 
 -- "If the run starts with the receiver protocol on, not holding off, and more room than the margin, and at most a margin of data bytes
 -- arrives in each spell of holding off, no byte is lost."
