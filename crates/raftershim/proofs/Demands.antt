@@ -29,9 +29,11 @@ use Rattle.runs.proofs.Margin.{none-lost}
 use Rattle.raftershim.specs.Calls.{Lent, opened, cStep}
 use Rattle.raftershim.specs.Runs.{cEnd, isByteCall, allByteCalls, Whole}
 use Rattle.raftershim.specs.Told.{cAnswer, cSentAndBack}
+use Rattle.raftershim.specs.Seen.{Seen}
 use Rattle.raftershim.specs.Demands.{Run, FramesReadInC, OursAreSentInC, EventsStayInC, OverrunStaysInC, EventsToldInC, NoneLostInC}
 use Rattle.raftershim.proofs.Opened.{call-means, runs-mean}
 use Rattle.raftershim.proofs.Idle.{IdleRun, misfit-run}
+use Rattle.raftershim.proofs.Seen.{calls-alike}
 use Rattle.raftershim.proofs.Told.{answers-told, same-all, same-some, same-back, same-spells}
 
 -- ---- what is read; in a world that fits what is held and accepted is bytes
@@ -79,7 +81,7 @@ frames-read-in-c cs l r =
     ∙ ap (λ (xs : List ℕ). reading (opened l) (heldToSend (opened l) ++ xs)) (sym (same-all accepted cs l (r .calls) (r .start)))
 
 pub ours-are-sent-in-c : OursAreSentInC
-ours-are-sent-in-c c l h = transport⁻¹ (λ i. ours c (opened l) (answers-told c l h i) ≡ sent c (opened l) (answers-told c l h i)) (ours-are-sent c (opened l))
+ours-are-sent-in-c = calls-alike (λ (x : Seen). ours (x .call) (x .before) (x .answer) ≡ sent (x .call) (x .before) (x .answer)) (λ c w h. ours-are-sent c w)
 
 -- ---- a call, and then a run
 

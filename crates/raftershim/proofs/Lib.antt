@@ -1,4 +1,4 @@
--- `Closing` serves the proofs of the functions. `Laws` and `Runs` are the laws of the C calls on the block of a state, `Opened`, `Told`,
+-- `Closing` serves the proofs of the functions. `Laws` and `Runs` are the laws of the C calls on the block of a state, `Opened`, `Told`, `Seen`,
 -- `Refusals` and `Fitting` those on any block, `Demands` is demand 3; `Kept`, `Small` and `Idle` serve them.
 pub mod Closing
 pub mod Kept
@@ -8,6 +8,7 @@ pub mod Opened
 pub mod Small
 pub mod Told
 pub mod Refusals
+pub mod Seen
 pub mod Fitting
 pub mod Idle
 pub mod Demands

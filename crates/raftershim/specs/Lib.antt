@@ -1,9 +1,10 @@
--- `Word` is the number that a call answers, `Calls` what each C function does, `Runs` what several do one after the other and `Told` what
--- their caller sees; `Laws`, `Refusals`, `Fitting` and `Demands` say what holds of every C call and of every run of them.
+-- `Word` is the number that a call answers, `Calls` what each C function does, `Runs` what several do one after the other, and `Told` and
+-- `Seen` what their caller sees; `Laws`, `Refusals`, `Fitting` and `Demands` say what holds of every C call and of every run of them.
 pub mod Word
 pub mod Calls
 pub mod Runs
 pub mod Told
+pub mod Seen
 pub mod Laws
 pub mod Refusals
 pub mod Fitting
