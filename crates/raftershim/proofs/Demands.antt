@@ -38,7 +38,7 @@ use Rattle.raftershim.proofs.Told.{answers-told, same-all, same-some, s
 
 -- ---- what is read; in a world that fits what is held and accepted is bytes
 
-byte-calls : (cs : List Call) → allByteCalls cs ≡ true → ByteCalls cs
+pub byte-calls : (cs : List Call) → allByteCalls cs ≡ true → ByteCalls cs
 unfolding allByteCalls isByteCall
 byte-calls [] h = tt
 byte-calls (lineByte b ∷ cs) h = (ltb-true b 256 (and-left (isByteCall (lineByte b)) (allByteCalls cs) h), byte-calls cs (and-right (isByteCall (lineByte b)) (allByteCalls cs) h))
@@ -68,10 +68,10 @@ all-read cs w k b n = pick (fits (w .state) (length (w .rx)) (length (w .tx))) r
 -- ---- demand 3
 
 module _ {leftOut : Call → World → Said → Bool} (cs : List Call) (l : Lent) (r : Run leftOut cs l) where
-  without : Without leftOut cs (opened l)
+  pub without : Without leftOut cs (opened l)
   without = sym (same-some leftOut cs l (r .calls) (r .start)) ∙ r .without
 
-  at-end : opened (cEnd cs l) ≡ end cs (opened l)
+  pub at-end : opened (cEnd cs l) ≡ end cs (opened l)
   at-end = runs-mean cs l (r .calls) (r .start) .world
 
 pub frames-read-in-c : FramesReadInC
@@ -86,21 +86,24 @@ ours-are-sent-in-c = calls-alike (λ (x : Seen). ours (x .call) (x .before) (x .
 -- ---- a call, and then a run
 
 module _ {leftOut : Call → World → Said → Bool} (c : Call) (l : Lent) (h : Whole l) (cs : List Call) (r : Run leftOut cs (cStep c l .lent)) where
-  next : opened (cStep c l .lent) ≡ after c (opened l)
+  pub next : opened (cStep c l .lent) ≡ after c (opened l)
   next = call-means c l h .world
 
-  met : Without leftOut cs (after c (opened l))
+  pub met : Without leftOut cs (after c (opened l))
   met = subst (Without leftOut cs) next (without cs (cStep c l .lent) r)
 
-  last : opened (cEnd cs (cStep c l .lent)) ≡ end cs (after c (opened l))
+  pub last : opened (cEnd cs (cStep c l .lent)) ≡ end cs (after c (opened l))
   last = at-end cs (cStep c l .lent) r ∙ ap (end cs) next
 
   back : cSentAndBack cs (cStep c l .lent) ≡ sentAndBack cs (after c (opened l))
   back = same-back [] cs (cStep c l .lent) (r .calls) (r .start) ∙ ap (sentAndBack cs) next
 
-  -- the answer of a further call
-  further : (d : Call) → cAnswer d (cEnd cs (cStep c l .lent)) ≡ answer d (end cs (after c (opened l)))
+  -- a further call: its answer, and the world after it
+  pub further : (d : Call) → cAnswer d (cEnd cs (cStep c l .lent)) ≡ answer d (end cs (after c (opened l)))
   further d = answers-told d (cEnd cs (cStep c l .lent)) (runs-mean cs (cStep c l .lent) (r .calls) (r .start) .whole) ∙ ap (answer d) last
+
+  pub beyond : (d : Call) → opened (cStep d (cEnd cs (cStep c l .lent)) .lent) ≡ after d (end cs (after c (opened l)))
+  beyond d = call-means d (cEnd cs (cStep c l .lent)) (runs-mean cs (cStep c l .lent) (r .calls) (r .start) .whole) .world ∙ ap (after d) last
 
 pub events-stay-in-c : EventsStayInC
 events-stay-in-c e c l h q cs r =

@@ -1,5 +1,5 @@
 -- `Closing` serves the proofs of the functions. `Laws` and `Runs` are the laws of the C calls on the block of a state, `Opened`, `Told`, `Seen`,
--- `Refusals` and `Fitting` those on any block, `Demands` is demand 3; `Kept`, `Small` and `Idle` serve them.
+-- `Refusals` and `Fitting` those on any block, `Demands` is demand 3 and `Rules` more of the paper; `Kept`, `Small` and `Idle` serve them.
 pub mod Closing
 pub mod Kept
 pub mod Laws
@@ -12,3 +12,4 @@ pub mod Seen
 pub mod Fitting
 pub mod Idle
 pub mod Demands
+pub mod Rules

@@ -1,6 +1,6 @@
 -- What is seen of the C calls is what is seen of the bridge's calls. Assumes nothing.
 use mathlib.Core.Path.{_≡_, refl, sym, ap, subst, _∙_}
-use mathlib.Core.List.{List, [], _∷_}
+use mathlib.Core.List.{[], _∷_}
 use Rattle.cases.proofs.Cases.{and-left, and-right}
 use Rattle.bridge.specs.Calls.{Call}
 use Rattle.raftershim.specs.Calls.{Lent, opened, cStep}

@@ -16,10 +16,11 @@ use Rattle.bridge.specs.Calls.{Call, create, reset, write, lineByte, lineBreak,
 use Rattle.runs.specs.Observers.{arrived}
 use Rattle.runs.specs.Run.{all, some, spells, holdsOff}
 use Rattle.runs.specs.StatusWay.{statusBack, underWay, comesBack}
+use Rattle.runs.specs.LastSent.{lastOf, lastSent}
 use Rattle.raftershim.specs.Word.{word}
 use Rattle.raftershim.specs.Calls.{Lent, Returned, opened, cStep}
 use Rattle.raftershim.specs.Runs.{answerWord, isByteCall, allByteCalls, Typed, Whole}
-use Rattle.raftershim.specs.Told.{told, toldPart, cAnswer, cAll, cSome, cComesBack, cSpells}
+use Rattle.raftershim.specs.Told.{told, toldPart, cAnswer, cAll, cSome, cComesBack, cSpells, cLastSent}
 use Rattle.raftershim.specs.Laws.{RefusalKeepsAll, AnswersTold}
 use Rattle.raftershim.proofs.Laws.{by-kind, shown-place, misfit-refused, wrong-block-refused, step-refusal-keeps}
 use Rattle.raftershim.proofs.Opened.{opened-typed, whole-kept, call-means}
@@ -116,3 +117,10 @@ same-spells k (c ∷ cs) l b h =
     ((further (k + length (arrived c (opened l) (cAnswer c l))) ∙ ap (λ (xs : List ℕ). spells (k + length xs) cs (step c (opened l) .world)) (seen arrived c l h)) i)
     ((k + length (seen arrived c l h i)) ∷ further 0 i))
     (further 0 i)
+
+pub same-last : (k : Bool) (cs : List Call) (l : Lent) → allByteCalls cs ≡ true → Whole l → cLastSent k cs l ≡ lastSent k cs (opened l)
+unfolding cLastSent lastSent
+same-last k [] l b h = refl
+same-last k (c ∷ cs) l b h =
+    let x = lastOf k c (opened l) (cAnswer c l) in
+    same-last x cs (cStep c l .lent) (rest c cs l b h) (on c cs l b h) ∙ (λ i. lastSent (seen (lastOf k) c l h i) cs (next c cs l b h i))

@@ -11,6 +11,7 @@ use Rattle.bridge.specs.Calls.{Call, create, reset, write, lineByte, lineBreak,
 use Rattle.runs.specs.Observers.{arrived}
 use Rattle.runs.specs.Run.{holdsOff}
 use Rattle.runs.specs.StatusWay.{statusBack, underWay}
+use Rattle.runs.specs.LastSent.{lastOf}
 use Rattle.raftershim.specs.Word.{storeOf}
 use Rattle.raftershim.specs.Calls.{Lent, opened, cStep}
 
@@ -73,3 +74,8 @@ cSpells k (c ∷ cs) l =
     (cSpells (k + length (arrived c (opened l) (cAnswer c l))) cs (cStep c l .lent))
     ((k + length (arrived c (opened l) (cAnswer c l))) ∷ cSpells 0 cs (cStep c l .lent)))
     (cSpells 0 cs (cStep c l .lent))
+
+-- whether the last of go and stop sent in a run is stop; k is whether the last one sent before it was
+unfoldable pub cLastSent : Bool → List Call → Lent → Bool
+cLastSent k [] l = k
+cLastSent k (c ∷ cs) l = cLastSent (lastOf k c (opened l) (cAnswer c l)) cs (cStep c l .lent)
