@@ -22,9 +22,9 @@ use Rattle.runs.proofs.Since.{frames-since}
 use Rattle.runs.proofs.Cleared.{none-invented, events-clear, none-at-start}
 use Rattle.runs.proofs.OwnGiven.{own-given}
 use Rattle.raftershim.specs.Calls.{opened, needsState}
-use Rattle.raftershim.specs.Runs.{Typed}
+use Rattle.raftershim.specs.Runs.{cAfter, Typed}
 use Rattle.raftershim.specs.Seen.{Seen}
-use Rattle.raftershim.specs.Rules.{cAfter, SendRuleInC, FramesSinceInC, EventsClearInC, NoneInventedInC, NoneAtStartInC, OwnGivenInC}
+use Rattle.raftershim.specs.Rules.{SendRuleInC, FramesSinceInC, EventsClearInC, NoneInventedInC, NoneAtStartInC, OwnGivenInC}
 use Rattle.raftershim.proofs.Closing.{misfit-step}
 use Rattle.raftershim.proofs.Opened.{opened-typed}
 use Rattle.raftershim.proofs.Told.{answers-told, same-all, same-some, same-last}

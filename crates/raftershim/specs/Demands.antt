@@ -15,7 +15,7 @@ use Rattle.runs.specs.Events.{Event, overrun, bitOf, happens}
 use Rattle.runs.specs.StatusTold.{Shows}
 use Rattle.runs.specs.SendRule.{ours}
 use Rattle.raftershim.specs.Calls.{Lent, opened, cStep}
-use Rattle.raftershim.specs.Runs.{cEnd, allByteCalls, Whole}
+use Rattle.raftershim.specs.Runs.{cEnd, cAfter, cThen, allByteCalls, Whole}
 use Rattle.raftershim.specs.Told.{cAnswer, cAll, cSome, cSentAndBack, cSpells}
 
 -- "any run of calls with the same stores, untouched in between, each call given the state as the one before left it", and no call of the
@@ -39,10 +39,14 @@ FramesReadInC =
 abbrev pub OursAreSentInC : Type 0
 OursAreSentInC = (c : Call) (l : Lent) → Whole l → ours c (opened l) (cAnswer c l) ≡ sent c (opened l) (cAnswer c l)
 
+-- it happened in this C call
+abbrev pub Happened : Event → Call → Lent → Type 0
+Happened e c l = happens e c (opened l) (cAnswer c l) ≡ true
+
 -- the bit of what happened stays set until a status byte sent after it has come back unchanged, also where registers are written
 abbrev pub StaysInC : Event → Type 0
 StaysInC e =
-    (c : Call) (l : Lent) → Whole l → happens e c (opened l) (cAnswer c l) ≡ true → (cs : List Call) → Run empties cs (cStep c l .lent) →
+    (c : Call) (l : Lent) → Whole l → Happened e c l → (cs : List Call) → Run empties cs (cStep c l .lent) →
     (bitOf e (opened (cEnd cs (cStep c l .lent))) ≡ true) ⊎ (cSentAndBack cs (cStep c l .lent) ≡ true)
 
 -- so each of the bits of break, overrun and key
@@ -56,10 +60,10 @@ OverrunStaysInC = StaysInC overrun
 -- (3b) as the loop sees it: until a status byte sent after the loss has come back unchanged, every one that is asked for shows it
 abbrev pub TellsUntilBackInC : Event → Type 0
 TellsUntilBackInC e =
-    (c : Call) (l : Lent) → Whole l → happens e c (opened l) (cAnswer c l) ≡ true → (cs : List Call) → Run empties cs (cStep c l .lent) →
-    cSentAndBack cs (cStep c l .lent) ≡ false → (f : ℕ) → taken (cAnswer (loopFrame f) (cEnd cs (cStep c l .lent))) ≡ true →
-    asksStatus (opened (cEnd cs (cStep c l .lent)) .state) f ≡ true →
-    Shows e (statusSent (loopFrame f) (opened (cEnd cs (cStep c l .lent))) (cAnswer (loopFrame f) (cEnd cs (cStep c l .lent))))
+    (c : Call) (l : Lent) → Whole l → Happened e c l → (cs : List Call) → Run empties cs (cAfter c l) →
+    cSentAndBack cs (cAfter c l) ≡ false → (f : ℕ) → taken (cAnswer (loopFrame f) (cThen c cs l)) ≡ true →
+    asksStatus (opened (cThen c cs l) .state) f ≡ true →
+    Shows e (statusSent (loopFrame f) (opened (cThen c cs l)) (cAnswer (loopFrame f) (cThen c cs l)))
 
 -- so of a break, of a byte lost and of a press of the MSRQ key
 abbrev pub EventsToldInC : Type 0

@@ -13,17 +13,10 @@ use Rattle.runs.specs.Events.{Event, bitOf, happens}
 use Rattle.runs.specs.LastSent.{isOwn}
 use Rattle.runs.specs.SendRule.{firstOf}
 use Rattle.runs.specs.Worlds.{heldToSend, reading}
-use Rattle.raftershim.specs.Calls.{Lent, opened, cStep}
-use Rattle.raftershim.specs.Runs.{cEnd, Whole}
+use Rattle.raftershim.specs.Calls.{Lent, opened}
+use Rattle.raftershim.specs.Runs.{cEnd, cAfter, cThen, Whole}
 use Rattle.raftershim.specs.Told.{cAnswer, cAll, cSome, cLastSent}
 use Rattle.raftershim.specs.Demands.{Run}
-
--- the buffers after a call, and after a call and then a run
-abbrev pub cAfter : Call → Lent → Lent
-cAfter c l = cStep c l .lent
-
-abbrev pub cThen : Call → List Call → Lent → Lent
-cThen c cs l = cEnd cs (cStep c l .lent)
 
 -- ---- sending
 

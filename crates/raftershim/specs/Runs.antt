@@ -41,6 +41,13 @@ unfoldable pub cWords : List Call → Lent → List ℕ
 cWords [] l = []
 cWords (c ∷ cs) l = cStep c l .word ∷ cWords cs (cStep c l .lent)
 
+-- the buffers after a call, and after a call and then a run
+abbrev pub cAfter : Call → Lent → Lent
+cAfter c l = cStep c l .lent
+
+abbrev pub cThen : Call → List Call → Lent → Lent
+cThen c cs l = cEnd cs (cStep c l .lent)
+
 -- a line byte is below 256, which the type of the call gives
 unfoldable pub isByteCall : Call → Bool
 isByteCall (lineByte b) = ltb b 256
