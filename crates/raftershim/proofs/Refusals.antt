@@ -73,7 +73,9 @@ same-first c l e = each c
     either false = refl
 
     each : (c : Call) → firstRefusal (checks c (opened l)) ≡ firstRefusal (cChecks c l)
-    each (create m) = rw e (either (sizesObeyed m (length (l .rx)) (length (l .tx))))
+    each (create m) =
+        let t : Bool = sizesObeyed m (length (l .rx)) (length (l .tx)) in
+        either t ∙ ap (λ (b : Bool). firstRefusal (check 1 (not t || not b) ∷ [])) (sym e)
     each reset = rw same
     each (write n v) = rw same
     each (lineByte b) = rw same
@@ -114,7 +116,8 @@ module _ (l : Lent) (e : eqb (length (l .block)) blockLen ≡ false) where
   unfolding cAnswer cChecks
   creating m =
       let r : cStep (create m) l ≡ refusedBy 1 l = wrong-block-refused m l e in
-      let n : firstRefusal (cChecks (create m) l) ≡ 1 = rw e (either (sizesObeyed m (length (l .rx)) (length (l .tx)))) in
+      let t : Bool = sizesObeyed m (length (l .rx)) (length (l .tx)) in
+      let n : firstRefusal (cChecks (create m) l) ≡ 1 = ap (λ (b : Bool). firstRefusal (check 1 (not t || not b) ∷ [])) e ∙ either t in
       subst (λ (k : ℕ). RefusesInC (cAnswer (create m) l) (cStep (create m) l .lent) k l) (sym n)
       (refuses _ _ 1 l (λ z. omega arith) (ap (λ (x : Returned). told (x .word)) r ∙ told-one) (ap (λ (x : Returned). x .lent) r))
     where
