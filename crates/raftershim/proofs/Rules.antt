@@ -15,12 +15,14 @@ use Rattle.runs.specs.StatusWay.{endsWay, statusBack}
 use Rattle.runs.specs.Events.{bitOf}
 use Rattle.runs.specs.LastSent.{isOwn, lastSent}
 use Rattle.runs.specs.SendRule.{SendsFirst}
-use Rattle.runs.specs.Worlds.{heldToSend, reading, Bytes}
-use Rattle.runs.proofs.Bytes.{held-bytes, accepted-bytes}
+use Rattle.laws.specs.Fitting.{AllBytes}
+use Rattle.laws.proofs.Small.{held-bytes}
+use Rattle.runs.specs.Worlds.{heldToSend, reading}
+use Rattle.runs.proofs.Bytes.{accepted-bytes}
 use Rattle.runs.proofs.SendRule.{send-rule}
 use Rattle.runs.proofs.Since.{frames-since}
 use Rattle.runs.proofs.Cleared.{none-invented, events-clear, none-at-start}
-use Rattle.runs.proofs.OwnGiven.{own-given}
+use Rattle.runs.proofs.NextByte.{own-given}
 use Rattle.raftershim.specs.Calls.{opened, needsState}
 use Rattle.raftershim.specs.Runs.{cAfter, Typed}
 use Rattle.raftershim.specs.Seen.{Seen}
@@ -34,11 +36,11 @@ use Rattle.raftershim.proofs.Demands.{byte-calls, without, at-end, next
 -- ---- sending
 
 -- where a frame is taken the state fits, and what is held is bytes
-taken-bytes : (f : ℕ) (w : World) → Typed w → taken (answer (loopFrame f) w) ≡ true → Bytes (heldToSend w)
+taken-bytes : (f : ℕ) (w : World) → Typed w → taken (answer (loopFrame f) w) ≡ true → AllBytes (heldToSend w)
 unfolding needsState
 taken-bytes f w h t = pick (fits (w .state) (length (w .rx)) (length (w .tx))) refl
   where
-    pick : (b : Bool) → fits (w .state) (length (w .rx)) (length (w .tx)) ≡ b → Bytes (heldToSend w)
+    pick : (b : Bool) → fits (w .state) (length (w .rx)) (length (w .tx)) ≡ b → AllBytes (heldToSend w)
     pick true e = held-bytes (w .rx) (w .state .rx) (rx-fits (w .state) (w .rx) (w .tx) e .ring) (h .rx)
     pick false e = absurd (false≢true (sym (ap (λ (d : Did). taken (d .said)) (misfit-step (loopFrame f) w refl e)) ∙ t))
 
