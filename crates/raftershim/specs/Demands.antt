@@ -57,7 +57,7 @@ EventsStayInC = (e : Event) → StaysInC e
 abbrev pub OverrunStaysInC : Type 0
 OverrunStaysInC = StaysInC overrun
 
--- (3b) as the loop sees it: until a status byte sent after the loss has come back unchanged, every one that is asked for shows it
+-- (3b) as the loop sees it: until a status byte sent after what happened has come back unchanged, every one that is asked for shows it
 abbrev pub TellsUntilBackInC : Event → Type 0
 TellsUntilBackInC e =
     (c : Call) (l : Lent) → Whole l → Happened e c l → (cs : List Call) → Run empties cs (cAfter c l) →
