@@ -5,36 +5,33 @@ use mathlib.Core.Path.{_≡_, refl, sym, ap, subst, _∙_}
 use mathlib.Core.Bool.{Bool, true, false, cond, _&&_, _||_, not, false≢true}
 use mathlib.Core.List.{List, [], _∷_}
 use lib.Dec.{eqb}
-use borrow.Author.Tests.{eqb-true, le-leb, le-ltb}
+use borrow.Author.Tests.{eqb-true, ne-eqb, le-leb}
 use Rattle.cases.proofs.Cases.{by-cond, and-left, and-right}
 use Rattle.cases.specs.Refusals.{firstRefusal}
 use Rattle.frame.specs.Frame.{controlOf, dataOf, made, isData, stripped, sameApart}
 use Rattle.frame.proofs.Laws.{same-stripped, stripped-same, stripped-twice}
-use Rattle.role.specs.declared.Ready.{Ready}
-use Rattle.role.specs.declared.Ready.the-variants.{Pass, Address, Data, Status, Finish}
+use Rattle.registers.specs.Writing.{written}
 use Rattle.role.specs.Parts.{isActive}
-use Rattle.role.specs.ReadyFrames.{givesAddress, readyOf}
 use Rattle.store.specs.Ring.{full}
 use Rattle.status.specs.declared.Events.{Events}
 use Rattle.status.specs.Status.{showed, stays, acknowledged}
-use Rattle.reading.specs.Reading.{Sent, none, one}
-use Rattle.sending.specs.Sending.{givenOf, sendHeld}
+use Rattle.reading.specs.Reading.{one}
 use Rattle.state.specs.declared.State.{State}
+use Rattle.state.specs.declared.Notes.{Notes}
 use Rattle.state.specs.declared.Outcome.{Outcome}
 use Rattle.state.specs.declared.Out.{Out}
 use Rattle.state.specs.declared.Out.the-variants as out
-use Rattle.state.specs.Answers.{said, refused}
+use Rattle.state.specs.Answers.{Said, said, done, refused}
 use Rattle.state.specs.Sizes.{startState}
 use Rattle.state.specs.Status.{settled, breakState, keyState, statusOf}
 use Rattle.state.specs.Status as status
-use Rattle.line.specs.HoldingOff.{isGoOrStop, flowed, lostState, storedWith, storedState, lineState, resumed, setAfresh, afterWrite, nextOut, goneState}
-use Rattle.loops.specs.LoopToLine.{leftState}
-use Rattle.loops.specs.Sending.{ruleOf, removedState, sendState, sendFrom, sendStatus, talking, ended}
-use Rattle.loops.specs.Frames.{isClear, orderIn, obeyed, cleared, commandState, command, finishing, readied, ready, returned, dataPassed, identify, frameTaken, deviceClear}
+use Rattle.line.specs.HoldingOff.{isGoOrStop, flowed, lostState, storedWith, storedState, lineState, setAfresh, afterWrite, nextOut, goneState}
+use Rattle.loops.specs.Sending.{sendStatus, talking, ended}
+use Rattle.loops.specs.Frames.{cleared, returned, frameTaken, deviceClear}
 use Rattle.bridge.specs.Calls.{Call, create, reset, write, lineByte, lineBreak, key, nextLineByte, loopFrame, show, World, Did, checks, outcome, settledBy, refusedOr, step}
 use Rattle.bridge.specs.Calls as calls
 use Rattle.laws.specs.CallPlaces.{isDeviceClear}
-use Rattle.runs.specs.Observers.{taken, dataFrame, asksStatus, statusSent, restarts, clears, arrived, lost}
+use Rattle.runs.specs.Observers.{taken, isFrame, dataFrame, equalReturn, isSend, asksStatus, statusSent, restarts, clears, arrived, lost}
 use Rattle.runs.specs.Run.{answer, after, end, Without, empties}
 use Rattle.runs.specs.StatusWay.{endsWay, statusBack}
 use Rattle.runs.specs.Events.{Event, broken, overrun, pressed, worth, any, bitOf, happens}
@@ -42,12 +39,12 @@ use Rattle.runs.specs.Cleared.{NoneInvented, NoneAtStart, EventsClear}
 use Rattle.runs.proofs.StatusView.{noted}
 use Rattle.runs.proofs.Bits.{event-shown}
 use Rattle.runs.proofs.Answered.{status-small, status-frame}
-use Rattle.runs.proofs.Runs.{neither, first-not}
-use Rattle.laws.proofs.FramePlaces.{clear-order}
+use Rattle.runs.proofs.Runs.{first-not}
 use Rattle.runs.proofs.Refused.{frame-answers, frame-taken}
-use Rattle.runs.proofs.StatusTold.{takes-status}
+use Rattle.runs.proofs.FrameKinds.{Kind, isSent, isStatus, isBack, isCleared, isOther, sends-status, send-notes, kind-of}
+use Rattle.runs.proofs.Refusals.{or-refused, frame-fits}
 
--- ---- none is invented
+-- ---- what is noted of an event
 
 stays-false : (set shown again : Bool) → set ≡ false → stays set shown again ≡ false
 stays-false true shown again p = absurd (false≢true (sym p))
@@ -67,92 +64,6 @@ module _ (e : Event) where
   abbrev Clear : State → Type 0
   Clear t = noted e (t .notes .seen) ≡ false
 
-  module _ (s : State) (h : noted e (s .notes .seen) ≡ false) (rx : List ℕ) (f : ℕ) where
-    abbrev OutClear : Outcome → Type 0
-    OutClear o = noted e (o .state .notes .seen) ≡ false
-
-    send-clear : OutClear (sendFrom s rx)
-    unfolding sendFrom sendState ended talking removedState resumed
-    send-clear = go (sendHeld (ruleOf (s .regs)) rx (s .rx))
-      where
-        go : (x : Sent ℕ ℕ) → OutClear (sendState s (removedState s rx) (givenOf x))
-        go (none r) = h
-        go (one g r) = h
-
-    return-clear : OutClear (returned s rx f)
-    unfolding returned ended talking status.statusBack
-    return-clear =
-        by-cond OutClear (sameApart f (s .under .frame)) _ _
-        (λ _. by-cond OutClear (eqb (s .role .talker) 3) _ _ (λ _. never-noted (s .notes .seen) (s .notes .again) (dataOf (s .under .frame)) e h)
-        (λ _. by-cond OutClear (s .under .finishing) _ _ (λ _. h) (λ _. send-clear)))
-        (λ _. h)
-
-    ready-clear : (r : Ready) → OutClear (readied s rx f r)
-    unfolding readied finishing sendStatus talking status.statusSent
-    ready-clear Address = h
-    ready-clear Data = send-clear
-    ready-clear Status = h
-    ready-clear Finish = h
-    ready-clear Pass = h
-
-    frame-clear : OutClear (frameTaken s rx f)
-    unfolding frameTaken dataPassed leftState command commandState obeyed cleared ready identify
-    frame-clear =
-        by-cond OutClear (isData f) _ _
-        (λ _. by-cond OutClear (isActive (s .role)) _ _ (λ _. return-clear) (λ _. by-cond Clear (s .role .listener) _ _ (λ _. h) (λ _. h)))
-        (λ _. by-cond OutClear (eqb (controlOf f) 4) _ _ (λ _. by-cond Clear (isClear (orderIn s f)) _ _ (λ _. none-noted e) (λ _. h))
-        (λ _. by-cond OutClear (eqb (controlOf f) 5) _ _ (λ _. ready-clear (readyOf (s .role) (dataOf f))) (λ _. h)))
-
-gone-clear : (e : Event) (s : State) (o : Out) → Clear e s → Clear e (goneState s o)
-unfolding goneState
-gone-clear e s (out.Own b) h = h
-gone-clear e s (out.Held b) h = h
-gone-clear e s out.Nothing h = h
-
-line-clear : (e : Event) (s : State) (b : ℕ) (t u : Bool) → Clear e s → (noted e (record { brk = false; overrun = true; key = false }) ≡ true → any (cond u (cond (not t) (b ∷ []) []) []) ≡ false) → Clear e (cond t (flowed s b) (cond u (lostState s) (storedState s)))
-unfolding flowed lostState storedWith
-line-clear e s b true u h k = h
-line-clear e s b false false h k = h
-line-clear broken s b false true h k = h
-line-clear overrun s b false true h k = absurd (false≢true (sym (k refl)))
-line-clear pressed s b false true h k = h
-
-clear-or : (e : Event) (c : Call) (w : World) (n : ℕ) (d : Did) → Clear e (w .state) → (happens e c w (d .said) ≡ false → Clear e (d .world .state)) →
-    happens e c w (refusedOr n d w .said) ≡ false → Clear e (refusedOr n d w .world .state)
-unfolding refusedOr
-clear-or e c w n d h k =
-    by-cond (λ (x : Did). happens e c w (x .said) ≡ false → Clear e (x .world .state)) (eqb n 0) d (record { said = refused n; world = w }) (λ _. k) (λ _ _. h)
-
-fresh : (e : Event) (c : Call) (w : World) → Clear e (w .state) → happens e c w (answer c w) ≡ false → Clear e (after c w .state)
-unfolding step calls.notRefused outcome settledBy settled said arrived lost lineState breakState keyState startState afterWrite setAfresh
-fresh e (create m) w h = clear-or e (create m) w _ _ h (λ _. none-noted e)
-fresh e reset w h = clear-or e reset w _ _ h (λ _. none-noted e)
-fresh e (write n v) w h = clear-or e (write n v) w _ _ h (λ _. by-cond (Clear e) (eqb n 11) _ _ (λ _. h) (λ _. h))
-fresh broken (lineByte b) w h = clear-or broken (lineByte b) w _ _ h (λ _. line-clear broken (w .state) b (isGoOrStop (w .state .regs) b) (full (w .state .sizes .rx) (w .state .rx)) h (λ q. absurd (false≢true q)))
-fresh overrun (lineByte b) w h = clear-or overrun (lineByte b) w _ _ h (λ q. line-clear overrun (w .state) b (isGoOrStop (w .state .regs) b) (full (w .state .sizes .rx) (w .state .rx)) h (λ _. q))
-fresh pressed (lineByte b) w h = clear-or pressed (lineByte b) w _ _ h (λ _. line-clear pressed (w .state) b (isGoOrStop (w .state .regs) b) (full (w .state .sizes .rx) (w .state .rx)) h (λ q. absurd (false≢true q)))
-fresh broken lineBreak w h = clear-or broken lineBreak w _ _ h (λ q. absurd (false≢true (sym q)))
-fresh overrun lineBreak w h = clear-or overrun lineBreak w _ _ h (λ _. h)
-fresh pressed lineBreak w h = clear-or pressed lineBreak w _ _ h (λ _. h)
-fresh broken key w h = clear-or broken key w _ _ h (λ _. h)
-fresh overrun key w h = clear-or overrun key w _ _ h (λ _. h)
-fresh pressed key w h = clear-or pressed key w _ _ h (λ q. absurd (false≢true (sym q)))
-fresh e nextLineByte w h = clear-or e nextLineByte w _ _ h (λ _. gone-clear e (w .state) (nextOut (w .state) (w .tx)) h)
-fresh e (loopFrame f) w h =
-    clear-or e (loopFrame f) w _ _ h
-    (λ _. by-cond (Clear e) (deviceClear (w .state) f) _ _ (λ _. frame-clear e (w .state) h (w .rx) f) (λ _. frame-clear e (w .state) h (w .rx) f))
-fresh e (show side) w h = λ _. h
-
-pub none-invented : NoneInvented
-unfolding end bitOf
-none-invented e [] w h n = h
-none-invented e (c ∷ cs) w h n =
-    let m = first-not (happens e) c cs w n in
-    none-invented e cs (after c w) (event-shown e (after c w .state) ∙ fresh e c w (sym (event-shown e (w .state)) ∙ h) (m .0)) (m .1)
-
--- ---- what a status byte that came back clears
-
-module _ (e : Event) where
   -- the status byte is under way as it was, and so is what is noted of e
   record On (s t : State) : Type 0 where
     talker : t .role .talker ≡ s .role .talker
@@ -160,98 +71,168 @@ module _ (e : Event) where
     seen : noted e (t .notes .seen) ≡ noted e (s .notes .seen)
     again : noted e (t .notes .again) ≡ noted e (s .notes .again)
 
-  on : (s : State) → On s s
-  on s = record { talker = refl; frame = refl; seen = refl; again = refl }
+  -- the state t after a call that answers a
+  record Noted (c : Call) (w : World) (a : Said) (t : State) : Type 0 where
+    starts : empties c w a ≡ true → Clear t
+    fresh : happens e c w a ≡ false → Clear (w .state) → Clear t
+    on : happens e c w a ≡ false → endsWay c a ≡ false → eqb (w .state .role .talker) 3 ≡ true → On (w .state) t
 
-  module _ (s : State) (rx : List ℕ) (f : ℕ) (T : eqb (s .role .talker) 3 ≡ true) where
-    abbrev OutOn : Outcome → Type 0
-    OutOn o = On s (o .state)
+  module _ (c : Call) (w : World) (a : Said) (t : State) where
+    -- nothing is noted
+    left : empties c w a ≡ false → (Clear (w .state) → Clear t) → (endsWay c a ≡ false → eqb (w .state .role .talker) 3 ≡ true → On (w .state) t) → Noted c w a t
+    left n f o = record { starts = λ q. absurd (false≢true (sym n ∙ q)); fresh = λ _. f; on = λ _. o }
 
-    no-talker : (d n : ℕ) → (n ≡ 3 → ⊥) → (eqb (dataOf f) d && eqb (s .role .talker) n) ≡ true → ⊥
-    no-talker d n h q = h (sym (eqb-true (s .role .talker) n (and-right (eqb (dataOf f) d) _ q)) ∙ eqb-true (s .role .talker) 3 T)
+    kept : empties c w a ≡ false → On (w .state) t → Noted c w a t
+    kept n o = left n (λ h. o .seen ∙ h) (λ _ _. o)
 
-    ready-on : OutOn (ready s rx f)
-    unfolding ready readied readyOf
-    ready-on =
-        by-cond Readied (givesAddress (s .role) (dataOf f)) _ _ (λ _. record { talker = refl; frame = refl; seen = refl; again = refl })
-        (λ _. by-cond Readied (eqb (dataOf f) 96 && eqb (s .role .talker) 1) _ _ (λ q. absurd (no-talker 96 1 (λ z. omega arith) q))
-        (λ _. by-cond Readied (eqb (dataOf f) 97 && eqb (s .role .talker) 1) _ _ (λ q. absurd (no-talker 97 1 (λ z. omega arith) q))
-        (λ _. by-cond Readied (eqb (dataOf f) 66 && eqb (s .role .talker) 2) _ _ (λ q. absurd (no-talker 66 2 (λ z. omega arith) q)) (λ _. on s))))
-      where
-        Readied : Ready → Type 0
-        Readied r = OutOn (readied s rx f r)
+    -- it happens
+    happened : empties c w a ≡ false → happens e c w a ≡ true → Noted c w a t
+    happened n h =
+        record {
+          starts = λ q. absurd (false≢true (sym n ∙ q));
+          fresh = λ q. absurd (false≢true (sym q ∙ h));
+          on = λ q. absurd (false≢true (sym q ∙ h));
+        }
 
-    frame-on : (isData f || eqb (controlOf f) 4) ≡ false → OutOn (frameTaken s rx f)
-    unfolding frameTaken identify
-    frame-on n =
-        let m = neither (isData f) (eqb (controlOf f) 4) n in
-        by-cond OutOn (isData f) _ _ (λ D. absurd (false≢true (sym (m .0) ∙ D)))
-        (λ _. by-cond OutOn (eqb (controlOf f) 4) _ _ (λ C. absurd (false≢true (sym (m .1) ∙ C)))
-        (λ _. by-cond OutOn (eqb (controlOf f) 5) _ _ (λ _. ready-on) (λ _. on s)))
+    -- all notes are taken away
+    begun : endsWay c a ≡ true → Clear t → Noted c w a t
+    begun n h = record { starts = λ _. h; fresh = λ _ _. h; on = λ _ q. absurd (false≢true (sym q ∙ n)) }
 
-    -- the status byte comes back
-    returned-clear : isData f ≡ true → sameApart f (s .under .frame) ≡ true → noted e (acknowledged (s .notes .seen) (s .notes .again) (dataOf (s .under .frame))) ≡ false →
-        noted e (frameTaken s rx f .state .notes .seen) ≡ false
-    unfolding frameTaken returned ended talking status.statusBack
-    returned-clear D m q =
-        let a : isActive (s .role) ≡ true = le-leb 2 (s .role .talker) (omega (arith, eqb-true (s .role .talker) 3 T)) in
-        rw (D, a, m, T) q
+  settled-noted : (c : Call) (w : World) (a : Said) (u : Bool) (t : State) → Noted c w a t → Noted c w a (cond u t (settled (w .state) t))
+  unfolding settled
+  settled-noted c w a true t x = x
+  settled-noted c w a false t x =
+      record {
+        starts = x .starts;
+        fresh = x .fresh;
+        on = λ h n k. let o = x .on h n k in record { talker = o .talker; frame = o .frame; seen = o .seen; again = o .again };
+      }
 
-  -- ---- every call
+-- ---- loop frames
 
-  on-or : (c : Call) (w : World) (n : ℕ) (d : Did) → (happens e c w (d .said) ≡ false → endsWay c (d .said) ≡ false → On (w .state) (d .world .state)) →
-      happens e c w (refusedOr n d w .said) ≡ false → endsWay c (refusedOr n d w .said) ≡ false → On (w .state) (refusedOr n d w .world .state)
-  unfolding refusedOr
-  on-or c w n d k =
-      by-cond (λ (x : Did). happens e c w (x .said) ≡ false → endsWay c (x .said) ≡ false → On (w .state) (x .world .state)) (eqb n 0) d (record { said = refused n; world = w })
-      (λ _. k)
-      (λ _ _ _. on (w .state))
+or-true : (a b : Bool) → b ≡ true → (a || b) ≡ true
+or-true true b e = refl
+or-true false b e = e
 
-set : (e : Event) (w : World) (t : State) → On e (w .state) t → On e (w .state) (settled (w .state) t)
-unfolding settled
-set e w t x = record { talker = x .talker; frame = x .frame; seen = x .seen; again = x .again }
+no-and : (t : Bool) → (t && false) ≡ false
+no-and true = refl
+no-and false = refl
 
-gone-on : (e : Event) (s : State) (o : Out) → On e s (goneState s o)
-unfolding goneState
-gone-on e s (out.Own b) = record { talker = refl; frame = refl; seen = refl; again = refl }
-gone-on e s (out.Held b) = record { talker = refl; frame = refl; seen = refl; again = refl }
-gone-on e s out.Nothing = on e s
+-- while a status byte is under way, nothing is asked for
+busy-talking : (s : State) (f : ℕ) → eqb (s .role .talker) 3 ≡ true → (isSend s f ≡ false) × (asksStatus s f ≡ false)
+unfolding isSend asksStatus
+busy-talking s f k =
+    let one : eqb (s .role .talker) 1 ≡ false = ne-eqb (s .role .talker) 1 (λ h. omega (arith, eqb-true (s .role .talker) 3 k)) in
+    let two : eqb (s .role .talker) 2 ≡ false = ne-eqb (s .role .talker) 2 (λ h. omega (arith, eqb-true (s .role .talker) 3 k)) in (
+      simp (one, two, no-and (eqb (dataOf f) 96), no-and (eqb (controlOf f) 5), no-and (equalReturn s f)),
+      simp (one, no-and (eqb (dataOf f) 97), no-and (eqb (controlOf f) 5)),
+    )
 
-line-on : (e : Event) (s : State) (b : ℕ) (t u : Bool) → (noted e (record { brk = false; overrun = true; key = false }) ≡ true → any (cond u (cond (not t) (b ∷ []) []) []) ≡ false) → On e s (cond t (flowed s b) (cond u (lostState s) (storedState s)))
-unfolding flowed lostState storedWith
-line-on e s b true u k = record { talker = refl; frame = refl; seen = refl; again = refl }
-line-on e s b false false k = record { talker = refl; frame = refl; seen = refl; again = refl }
-line-on broken s b false true k = record { talker = refl; frame = refl; seen = refl; again = refl }
-line-on overrun s b false true k = absurd (false≢true (sym (k refl)))
-line-on pressed s b false true k = record { talker = refl; frame = refl; seen = refl; again = refl }
+module _ (e : Event) (w : World) (f : ℕ) where
+  abbrev FrameNoted : Outcome → Type 0
+  FrameNoted o = Noted e (loopFrame f) w (said (o .answer)) (o .state)
 
-still-on : (e : Event) (c : Call) (w : World) → eqb (w .state .role .talker) 3 ≡ true → happens e c w (answer c w) ≡ false → endsWay c (answer c w) ≡ false →
-    On e (w .state) (after c w .state)
-unfolding step calls.notRefused outcome settledBy settled said arrived lost lineState breakState keyState afterWrite setAfresh endsWay restarts
-still-on e (create m) w T = on-or e (create m) w _ _ (λ _ q. absurd (false≢true (sym q)))
-still-on e reset w T = on-or e reset w _ _ (λ _ q. absurd (false≢true (sym q)))
-still-on e (write n v) w T =
-    on-or e (write n v) w _ _
-    (λ _ _. by-cond (λ (t : State). On e (w .state) (settled (w .state) t)) (eqb n 11) _ _
-    (λ _. record { talker = refl; frame = refl; seen = refl; again = refl })
-    (λ _. record { talker = refl; frame = refl; seen = refl; again = refl }))
-still-on broken (lineByte b) w T = on-or broken (lineByte b) w _ _ (λ _ _. set broken w _ (line-on broken (w .state) b (isGoOrStop (w .state .regs) b) (full (w .state .sizes .rx) (w .state .rx)) (λ q. absurd (false≢true q))))
-still-on overrun (lineByte b) w T = on-or overrun (lineByte b) w _ _ (λ h _. set overrun w _ (line-on overrun (w .state) b (isGoOrStop (w .state .regs) b) (full (w .state .sizes .rx) (w .state .rx)) (λ _. h)))
-still-on pressed (lineByte b) w T = on-or pressed (lineByte b) w _ _ (λ _ _. set pressed w _ (line-on pressed (w .state) b (isGoOrStop (w .state .regs) b) (full (w .state .sizes .rx) (w .state .rx)) (λ q. absurd (false≢true q))))
-still-on broken lineBreak w T = on-or broken lineBreak w _ _ (λ h _. absurd (false≢true (sym h)))
-still-on overrun lineBreak w T = on-or overrun lineBreak w _ _ (λ _ _. record { talker = refl; frame = refl; seen = refl; again = refl })
-still-on pressed lineBreak w T = on-or pressed lineBreak w _ _ (λ _ _. record { talker = refl; frame = refl; seen = refl; again = refl })
-still-on broken key w T = on-or broken key w _ _ (λ _ _. record { talker = refl; frame = refl; seen = refl; again = refl })
-still-on overrun key w T = on-or overrun key w _ _ (λ _ _. record { talker = refl; frame = refl; seen = refl; again = refl })
-still-on pressed key w T = on-or pressed key w _ _ (λ h _. absurd (false≢true (sym h)))
-still-on e nextLineByte w T = on-or e nextLineByte w _ _ (λ _ _. set e w _ (gone-on e (w .state) (nextOut (w .state) (w .tx))))
-still-on e (loopFrame f) w T =
-    on-or e (loopFrame f) w _ _
-    (λ _ q.
-    let x : On e (w .state) (frameTaken (w .state) (w .rx) f .state) =
-    frame-on e (w .state) (w .rx) f T ((λ i. sym (frame-taken (said (frameTaken (w .state) (w .rx) f .answer)) (frame-answers (w .state) (w .rx) f)) i && (isData f || eqb (controlOf f) 4)) ∙ q) in
-    by-cond (On e (w .state)) (deviceClear (w .state) f) _ _ (λ _. x) (λ _. set e w _ x))
-still-on e (show side) w T = λ _ _. on e (w .state)
+  no-empties : (a : Said) → isDeviceClear (w .state) f ≡ false → empties (loopFrame f) w a ≡ false
+  unfolding restarts clears
+  no-empties a n = (λ i. taken a && n i) ∙ no-and (taken a)
+
+  still-way : (a : Said) → isFrame a ≡ true → endsWay (loopFrame f) a ≡ false → (isData f || eqb (controlOf f) 4) ≡ false
+  unfolding endsWay
+  still-way a t n = (λ i. sym (frame-taken a t) i && (isData f || eqb (controlOf f) 4)) ∙ n
+
+  frame-noted : (o : Outcome) → Kind (w .state) (w .rx) f o → isFrame (said (o .answer)) ≡ true → FrameNoted o
+  unfolding sendStatus ended talking cleared status.statusSent status.statusBack endsWay said
+  frame-noted o (isSent m) t =
+      left e (loopFrame f) w _ _ (no-empties _ (m .clear)) (λ h. ap (λ (n : Notes). noted e (n .seen)) (send-notes (w .state) (w .rx) f) ∙ h)
+      (λ _ k. absurd (false≢true (sym (busy-talking (w .state) f k .0) ∙ m .send)))
+  frame-noted o (isStatus m) t =
+      left e (loopFrame f) w _ _ (no-empties _ (m .clear)) (λ h. h)
+      (λ _ k. absurd (false≢true (sym (busy-talking (w .state) f k .1) ∙ m .status)))
+  frame-noted o (isBack m d) t =
+      left e (loopFrame f) w _ _ (no-empties _ (m .clear)) (never-noted (w .state .notes .seen) (w .state .notes .again) (dataOf (w .state .under .frame)) e)
+      (λ n _. absurd (false≢true (sym n ∙ (λ i. d i || eqb (controlOf f) 4))))
+  frame-noted o (isCleared m c) t = begun e (loopFrame f) w _ _ (or-true (isData f) _ c) (none-noted e)
+  frame-noted o (isOther q p m x) t =
+      left e (loopFrame f) w _ _ (no-empties _ (m .clear)) (λ h. ap (λ (n : Notes). noted e (n .seen)) (x .notes) ∙ h)
+      (λ n _.
+      let y = x .way (still-way (said (q .answer)) t n) in
+      record {
+        talker = y .0;
+        frame = y .1;
+        seen = ap (λ (n : Notes). noted e (n .seen)) (x .notes);
+        again = ap (λ (n : Notes). noted e (n .again)) (x .notes);
+      })
+
+-- ---- every call
+
+on : (e : Event) (s : State) → On e s s
+on e s = record { talker = refl; frame = refl; seen = refl; again = refl }
+
+gone-noted : (e : Event) (w : World) (a : Said) (o : Out) → Noted e nextLineByte w a (settled (w .state) (goneState (w .state) o))
+unfolding goneState settled restarts clears
+gone-noted e w a (out.Own b) = kept e nextLineByte w a _ refl (record { talker = refl; frame = refl; seen = refl; again = refl })
+gone-noted e w a (out.Held b) = kept e nextLineByte w a _ refl (record { talker = refl; frame = refl; seen = refl; again = refl })
+gone-noted e w a out.Nothing = kept e nextLineByte w a _ refl (record { talker = refl; frame = refl; seen = refl; again = refl })
+
+line-noted : (e : Event) (w : World) (b : ℕ) (t u : Bool) → isGoOrStop (w .state .regs) b ≡ t → full (w .state .sizes .rx) (w .state .rx) ≡ u →
+    Noted e (lineByte b) w done (settled (w .state) (cond t (flowed (w .state) b) (cond u (lostState (w .state)) (storedState (w .state)))))
+unfolding flowed lostState storedWith settled restarts clears lost arrived
+line-noted e w b true u p q = kept e (lineByte b) w done _ refl (record { talker = refl; frame = refl; seen = refl; again = refl })
+line-noted e w b false false p q = kept e (lineByte b) w done _ refl (record { talker = refl; frame = refl; seen = refl; again = refl })
+line-noted broken w b false true p q = kept broken (lineByte b) w done _ refl (record { talker = refl; frame = refl; seen = refl; again = refl })
+line-noted overrun w b false true p q = happened overrun (lineByte b) w done _ refl (λ i. any (cond (q i) (cond (not (p i)) (b ∷ []) []) []))
+line-noted pressed w b false true p q = kept pressed (lineByte b) w done _ refl (record { talker = refl; frame = refl; seen = refl; again = refl })
+
+write-noted : (e : Event) (w : World) (n v : ℕ) → Noted e (write n v) w done (settled (w .state) (afterWrite (w .state) n (written (w .state .regs) n v)))
+unfolding afterWrite setAfresh settled restarts clears
+write-noted e w n v =
+    by-cond (λ (t : State). Noted e (write n v) w done (settled (w .state) t)) (eqb n 11) _ _
+    (λ _. kept e (write n v) w done _ refl (record { talker = refl; frame = refl; seen = refl; again = refl }))
+    (λ _. kept e (write n v) w done _ refl (record { talker = refl; frame = refl; seen = refl; again = refl }))
+
+refused-noted : (e : Event) (c : Call) (w : World) (n : ℕ) → Noted e c w (refused n) (w .state)
+unfolding restarts clears
+refused-noted e (create m) w n = kept e (create m) w (refused n) _ refl (on e (w .state))
+refused-noted e reset w n = kept e reset w (refused n) _ refl (on e (w .state))
+refused-noted e (write k v) w n = kept e (write k v) w (refused n) _ refl (on e (w .state))
+refused-noted e (lineByte b) w n = kept e (lineByte b) w (refused n) _ refl (on e (w .state))
+refused-noted e lineBreak w n = kept e lineBreak w (refused n) _ refl (on e (w .state))
+refused-noted e key w n = kept e key w (refused n) _ refl (on e (w .state))
+refused-noted e nextLineByte w n = kept e nextLineByte w (refused n) _ refl (on e (w .state))
+refused-noted e (loopFrame f) w n = kept e (loopFrame f) w (refused n) _ refl (on e (w .state))
+refused-noted e (show side) w n = kept e (show side) w (refused n) _ refl (on e (w .state))
+
+noted-or : (e : Event) (c : Call) (w : World) (n : ℕ) (d : Did) → (n ≡ 0 → Noted e c w (d .said) (d .world .state)) → Noted e c w (refusedOr n d w .said) (refusedOr n d w .world .state)
+noted-or e c w n d = or-refused (λ (x : Did). Noted e c w (x .said) (x .world .state)) n d w (refused-noted e c w n)
+
+notes : (e : Event) (c : Call) (w : World) → Noted e c w (answer c w) (after c w .state)
+unfolding step calls.notRefused outcome settledBy said lineState breakState keyState startState restarts clears endsWay
+notes e (create m) w = noted-or e (create m) w _ _ (λ _. begun e (create m) w done _ refl (none-noted e))
+notes e reset w = noted-or e reset w _ _ (λ _. settled-noted e reset w done false _ (begun e reset w done _ refl (none-noted e)))
+notes e (write n v) w = noted-or e (write n v) w _ _ (λ _. write-noted e w n v)
+notes e (lineByte b) w = noted-or e (lineByte b) w _ _ (λ _. line-noted e w b (isGoOrStop (w .state .regs) b) (full (w .state .sizes .rx) (w .state .rx)) refl refl)
+notes broken lineBreak w = noted-or broken lineBreak w _ _ (λ _. happened broken lineBreak w done _ refl refl)
+notes overrun lineBreak w = noted-or overrun lineBreak w _ _ (λ _. settled-noted overrun lineBreak w done false _ (kept overrun lineBreak w done _ refl (record { talker = refl; frame = refl; seen = refl; again = refl })))
+notes pressed lineBreak w = noted-or pressed lineBreak w _ _ (λ _. settled-noted pressed lineBreak w done false _ (kept pressed lineBreak w done _ refl (record { talker = refl; frame = refl; seen = refl; again = refl })))
+notes broken key w = noted-or broken key w _ _ (λ _. settled-noted broken key w done false _ (kept broken key w done _ refl (record { talker = refl; frame = refl; seen = refl; again = refl })))
+notes overrun key w = noted-or overrun key w _ _ (λ _. settled-noted overrun key w done false _ (kept overrun key w done _ refl (record { talker = refl; frame = refl; seen = refl; again = refl })))
+notes pressed key w = noted-or pressed key w _ _ (λ _. happened pressed key w done _ refl refl)
+notes e nextLineByte w = noted-or e nextLineByte w _ _ (λ _. gone-noted e w _ (nextOut (w .state) (w .tx)))
+notes e (loopFrame f) w =
+    noted-or e (loopFrame f) w _ _
+    (λ x. settled-noted e (loopFrame f) w _ (deviceClear (w .state) f) _ (frame-noted e w f _ (kind-of f w (frame-fits f w x)) (frame-answers (w .state) (w .rx) f)))
+notes e (show side) w = kept e (show side) w _ _ refl (on e (w .state))
+
+pub none-at-start : NoneAtStart
+unfolding bitOf
+none-at-start e c w q = event-shown e (after c w .state) ∙ notes e c w .starts q
+
+pub none-invented : NoneInvented
+unfolding end bitOf
+none-invented e [] w h n = h
+none-invented e (c ∷ cs) w h n =
+    let m = first-not (happens e) c cs w n in
+    none-invented e cs (after c w) (event-shown e (after c w .state) ∙ notes e c w .fresh (m .0) (sym (event-shown e (w .state)) ∙ h)) (m .1)
 
 -- ---- runs
 
@@ -287,33 +268,31 @@ module _ (e : Event) (g : ℕ) where
   run-on (c ∷ cs) w y h n =
       let k = first-not (happens e) c cs w h in
       let m = first-not (λ c w a. endsWay c a) c cs w n in
-      run-on cs (after c w) (way-on (w .state) (after c w .state) (still-on e c w (y .talker) (k .0) (m .0)) y) (k .1) (m .1)
+      run-on cs (after c w) (way-on (w .state) (after c w .state) (notes e c w .on (k .0) (m .0) (y .talker)) y) (k .1) (m .1)
 
-  -- it comes back
-  back : (w : World) (r : ℕ) → Way (w .state) → statusBack (g ∷ []) (loopFrame r) (answer (loopFrame r) w) ≡ true → Clear e (after (loopFrame r) w .state)
-  unfolding statusBack step refusedOr calls.notRefused outcome settledBy settled
-  back w r y =
-      let n = firstRefusal (checks (loopFrame r) w) in
-      by-cond (λ (d : Did). (taken (d .said) && (isData r && sameApart r g)) ≡ true → Clear e (d .world .state)) (eqb n 0) (calls.notRefused (loopFrame r) w) (record { said = refused n; world = w })
-      (λ _ q. by-cond (Clear e) (deviceClear (w .state) r) _ _ (λ _. come q) (λ _. come q))
-      (λ _ q. absurd (false≢true q))
-    where
-      come : (taken (said (frameTaken (w .state) (w .rx) r .answer)) && (isData r && sameApart r g)) ≡ true → Clear e (frameTaken (w .state) (w .rx) r .state)
-      come q =
-          let p : (isData r && sameApart r g) ≡ true = and-right (taken (said (frameTaken (w .state) (w .rx) r .answer))) _ q in
-          returned-clear e (w .state) (w .rx) r (y .talker) (and-left _ _ p)
-          (stripped-same r (w .state .under .frame) (same-stripped r g (and-right (isData r) _ p) ∙ ap stripped (y .frame) ∙ stripped-twice (w .state .under .frame)))
-          (told-of e (w .state .notes .seen) (w .state .notes .again) (dataOf (w .state .under .frame)) (y .shown) (y .again))
+-- it comes back
+returned-clear : (e : Event) (s : State) (rx : List ℕ) (f : ℕ) → eqb (s .role .talker) 3 ≡ true → isData f ≡ true → sameApart f (s .under .frame) ≡ true →
+    noted e (acknowledged (s .notes .seen) (s .notes .again) (dataOf (s .under .frame))) ≡ false → Clear e (frameTaken s rx f .state)
+unfolding frameTaken returned ended talking status.statusBack
+returned-clear e s rx f T D m q =
+    let a : isActive (s .role) ≡ true = le-leb 2 (s .role .talker) (omega (arith, eqb-true (s .role .talker) 3 T)) in
+    rw (D, a, m, T) q
+
+back : (e : Event) (g : ℕ) (w : World) (r : ℕ) → Way e g (w .state) → statusBack (g ∷ []) (loopFrame r) (answer (loopFrame r) w) ≡ true → Clear e (after (loopFrame r) w .state)
+unfolding statusBack step calls.notRefused outcome settledBy settled
+back e g w r y =
+    or-refused (λ (d : Did). (taken (d .said) && (isData r && sameApart r g)) ≡ true → Clear e (d .world .state)) (firstRefusal (checks (loopFrame r) w)) (calls.notRefused (loopFrame r) w) w
+    (λ q. absurd (false≢true q))
+    (λ _ q. by-cond (Clear e) (deviceClear (w .state) r) _ _ (λ _. come q) (λ _. come q))
+  where
+    come : (taken (said (frameTaken (w .state) (w .rx) r .answer)) && (isData r && sameApart r g)) ≡ true → Clear e (frameTaken (w .state) (w .rx) r .state)
+    come q =
+        let p : (isData r && sameApart r g) ≡ true = and-right (taken (said (frameTaken (w .state) (w .rx) r .answer))) _ q in
+        returned-clear e (w .state) (w .rx) r (y .talker) (and-left _ _ p)
+        (stripped-same r (w .state .under .frame) (same-stripped r g (and-right (isData r) _ p) ∙ ap stripped (y .frame) ∙ stripped-twice (w .state .under .frame)))
+        (told-of e (w .state .notes .seen) (w .state .notes .again) (dataOf (w .state .under .frame)) (y .shown) (y .again))
 
 -- it is sent
-way-set : (e : Event) (g : ℕ) (s t : State) → Way e g t → Way e g (settled s t)
-unfolding settled
-way-set e g s t y = record { talker = y .talker; frame = y .frame; shown = y .shown; again = y .again }
-
-no-head : (g : ℕ) (t : Bool) → _≡_ {A = List ℕ} (cond t [] []) (g ∷ []) → ⊥
-no-head g true q = let z : _≡_ {A = List ℕ} [] (g ∷ []) = q in false≢true (ap any z)
-no-head g false q = let z : _≡_ {A = List ℕ} [] (g ∷ []) = q in false≢true (ap any z)
-
 status-way : (e : Event) (g : ℕ) (s : State) → dataFrame (said (sendStatus s .answer)) ≡ g ∷ [] → Way e g (sendStatus s .state)
 unfolding sendStatus talking status.statusSent
 status-way e g s q =
@@ -326,61 +305,31 @@ status-way e g s q =
       again = none-noted e;
     }
 
-module _ (e : Event) (f g : ℕ) (w : World) where
-  asked-way : (t : Bool) → asksStatus (w .state) f ≡ t → cond t (dataFrame (said (frameTaken (w .state) (w .rx) f .answer))) [] ≡ g ∷ [] → Way e g (frameTaken (w .state) (w .rx) f .state)
-  asked-way true A q =
-      let k = takes-status (w .state) (w .rx) f A in
-      subst (λ (o : Outcome). Way e g (o .state)) (sym k) (status-way e g (w .state) (ap (λ (o : Outcome). dataFrame (said (o .answer))) (sym k) ∙ q))
-  asked-way false A q = absurd (no-head g true q)
+settled-way : (e : Event) (g : ℕ) (s : State) (t : Bool) (u : State) → Way e g u → Way e g (cond t u (settled s u))
+unfolding settled
+settled-way e g s true u y = y
+settled-way e g s false u y = record { talker = y .talker; frame = y .frame; shown = y .shown; again = y .again }
 
-  sent-way : statusSent (loopFrame f) w (answer (loopFrame f) w) ≡ g ∷ [] → Way e g (after (loopFrame f) w .state)
-  unfolding statusSent step refusedOr calls.notRefused outcome settledBy
-  sent-way =
-      let n = firstRefusal (checks (loopFrame f) w) in
-      by-cond (λ (d : Did). cond (asksStatus (w .state) f) (dataFrame (d .said)) [] ≡ g ∷ [] → Way e g (d .world .state)) (eqb n 0) (calls.notRefused (loopFrame f) w) (record { said = refused n; world = w })
-      (λ _ q.
-      let y : Way e g (frameTaken (w .state) (w .rx) f .state) = asked-way (asksStatus (w .state) f) refl q in
-      by-cond (Way e g) (deviceClear (w .state) f) (frameTaken (w .state) (w .rx) f .state) (settled (w .state) (frameTaken (w .state) (w .rx) f .state)) (λ _. y) (λ _. way-set e g (w .state) (frameTaken (w .state) (w .rx) f .state) y))
-      (λ _ q. absurd (no-head g (asksStatus (w .state) f) q))
+no-head : (g : ℕ) (t : Bool) → _≡_ {A = List ℕ} (cond t [] []) (g ∷ []) → ⊥
+no-head g true q = let z : _≡_ {A = List ℕ} [] (g ∷ []) = q in false≢true (ap any z)
+no-head g false q = let z : _≡_ {A = List ℕ} [] (g ∷ []) = q in false≢true (ap any z)
+
+sent-way : (e : Event) (f g : ℕ) (w : World) → statusSent (loopFrame f) w (answer (loopFrame f) w) ≡ g ∷ [] → Way e g (after (loopFrame f) w .state)
+unfolding statusSent step calls.notRefused outcome settledBy
+sent-way e f g w =
+    or-refused (λ (d : Did). cond (asksStatus (w .state) f) (dataFrame (d .said)) [] ≡ g ∷ [] → Way e g (d .world .state)) (firstRefusal (checks (loopFrame f) w)) (calls.notRefused (loopFrame f) w) w
+    (λ q. absurd (no-head g (asksStatus (w .state) f) q))
+    (λ x q. settled-way e g (w .state) (deviceClear (w .state) f) _ (asked (asksStatus (w .state) f) refl (kind-of f w (frame-fits f w x)) q))
+  where
+    asked : (t : Bool) → asksStatus (w .state) f ≡ t → Kind (w .state) (w .rx) f (frameTaken (w .state) (w .rx) f) →
+        cond t (dataFrame (said (frameTaken (w .state) (w .rx) f .answer))) [] ≡ g ∷ [] → Way e g (frameTaken (w .state) (w .rx) f .state)
+    asked true a x q =
+        let k = sends-status (w .state) (w .rx) f _ x a in
+        subst (λ (o : Outcome). Way e g (o .state)) (sym k) (status-way e g (w .state) (ap (λ (o : Outcome). dataFrame (said (o .answer))) (sym k) ∙ q))
+    asked false a x q = absurd (no-head g true q)
 
 pub events-clear : EventsClear
 unfolding bitOf
 events-clear e f g w q cs h n r b =
     event-shown e (after (loopFrame r) (end cs (after (loopFrame f) w)) .state)
     ∙ back e g (end cs (after (loopFrame f) w)) r (run-on e g cs (after (loopFrame f) w) (sent-way e f g w q) h n) b
-
--- ---- a create, reset or device clear leaves none
-
-clear-start : (e : Event) (c : Call) (w : World) (n : ℕ) (d : Did) → empties c w (refused n) ≡ false → (empties c w (d .said) ≡ true → Clear e (d .world .state)) →
-    empties c w (refusedOr n d w .said) ≡ true → Clear e (refusedOr n d w .world .state)
-unfolding refusedOr
-clear-start e c w n d r k =
-    by-cond (λ (x : Did). empties c w (x .said) ≡ true → Clear e (x .world .state)) (eqb n 0) d (record { said = refused n; world = w }) (λ _. k) (λ _ q. absurd (false≢true (sym r ∙ q)))
-
-cleared-none : (e : Event) (s : State) (rx : List ℕ) (f : ℕ) → isDeviceClear s f ≡ true → Clear e (frameTaken s rx f .state)
-unfolding frameTaken command commandState cleared isDeviceClear
-cleared-none e s rx f q =
-    let c : eqb (controlOf f) 4 ≡ true = and-left _ _ q in
-    let k : isClear (orderIn s f) ≡ true = clear-order (s .role) (dataOf f) ∙ and-right (eqb (controlOf f) 4) _ q in
-    let d : isData f ≡ false = le-ltb (controlOf f) 4 (omega (arith, eqb-true (controlOf f) 4 c)) in
-    rw (d, c, k) (none-noted e)
-
-at-start : (e : Event) (c : Call) (w : World) → empties c w (answer c w) ≡ true → Clear e (after c w .state)
-unfolding step calls.notRefused outcome settledBy settled said restarts clears startState
-at-start e (create m) w = clear-start e (create m) w _ _ refl (λ _. none-noted e)
-at-start e reset w = clear-start e reset w _ _ refl (λ _. none-noted e)
-at-start e (write n v) w = λ q. absurd (false≢true q)
-at-start e (lineByte b) w = λ q. absurd (false≢true q)
-at-start e lineBreak w = λ q. absurd (false≢true q)
-at-start e key w = λ q. absurd (false≢true q)
-at-start e nextLineByte w = λ q. absurd (false≢true q)
-at-start e (loopFrame f) w =
-    clear-start e (loopFrame f) w _ _ refl
-    (λ q.
-    let x : Clear e (frameTaken (w .state) (w .rx) f .state) = cleared-none e (w .state) (w .rx) f (and-right (taken (said (frameTaken (w .state) (w .rx) f .answer))) _ q) in
-    by-cond (Clear e) (deviceClear (w .state) f) _ _ (λ _. x) (λ _. x))
-at-start e (show side) w = λ q. absurd (false≢true q)
-
-pub none-at-start : NoneAtStart
-unfolding bitOf
-none-at-start e c w q = event-shown e (after c w .state) ∙ at-start e c w q

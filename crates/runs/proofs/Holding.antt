@@ -1,22 +1,13 @@
 -- When holding off begins and ends, and what permits and forbids our sending. Assumes nothing.
-use Prim.Native.Nat.{ℕ, _*_, _≤_}
-use native.Mathlib.Omega.{arith}
-use mathlib.Core.Path.{_≡_, refl, sym, ap, subst, _∙_}
-use mathlib.Core.Bool.{Bool, true, false, cond, _&&_, _||_, not, false≢true}
+use Prim.Native.Nat.{ℕ, _*_}
+use mathlib.Core.Path.{_≡_, refl, ap}
+use mathlib.Core.Bool.{Bool, true, false, cond, _&&_, _||_, not}
 use mathlib.Core.List.{List, [], _∷_}
 use lib.Dec.{eqb, leb}
-use lib.ListN.{length}
-use borrow.Author.Tests.{eqb-true, eqb-false, eq-eqb, ne-eqb, leb-true, ltb-true, le-ltb}
 use Rattle.role.proofs.FitLaws as role-laws
-use Rattle.state.proofs.Fits.{tests}
-use Rattle.runs.proofs.View.{fitting}
-use Rattle.cases.proofs.Cases.{by-cond, and-left, and-right}
-use Rattle.frame.specs.Frame.{controlOf, dataOf, isData, sameApart}
+use Rattle.runs.proofs.Refusals.{or-refused, frame-fits}
 use Rattle.registers.specs.Meanings.{protocolOn, stop}
 use Rattle.registers.specs.Writing.{written}
-use Rattle.role.specs.declared.Ready.{Ready}
-use Rattle.role.specs.Parts.{isActive}
-use Rattle.role.specs.ReadyFrames.{givesAddress, readyOf}
 use Rattle.store.specs.Ring.{full}
 use Rattle.reading.specs.Reading.{Sent, none, one}
 use Rattle.sending.specs.Sending.{givenOf, sendHeld}
@@ -31,20 +22,19 @@ use Rattle.state.specs.Sizes.{startState}
 use Rattle.state.specs.Status.{settled, breakState, keyState}
 use Rattle.state.specs.Status as state-status
 use Rattle.line.specs.HoldingOff.{isGoOrStop, flowed, free, lostState, storedWith, storedState, lineState, lineBytes, resumed, setAfresh, afterWrite, nextOut, goneState, outAnswer}
-use Rattle.loops.specs.LoopToLine.{leftState}
 use Rattle.loops.specs.Sending.{ruleOf, removedState, sendState, sendFrom, sendStatus, talking, ended}
-use Rattle.loops.specs.Frames.{isClear, orderIn, obeyed, cleared, commandState, command, finishing, readied, ready, returned, dataPassed, identify, frameTaken, deviceClear}
-use Rattle.bridge.specs.Calls.{Call, create, reset, write, lineByte, lineBreak, key, nextLineByte, loopFrame, show, World, Did, checks, outcome, settledBy, rxAfter, txAfter, refusedOr, step}
+use Rattle.loops.specs.Frames.{cleared, frameTaken, deviceClear}
+use Rattle.bridge.specs.Calls.{Call, create, reset, write, lineByte, lineBreak, key, nextLineByte, loopFrame, show, World, Did, outcome, settledBy, rxAfter, txAfter, refusedOr, step}
 use Rattle.bridge.specs.Calls as calls
 use Rattle.laws.specs.CallPlaces.{isDeviceClear}
-use Rattle.laws.proofs.FramePlaces.{clear-same}
-use Rattle.runs.specs.Observers.{taken, isSend, equalReturn, arrived, accepted, restarts, clears}
+use Rattle.runs.specs.Observers.{taken, isSend, arrived, accepted, restarts, clears}
 use Rattle.runs.specs.Run.{empties}
 use Rattle.runs.specs.Events.{any}
 use Rattle.runs.specs.Holding.{sends, writesR11, holdingAfter, HoldingGoes}
 use Rattle.runs.specs.NextByte.{afterByte, forbiddenAfter, ForbiddenGoes}
 use Rattle.runs.proofs.Refused.{frame-answers, frame-taken}
-use Rattle.runs.proofs.SendRule.{sends-from}
+use Rattle.runs.proofs.Shapes.{Fits}
+use Rattle.runs.proofs.FrameKinds.{Kind, isSent, isStatus, isBack, isCleared, isOther, kind-of}
 
 none-any : (t : Bool) → any (cond t [] []) ≡ false
 none-any true = refl
@@ -84,11 +74,7 @@ refused-unseen (loopFrame f) w n = record { empties = refl; arrived = refl; send
 refused-unseen (show side) w n = record { empties = refl; arrived = refl; sends = refl; writes = refl; byte = refl }
 
 goes-or : (c : Call) (w : World) (n : ℕ) (d : Did) → (n ≡ 0 → Goes c w d) → Goes c w (refusedOr n d w)
-unfolding refusedOr
-goes-or c w n d k =
-    by-cond (Goes c w) (eqb n 0) d (record { said = refused n; world = w })
-    (λ e. k (eqb-true n 0 e))
-    (λ _. same c w (record { said = refused n; world = w }) (refused-unseen c w n) refl refl)
+goes-or c w n d = or-refused (Goes c w) n d w (same c w (record { said = refused n; world = w }) (refused-unseen c w n) refl refl)
 
 -- a byte to the line
 gone-goes : (w : World) (o : Out) → Goes nextLineByte w (record { said = said (outAnswer o); world = record { state = settled (w .state) (goneState (w .state) o); rx = w .rx; tx = w .tx } })
@@ -150,105 +136,48 @@ write-goes w n v =
 -- ---- loop frames
 
 module _ (s : State) (rx : List ℕ) (f : ℕ) where
-  -- the line after a send
-  record Sent-line (t : State) : Type 0 where
-    holding : t .line .holding ≡ (s .line .holding && not (leb (2 * s .sizes .margin) (free t)))
-    forbidden : t .line .forbidden ≡ s .line .forbidden
-
-  send-goes : Sent-line (sendFrom s rx .state)
-  unfolding sendFrom sendState ended talking removedState resumed
-  send-goes = go (sendHeld (ruleOf (s .regs)) rx (s .rx))
-    where
-      go : (x : Sent ℕ ℕ) → Sent-line (sendState s (removedState s rx) (givenOf x) .state)
-      go (none r) = record { holding = refl; forbidden = refl }
-      go (one g r) = record { holding = refl; forbidden = refl }
-
-  module _ (N : isSend s f ≡ false) (C : deviceClear s f ≡ false) where
-    abbrev Kept : Outcome → Type 0
-    Kept o = o .state .line ≡ s .line
-
-    return-kept : isData f ≡ true → isActive (s .role) ≡ true → s .role .talker ≤ 3 → Kept (returned s rx f)
-    unfolding returned ended talking state-status.statusBack isSend equalReturn
-    return-kept D A P =
-        by-cond Kept (sameApart f (s .under .frame)) _ _
-        (λ m. by-cond Kept (eqb (s .role .talker) 3) _ _ (λ _. refl)
-        (λ k. by-cond Kept (s .under .finishing) _ _ (λ _. refl)
-        (λ e.
-        let two : eqb (s .role .talker) 2 ≡ true = eq-eqb (s .role .talker) 2 (omega (arith, leb-true 2 (s .role .talker) A, P, eqb-false (s .role .talker) 3 k)) in
-        let five : eqb (controlOf f) 5 ≡ false = ne-eqb (controlOf f) 5 (λ h. omega (arith, ltb-true (controlOf f) 4 D)) in
-        let yes : isSend s f ≡ true = simp (five, D, A, m, two, e) in
-        absurd (false≢true (sym N ∙ yes)))))
-        (λ _. refl)
-
-    ready-kept : isData f ≡ false → eqb (controlOf f) 5 ≡ true → Kept (ready s rx f)
-    unfolding ready readied readyOf finishing sendStatus talking state-status.statusSent isSend
-    ready-kept D R =
-        by-cond Readied (givesAddress (s .role) (dataOf f)) _ _ (λ _. refl)
-        (λ _. by-cond Readied (eqb (dataOf f) 96 && eqb (s .role .talker) 1) _ _
-        (λ q. let yes : isSend s f ≡ true = (λ i. (R i && q i) || (equalReturn s f && (eqb (s .role .talker) 2 && not (s .under .finishing)))) in absurd (false≢true (sym N ∙ yes)))
-        (λ _. by-cond Readied (eqb (dataOf f) 97 && eqb (s .role .talker) 1) _ _ (λ _. refl)
-        (λ _. by-cond Readied (eqb (dataOf f) 66 && eqb (s .role .talker) 2) _ _ (λ _. refl) (λ _. refl))))
-      where
-        Readied : Ready → Type 0
-        Readied r = Kept (readied s rx f r)
-
-    frame-kept : s .role .talker ≤ 3 → Kept (frameTaken s rx f)
-    unfolding frameTaken dataPassed leftState command commandState obeyed identify deviceClear
-    frame-kept P =
-        by-cond Kept (isData f) _ _
-        (λ D. by-cond Kept (isActive (s .role)) _ _ (λ A. return-kept D A P) (λ _. by-cond (λ (t : State). t .line ≡ s .line) (s .role .listener) _ _ (λ _. refl) (λ _. refl)))
-        (λ D. by-cond Kept (eqb (controlOf f) 4) _ _
-        (λ K. by-cond (λ (t : State). t .line ≡ s .line) (isClear (orderIn s f)) _ _ (λ q. absurd (false≢true (sym C ∙ (λ i. K i && q i)))) (λ _. refl))
-        (λ _. by-cond Kept (eqb (controlOf f) 5) _ _ (ready-kept D) (λ _. refl)))
-
-  cleared-line : deviceClear s f ≡ true → frameTaken s rx f .state .line ≡ record { holding = false; forbidden = false; stopped = s .line .stopped }
-  unfolding frameTaken command commandState obeyed cleared deviceClear
-  cleared-line e =
-      let c : eqb (controlOf f) 4 ≡ true = and-left _ _ e in
-      let k : isClear (orderIn s f) ≡ true = and-right (eqb (controlOf f) 4) _ e in
-      let d : isData f ≡ false = le-ltb (controlOf f) 4 (omega (arith, eqb-true (controlOf f) 4 c)) in
-      rw (d, c, k)
-
   -- the line after a frame that is a device clear or not, x, and a send or not, y
   record Framed (x y : Bool) (t : State) : Type 0 where
     holding : t .line .holding ≡ cond x false (cond y (s .line .holding && not (leb (2 * s .sizes .margin) (free t))) (s .line .holding))
     forbidden : t .line .forbidden ≡ cond x false (s .line .forbidden)
 
-  by-kind : s .role .talker ≤ 3 → (x y : Bool) → deviceClear s f ≡ x → isSend s f ≡ y → Framed x y (frameTaken s rx f .state)
-  by-kind P true y c n = let k = cleared-line c in record { holding = ap (λ (l : Line). l .holding) k; forbidden = ap (λ (l : Line). l .forbidden) k }
-  by-kind P false true c n =
-      let x : Sent-line (frameTaken s rx f .state) = subst (λ (o : Outcome). Sent-line (o .state)) (sym (sends-from s rx f n)) send-goes in
-      record { holding = x .holding; forbidden = x .forbidden }
-  by-kind P false false c n = let k = frame-kept n c P in record { holding = ap (λ (l : Line). l .holding) k; forbidden = ap (λ (l : Line). l .forbidden) k }
-
-settled-framed : (s : State) (f : ℕ) (rx : List ℕ) (x y t : Bool) (u : State) → Framed s rx f x y u → Framed s rx f x y (cond t u (settled s u))
-unfolding settled
-settled-framed s f rx x y true u k = k
-settled-framed s f rx x y false u k = record { holding = k .holding; forbidden = k .forbidden }
-
-module _ (w : World) (f : ℕ) (P : w .state .role .talker ≤ 3) where
-  frame-goes : Goes (loopFrame f) w (calls.notRefused (loopFrame f) w)
-  unfolding holdingAfter forbiddenAfter afterByte accepted arrived restarts clears sends calls.notRefused outcome settledBy
-  frame-goes =
-      let k = settled-framed (w .state) f (w .rx) _ _ (deviceClear (w .state) f) _ (by-kind (w .state) (w .rx) f P (deviceClear (w .state) f) (isSend (w .state) f) refl refl) in
-      record {
-        holding = rw (clear, none-any (full (w .state .sizes .rx) (w .state .rx)), send) (k .holding);
-        forbidden = rw clear (k .forbidden);
-      }
+  send-framed : Framed false true (sendFrom s rx .state)
+  unfolding sendFrom sendState ended talking removedState resumed
+  send-framed = go (sendHeld (ruleOf (s .regs)) rx (s .rx))
     where
-      t : taken (said (frameTaken (w .state) (w .rx) f .answer)) ≡ true
-      t = frame-taken (said (frameTaken (w .state) (w .rx) f .answer)) (frame-answers (w .state) (w .rx) f)
+      go : (x : Sent ℕ ℕ) → Framed false true (sendState s (removedState s rx) (givenOf x) .state)
+      go (none r) = record { holding = refl; forbidden = refl }
+      go (one g r) = record { holding = refl; forbidden = refl }
 
-      clear : (taken (said (frameTaken (w .state) (w .rx) f .answer)) && isDeviceClear (w .state) f) ≡ deviceClear (w .state) f
-      clear = (λ i. t i && isDeviceClear (w .state) f) ∙ clear-same (w .state) f
+  by-kind : (o : Outcome) → Kind s rx f o → Framed (isDeviceClear s f) (isSend s f) (o .state)
+  unfolding sendStatus ended talking cleared state-status.statusSent state-status.statusBack
+  by-kind o (isSent m) = rw (m .clear, m .send) send-framed
+  by-kind o (isStatus m) = rw (m .clear, m .send) (record { holding = refl; forbidden = refl })
+  by-kind o (isBack m d) = rw (m .clear, m .send) (record { holding = refl; forbidden = refl })
+  by-kind o (isCleared m c) = rw (m .clear, m .send) (record { holding = refl; forbidden = refl })
+  by-kind o (isOther q p m x) = rw (m .clear, m .send) (record { holding = ap (λ (l : Line). l .holding) (x .line); forbidden = ap (λ (l : Line). l .forbidden) (x .line) })
 
-      send : (taken (said (frameTaken (w .state) (w .rx) f .answer)) && isSend (w .state) f) ≡ isSend (w .state) f
-      send = λ i. t i && isSend (w .state) f
+  settled-framed : (x y t : Bool) (u : State) → Framed x y u → Framed x y (cond t u (settled s u))
+  unfolding settled
+  settled-framed x y true u k = k
+  settled-framed x y false u k = record { holding = k .holding; forbidden = k .forbidden }
+
+frame-goes : (w : World) (f : ℕ) → Fits w → Goes (loopFrame f) w (calls.notRefused (loopFrame f) w)
+unfolding holdingAfter forbiddenAfter afterByte accepted arrived restarts clears sends calls.notRefused outcome settledBy
+frame-goes w f F =
+    let k = settled-framed (w .state) (w .rx) f _ _ (deviceClear (w .state) f) _ (by-kind (w .state) (w .rx) f _ (kind-of f w F)) in
+    record {
+      holding = rw (t, none-any (full (w .state .sizes .rx) (w .state .rx))) (k .holding);
+      forbidden = rw t (k .forbidden);
+    }
+  where
+    t : taken (said (frameTaken (w .state) (w .rx) f .answer)) ≡ true
+    t = frame-taken (said (frameTaken (w .state) (w .rx) f .answer)) (frame-answers (w .state) (w .rx) f)
 
 -- ---- every call
 
 goes : (c : Call) (w : World) → Goes c w (step c w)
-unfolding step checks calls.notRefused outcome settledBy settled rxAfter txAfter said arrived restarts clears sends afterByte breakState keyState startState holdingAfter forbiddenAfter
+unfolding step calls.notRefused outcome settledBy settled rxAfter txAfter said arrived restarts clears sends afterByte breakState keyState startState holdingAfter forbiddenAfter
 goes (create m) w = goes-or (create m) w _ _ (λ _. record { holding = refl; forbidden = refl })
 goes reset w = goes-or reset w _ _ (λ _. record { holding = refl; forbidden = refl })
 goes (write n v) w = goes-or (write n v) w _ _ (λ _. write-goes w n v)
@@ -256,9 +185,7 @@ goes (lineByte b) w = goes-or (lineByte b) w _ _ (λ _. line-goes w b)
 goes lineBreak w = goes-or lineBreak w _ _ (λ _. same lineBreak w _ (record { empties = refl; arrived = refl; sends = refl; writes = refl; byte = refl }) refl refl)
 goes key w = goes-or key w _ _ (λ _. same key w _ (record { empties = refl; arrived = refl; sends = refl; writes = refl; byte = refl }) refl refl)
 goes nextLineByte w = goes-or nextLineByte w _ _ (λ _. gone-goes w (nextOut (w .state) (w .tx)))
-goes (loopFrame f) w =
-    goes-or (loopFrame f) w _ _
-    (λ e. frame-goes w f (role-laws.fit-true (w .state .role) (tests (w .state) (length (w .rx)) (length (w .tx)) (fitting _ _ e .0) .role) .phase))
+goes (loopFrame f) w = goes-or (loopFrame f) w _ _ (λ e. frame-goes w f (frame-fits f w e))
 goes (show side) w = same (show side) w _ (record { empties = refl; arrived = refl; sends = refl; writes = refl; byte = refl }) refl refl
 
 pub holding-goes : HoldingGoes

@@ -21,6 +21,7 @@ use Rattle.sending.specs.declared.Given.{Given}
 use Rattle.sending.specs.declared.Given.the-variants as given
 use Rattle.sending.specs.Sending.{givenOf, sendHeld}
 use Rattle.state.specs.declared.State.{State}
+use Rattle.state.specs.declared.Line.{Line}
 use Rattle.state.specs.declared.Outcome.{Outcome}
 use Rattle.state.specs.declared.Out.{Out}
 use Rattle.state.specs.declared.Out.the-variants.{Own, Held, Nothing}
@@ -39,7 +40,8 @@ use Rattle.runs.specs.Observers.{restarts}
 use Rattle.runs.specs.Run.{answer, after, end, Without, startsAnew}
 use Rattle.runs.specs.LastSent.{afterOwn, lastOf, lastSent, recorded, LastKept, LastSince}
 use Rattle.runs.proofs.Shapes.{Fits}
-use Rattle.runs.proofs.View.{fitting}
+use Rattle.runs.proofs.FrameKinds.{Kind, isSent, isStatus, isBack, isCleared, isOther, kind-of}
+use Rattle.runs.proofs.Refusals.{or-refused, next-fits, frame-fits}
 use Rattle.runs.proofs.Runs.{first-not}
 
 -- ---- calls that send nothing of our own
@@ -57,36 +59,26 @@ unfolding afterWrite setAfresh
 write-same s n v = by-cond (Same s) (eqb n 11) _ _ (λ _. refl) (λ _. refl)
 
 module _ (s : State) (rx : List ℕ) (f : ℕ) where
-  abbrev Kept : Outcome → Type 0
-  Kept o = Same s (o .state)
+  send-same : Same s (sendFrom s rx .state)
+  unfolding sendFrom sendState ended talking removedState resumed
+  send-same = go (givenOf (sendHeld (ruleOf (s .regs)) rx (s .rx)))
+    where
+      go : (g : Given) → Same s (sendState s (removedState s rx) g .state)
+      go given.Nothing = refl
+      go (given.One x) = refl
 
-  send-same : (g : Given) → Kept (sendState s (removedState s rx) g)
-  unfolding sendState ended talking removedState resumed
-  send-same given.Nothing = refl
-  send-same (given.One x) = refl
+  frame-same : (o : Outcome) → Kind s rx f o → Same s (o .state)
+  unfolding sendStatus ended talking cleared obeyed status.statusSent status.statusBack
+  frame-same o (isSent m) = send-same
+  frame-same o (isStatus m) = refl
+  frame-same o (isBack m d) = refl
+  frame-same o (isCleared m c) = refl
+  frame-same o (isOther q p m x) = ap (λ (l : Line). l .stopped) (x .line)
 
-  return-same : Kept (returned s rx f)
-  unfolding returned ended talking status.statusBack sendFrom
-  return-same =
-      by-cond Kept (sameApart f (s .under .frame)) _ _
-      (λ _. by-cond Kept (eqb (s .role .talker) 3) _ _ (λ _. refl) (λ _. by-cond Kept (s .under .finishing) _ _ (λ _. refl) (λ _. send-same (givenOf (sendHeld (ruleOf (s .regs)) rx (s .rx))))))
-      (λ _. refl)
-
-  ready-same : (r : Ready) → Kept (readied s rx f r)
-  unfolding readied finishing sendStatus talking status.statusSent sendFrom
-  ready-same Address = refl
-  ready-same Data = send-same (givenOf (sendHeld (ruleOf (s .regs)) rx (s .rx)))
-  ready-same Status = refl
-  ready-same Finish = refl
-  ready-same Pass = refl
-
-  frame-same : Kept (frameTaken s rx f)
-  unfolding frameTaken dataPassed leftState command commandState obeyed cleared ready identify
-  frame-same =
-      by-cond Kept (isData f) _ _
-      (λ _. by-cond Kept (isActive (s .role)) _ _ (λ _. return-same) (λ _. by-cond (Same s) (s .role .listener) _ _ (λ _. refl) (λ _. refl)))
-      (λ _. by-cond Kept (eqb (controlOf f) 4) _ _ (λ _. by-cond (Same s) (isClear (orderIn s f)) _ _ (λ _. refl) (λ _. refl))
-      (λ _. by-cond Kept (eqb (controlOf f) 5) _ _ (λ _. ready-same (readyOf (s .role) (dataOf f))) (λ _. refl)))
+  settled-same : (t : Bool) (u : State) → Same s u → Same s (cond t u (settled s u))
+  unfolding settled
+  settled-same true u e = e
+  settled-same false u e = e
 
 -- ---- our own character
 
@@ -126,25 +118,24 @@ module _ (c : Call) (w : World) where
   LastRight d = recorded (d .world) ≡ cond (startsAnew c w (d .said)) false (lastOf (recorded w) c w (d .said))
 
   refused-or : (n : ℕ) (d : Did) → LastRight (record { said = refused n; world = w }) → (n ≡ 0 → LastRight d) → LastRight (refusedOr n d w)
-  unfolding refusedOr
-  refused-or n d r k = by-cond LastRight (eqb n 0) d (record { said = refused n; world = w }) (λ e. k (eqb-true n 0 e)) (λ _. r)
+  refused-or n d = or-refused LastRight n d w
 
 same-either : (t k : Bool) → k ≡ cond t k k
 same-either true k = refl
 same-either false k = refl
 
 last-right : (c : Call) (w : World) → LastRight c w (step c w)
-unfolding step checks calls.notRefused outcome settledBy settled said lastOf restarts startState breakState keyState
+unfolding step calls.notRefused outcome settledBy settled said lastOf restarts startState breakState keyState
 last-right (create m) w = refused-or (create m) w _ _ refl (λ _. refl)
 last-right reset w = refused-or reset w _ _ refl (λ _. refl)
 last-right (write n v) w = refused-or (write n v) w _ _ refl (λ _. write-same (w .state) n v)
 last-right (lineByte b) w = refused-or (lineByte b) w _ _ refl (λ _. line-same (w .state) b)
 last-right lineBreak w = refused-or lineBreak w _ _ refl (λ _. refl)
 last-right key w = refused-or key w _ _ refl (λ _. refl)
-last-right nextLineByte w = refused-or nextLineByte w _ _ (same-either (owed (w .state .line)) (recorded w)) (λ e. next-same w (fitting _ 0 e .0))
+last-right nextLineByte w = refused-or nextLineByte w _ _ (same-either (owed (w .state .line)) (recorded w)) (λ e. next-same w (next-fits w e))
 last-right (loopFrame f) w =
     refused-or (loopFrame f) w _ _ refl
-    (λ _. by-cond (Same (w .state)) (deviceClear (w .state) f) _ _ (λ _. frame-same (w .state) (w .rx) f) (λ _. frame-same (w .state) (w .rx) f))
+    (λ e. settled-same (w .state) (w .rx) f (deviceClear (w .state) f) _ (frame-same (w .state) (w .rx) f _ (kind-of f w (frame-fits f w e))))
 last-right (show side) w = refl
 
 -- ---- runs

@@ -3,9 +3,11 @@
 -- `FramesRead`, `Events` and `Margin` are demand 3.
 pub mod Answered
 pub mod Shapes
+pub mod Refusals
 pub mod Quiet
 pub mod LineView
 pub mod FrameView
+pub mod FrameKinds
 pub mod View
 pub mod Bytes
 pub mod Sends

@@ -2,28 +2,27 @@
 use native.Mathlib.Omega.{arith}
 use Prim.Native.Nat.{ℕ}
 use mathlib.Core.Path.{_≡_, refl, sym, ap, _∙_}
-use mathlib.Core.Bool.{Bool, true, false, cond, _||_, false≢true}
+use mathlib.Core.Bool.{Bool, true, false, cond, _||_}
 use mathlib.Core.List.{List, [], _∷_}
 use lib.Dec.{eqb}
 use lib.ListN.{length, getD}
-use borrow.Author.Tests.{eqb-true, ne-eqb}
-use Rattle.cases.proofs.Cases.{by-cond, cond-true}
+use borrow.Author.Tests.{ne-eqb}
+use Rattle.cases.proofs.Cases.{cond-true}
 use Rattle.cases.specs.Refusals.{firstRefusal}
 use Rattle.registers.specs.Meanings.{go, stop}
 use Rattle.store.specs.Ring.{held}
 use Rattle.store.proofs.Laws.{held-length}
 use Rattle.state.specs.declared.Out.the-variants.{Own, Held, Nothing}
-use Rattle.state.specs.Answers.{said, none, byte, refused}
+use Rattle.state.specs.Answers.{said, none, byte}
 use Rattle.state.proofs.Fits.{tx-fits}
 use Rattle.line.specs.HoldingOff.{owed, nextOut, outAnswer}
-use Rattle.bridge.specs.Calls.{nextLineByte, World, Did, checks, outcome, refusedOr, step}
+use Rattle.bridge.specs.Calls.{nextLineByte, World, Did, checks, outcome, step}
 use Rattle.bridge.specs.Calls as calls
-use Rattle.runs.specs.Observers.{taken}
 use Rattle.runs.specs.Run.{after, end}
 use Rattle.runs.specs.LastSent.{isOwn, OwnGiven}
 use Rattle.runs.specs.NextByte.{oldestOf, nextGiven, NextGiven}
 use Rattle.runs.proofs.Shapes.{Fits}
-use Rattle.runs.proofs.View.{fitting}
+use Rattle.runs.proofs.Refusals.{if-taken, next-fits}
 use Rattle.runs.proofs.LastSent.{last-since}
 
 module _ (w : World) (F : Fits w) where
@@ -43,12 +42,9 @@ module _ (w : World) (F : Fits w) where
       by-tests false false (b ∷ l) e = rw (ne-eqb (w .state .tx .len) 0 (λ h. omega (arith, e)))
 
 pub next-given : NextGiven
-unfolding step refusedOr calls.notRefused outcome checks
+unfolding step calls.notRefused outcome
 next-given w =
-    let n = firstRefusal (checks nextLineByte w) in
-    by-cond (λ (d : Did). taken (d .said) ≡ true → d .said ≡ nextGiven w) (eqb n 0) (calls.notRefused nextLineByte w) (record { said = refused n; world = w })
-    (λ e _. out-given w (fitting _ 0 (eqb-true n 0 e) .0))
-    (λ _ e. absurd (false≢true e))
+    if-taken (λ (d : Did). d .said ≡ nextGiven w) (firstRefusal (checks nextLineByte w)) (calls.notRefused nextLineByte w) w (λ e. out-given w (next-fits w e))
 
 pub own-given : OwnGiven
 unfolding nextGiven

@@ -26,6 +26,7 @@ use Rattle.bridge.specs.Calls as calls
 use Rattle.runs.specs.Observers.{taken, isFrame}
 use Rattle.runs.specs.Run.{answer, after}
 use Rattle.runs.specs.Demands.{RefusedStays, OneFrameOut}
+use Rattle.runs.proofs.Refusals.{or-refused, if-taken}
 
 -- a frame is answered
 abbrev Answers : Outcome → Type 0
@@ -84,8 +85,7 @@ module _ (w : World) where
   not-refused d e h = absurd (false≢true (sym h ∙ e))
 
   stays-or : (n : ℕ) (d : Did) → taken (d .said) ≡ true → Stays (refusedOr n d w)
-  unfolding refusedOr
-  stays-or n d e = by-cond Stays (eqb n 0) d (record { said = refused n; world = w }) (λ _. not-refused d e) (λ _ _. refl)
+  stays-or n d e = or-refused Stays n d w (λ _. refl) (λ _. not-refused d e)
 
 pub refused-stays : RefusedStays
 unfolding step calls.notRefused outcome said
@@ -100,9 +100,6 @@ refused-stays (loopFrame f) w = stays-or w _ _ (frame-taken (said (frameTaken (w
 refused-stays (show side) w = λ _. refl
 
 pub one-frame-out : OneFrameOut
-unfolding step calls.notRefused outcome refusedOr
+unfolding step calls.notRefused outcome
 one-frame-out f w =
-    let n = firstRefusal (checks (loopFrame f) w) in
-    by-cond (λ (d : Did). taken (d .said) ≡ true → isFrame (d .said) ≡ true) (eqb n 0) (calls.notRefused (loopFrame f) w) (record { said = refused n; world = w })
-    (λ _ _. frame-answers (w .state) (w .rx) f)
-    (λ _ e. e)
+    if-taken (λ (d : Did). isFrame (d .said) ≡ true) (firstRefusal (checks (loopFrame f) w)) (calls.notRefused (loopFrame f) w) w (λ _. frame-answers (w .state) (w .rx) f)

@@ -1,25 +1,19 @@
 -- When a request begins and ends. Assumes nothing.
 use Prim.Native.Nat.{ℕ}
-use native.Mathlib.Omega.{arith}
 use mathlib.Core.Path.{_≡_, refl, sym, ap, subst, _∙_}
 use mathlib.Core.Bool.{Bool, true, false, cond, _&&_, _||_, not, false≢true}
 use mathlib.Core.List.{List, []}
 use lib.Dec.{eqb}
-use borrow.Author.Tests.{eqb-true, le-ltb}
-use Rattle.cases.proofs.Cases.{by-cond, and-left, and-right, cond-true, cond-false}
+use Rattle.cases.proofs.Cases.{by-cond, and-right, cond-true, cond-false}
 use Rattle.cases.specs.Refusals.{firstRefusal}
-use Rattle.frame.specs.Frame.{controlOf, dataOf, isData, sameApart}
-use Rattle.role.specs.declared.Ready.{Ready}
-use Rattle.role.specs.Parts.{isActive}
-use Rattle.role.specs.ReadyFrames.{givesAddress, readyOf}
+use Rattle.frame.specs.Frame.{dataOf}
 use Rattle.store.specs.Ring.{full}
 use Rattle.registers.specs.Table.{startRegisters, startOf, rowIn, table}
 use Rattle.status.specs.declared.Conditions.{Conditions}
 use Rattle.status.specs.Status.{both}
 use Rattle.status.specs.Status as status
-use Rattle.reading.specs.Reading.{Sent, none, one}
-use Rattle.sending.specs.Sending.{givenOf, sendHeld}
 use Rattle.state.specs.declared.State.{State}
+use Rattle.state.specs.declared.Notes.{Notes}
 use Rattle.state.specs.declared.Outcome.{Outcome}
 use Rattle.state.specs.declared.Out.{Out}
 use Rattle.state.specs.declared.Out.the-variants as out
@@ -27,10 +21,9 @@ use Rattle.state.specs.Answers.{Said, said, done, refused}
 use Rattle.state.specs.Sizes.{startState}
 use Rattle.state.specs.Status.{settled, asking, enabledBy, conditions, breakState, keyState}
 use Rattle.state.specs.Status as state-status
-use Rattle.line.specs.HoldingOff.{isGoOrStop, flowed, lostState, storedWith, lineState, resumed, setAfresh, afterWrite, nextOut, goneState}
-use Rattle.loops.specs.LoopToLine.{leftState}
-use Rattle.loops.specs.Sending.{ruleOf, removedState, sendState, sendFrom, sendStatus, talking, ended}
-use Rattle.loops.specs.Frames.{isClear, orderIn, obeyed, cleared, commandState, command, finishing, readied, ready, returned, dataPassed, identify, frameTaken, deviceClear}
+use Rattle.line.specs.HoldingOff.{isGoOrStop, flowed, lostState, storedWith, lineState, setAfresh, afterWrite, nextOut, goneState}
+use Rattle.loops.specs.Sending.{sendFrom, sendStatus, talking, ended}
+use Rattle.loops.specs.Frames.{cleared, frameTaken, deviceClear}
 use Rattle.bridge.specs.Calls.{Call, create, reset, write, lineByte, lineBreak, key, nextLineByte, loopFrame, show, World, Did, checks, outcome, settledBy, refusedOr, step}
 use Rattle.bridge.specs.Calls as calls
 use Rattle.laws.specs.CallPlaces.{isDeviceClear}
@@ -41,7 +34,8 @@ use Rattle.runs.specs.Requests.{requested, RequestsGo}
 use Rattle.runs.proofs.Answered.{status-frame}
 use Rattle.laws.proofs.FramePlaces.{clear-same}
 use Rattle.runs.proofs.Refused.{frame-answers, frame-taken}
-use Rattle.runs.proofs.StatusTold.{takes-status}
+use Rattle.runs.proofs.FrameKinds.{Kind, isSent, isStatus, isBack, isCleared, isOther, clears-all, send-notes, kind-of}
+use Rattle.runs.proofs.Refusals.{or-refused, frame-fits}
 
 -- nothing comes to hold where all is as it was
 no-comes : (t : Bool) → status.comes t t ≡ false
@@ -82,53 +76,9 @@ refused-goes c w n e =
     and-true (w .state .notes .request) ∙ or-false (w .state .notes .request && true)
     ∙ (λ i. (w .state .notes .request && not (any (sym e i))) || sym (no-begins (asking (w .state))) i)
 
-goes-or : (c : Call) (w : World) (n : ℕ) (d : Did) → statusSent c w (refused n) ≡ [] → (empties c w (d .said) ≡ false → Goes c w d) →
+goes-or : (c : Call) (w : World) (n : ℕ) (d : Did) → statusSent c w (refused n) ≡ [] → (n ≡ 0 → empties c w (d .said) ≡ false → Goes c w d) →
     empties c w (refusedOr n d w .said) ≡ false → Goes c w (refusedOr n d w)
-unfolding refusedOr
-goes-or c w n d e k =
-    by-cond (λ (x : Did). empties c w (x .said) ≡ false → Goes c w x) (eqb n 0) d (record { said = refused n; world = w }) (λ _. k) (λ _ _. refused-goes c w n e)
-
--- ---- frames that ask for no status byte
-
-module _ (s : State) (rx : List ℕ) (f : ℕ) (A : asksStatus s f ≡ false) where
-  abbrev Kept : Outcome → Type 0
-  Kept o = o .state .notes .request ≡ s .notes .request
-
-  send-kept : Kept (sendFrom s rx)
-  unfolding sendFrom sendState ended talking removedState resumed
-  send-kept = go (sendHeld (ruleOf (s .regs)) rx (s .rx))
-    where
-      go : (x : Sent ℕ ℕ) → Kept (sendState s (removedState s rx) (givenOf x))
-      go (none r) = refl
-      go (one g r) = refl
-
-  return-kept : Kept (returned s rx f)
-  unfolding returned ended talking state-status.statusBack
-  return-kept =
-      by-cond Kept (sameApart f (s .under .frame)) _ _
-      (λ _. by-cond Kept (eqb (s .role .talker) 3) _ _ (λ _. refl)
-      (λ _. by-cond Kept (s .under .finishing) _ _ (λ _. refl) (λ _. send-kept)))
-      (λ _. refl)
-
-  ready-kept : eqb (controlOf f) 5 ≡ true → Kept (ready s rx f)
-  unfolding ready readied readyOf finishing asksStatus
-  ready-kept R =
-      by-cond Readied (givesAddress (s .role) (dataOf f)) _ _ (λ _. refl)
-      (λ _. by-cond Readied (eqb (dataOf f) 96 && eqb (s .role .talker) 1) _ _ (λ _. send-kept)
-      (λ _. by-cond Readied (eqb (dataOf f) 97 && eqb (s .role .talker) 1) _ _ (λ q. absurd (false≢true (sym A ∙ (λ i. R i && q i))))
-      (λ _. by-cond Readied (eqb (dataOf f) 66 && eqb (s .role .talker) 2) _ _ (λ _. refl) (λ _. refl))))
-    where
-      Readied : Ready → Type 0
-      Readied r = Kept (readied s rx f r)
-
-  frame-kept : deviceClear s f ≡ false → Kept (frameTaken s rx f)
-  unfolding frameTaken dataPassed leftState command commandState obeyed identify deviceClear
-  frame-kept n =
-      by-cond Kept (isData f) _ _
-      (λ _. by-cond Kept (isActive (s .role)) _ _ (λ _. return-kept) (λ _. by-cond (λ (t : State). t .notes .request ≡ s .notes .request) (s .role .listener) _ _ (λ _. refl) (λ _. refl)))
-      (λ _. by-cond Kept (eqb (controlOf f) 4) _ _
-      (λ C. by-cond (λ (t : State). t .notes .request ≡ s .notes .request) (isClear (orderIn s f)) _ _ (λ q. absurd (false≢true (sym n ∙ (λ i. C i && q i)))) (λ _. refl))
-      (λ _. by-cond Kept (eqb (controlOf f) 5) _ _ ready-kept (λ _. refl)))
+goes-or c w n d e = or-refused (λ (x : Did). empties c w (x .said) ≡ false → Goes c w x) n d w (λ _. refused-goes c w n e)
 
 gone-kept : (s : State) (o : Out) → goneState s o .notes .request ≡ s .notes .request
 unfolding goneState
@@ -152,75 +102,70 @@ same-either : (t : Bool) → _≡_ {A = List ℕ} (cond t [] []) []
 same-either true = refl
 same-either false = refl
 
-module _ (w : World) (f : ℕ) where
-  frame-request : (t : Bool) → asksStatus (w .state) f ≡ t → deviceClear (w .state) f ≡ false →
-      frameTaken (w .state) (w .rx) f .state .notes .request ≡ (w .state .notes .request && not (any (cond t (dataFrame (said (frameTaken (w .state) (w .rx) f .answer))) [])))
-  unfolding sendStatus talking state-status.statusSent
-  frame-request true A n =
-      let k = takes-status (w .state) (w .rx) f A in
-      ap (λ (o : Outcome). o .state .notes .request) k ∙ and-false (w .state .notes .request)
-      ∙ (λ i. w .state .notes .request && not (any (sym (ap (λ (o : Outcome). dataFrame (said (o .answer))) k ∙ status-frame (w .state)) i)))
-  frame-request false A n = frame-kept (w .state) (w .rx) f A n ∙ and-true (w .state .notes .request)
+module _ (s : State) (rx : List ℕ) (f : ℕ) where
+  abbrev Request : Outcome → Type 0
+  Request o = o .state .notes .request ≡ (s .notes .request && not (any (cond (asksStatus s f) (dataFrame (said (o .answer))) [])))
 
+  -- a frame that asks for no status byte
+  stays : (o : Outcome) → asksStatus s f ≡ false → o .state .notes .request ≡ s .notes .request → Request o
+  stays o a e = e ∙ and-true (s .notes .request) ∙ (λ i. s .notes .request && not (any (cond (sym a i) (dataFrame (said (o .answer))) [])))
+
+  request-kind : (o : Outcome) → Kind s rx f o → isDeviceClear s f ≡ false → Request o
+  unfolding sendStatus talking ended state-status.statusSent state-status.statusBack
+  request-kind o (isSent m) n = stays (sendFrom s rx) (m .status) (ap (λ (x : Notes). x .request) (send-notes s rx f))
+  request-kind o (isStatus m) n = and-false (s .notes .request) ∙ (λ i. s .notes .request && not (any (cond (sym (m .status) i) (sym (status-frame s) i) [])))
+  request-kind o (isBack m d) n = stays (ended (state-status.statusBack s (dataOf (s .under .frame))) 64) (m .status) refl
+  request-kind o (isCleared m c) n = absurd (false≢true (sym n ∙ m .clear))
+  request-kind o (isOther q p m x) n = stays q (m .status) (ap (λ (y : Notes). y .request) (x .notes))
+
+module _ (w : World) (f : ℕ) where
   frame-goes : empties (loopFrame f) w (answer (loopFrame f) w) ≡ false → Goes (loopFrame f) w (step (loopFrame f) w)
   unfolding step calls.notRefused outcome settledBy statusSent restarts clears
   frame-goes =
       goes-or (loopFrame f) w (firstRefusal (checks (loopFrame f) w)) (calls.notRefused (loopFrame f) w) (same-either (asksStatus (w .state) f))
-      (λ q. go (not-clear q))
+      (λ e q. go (kind-of f w (frame-fits f w e)) (not-clear q))
     where
       o : Outcome
       o = frameTaken (w .state) (w .rx) f
 
-      not-clear : (taken (said (o .answer)) && isDeviceClear (w .state) f) ≡ false → deviceClear (w .state) f ≡ false
-      not-clear q = sym (clear-same (w .state) f) ∙ (λ i. sym (frame-taken (said (o .answer)) (frame-answers (w .state) (w .rx) f)) i && isDeviceClear (w .state) f) ∙ q
+      not-clear : (taken (said (frameTaken (w .state) (w .rx) f .answer)) && isDeviceClear (w .state) f) ≡ false → isDeviceClear (w .state) f ≡ false
+      not-clear q = (λ i. sym (frame-taken (said (o .answer)) (frame-answers (w .state) (w .rx) f)) i && isDeviceClear (w .state) f) ∙ q
 
-      go : deviceClear (w .state) f ≡ false → Goes (loopFrame f) w (calls.notRefused (loopFrame f) w)
-      go n =
+      go : Kind (w .state) (w .rx) f (frameTaken (w .state) (w .rx) f) → isDeviceClear (w .state) f ≡ false → Goes (loopFrame f) w (calls.notRefused (loopFrame f) w)
+      go k n =
           subst (λ (t : State). t .notes .request ≡ ((w .state .notes .request && not (any (statusSent (loopFrame f) w (said (o .answer))))) || status.begins (asking (w .state)) (asking t)))
-          (sym (cond-false (deviceClear (w .state) f) (o .state) (settled (w .state) (o .state)) n))
-          (quiet (loopFrame f) w (said (o .answer)) (o .state) (frame-request (asksStatus (w .state) f) refl n))
+          (sym (cond-false (deviceClear (w .state) f) (o .state) (settled (w .state) (o .state)) (sym (clear-same (w .state) f) ∙ n)))
+          (quiet (loopFrame f) w (said (o .answer)) (o .state) (request-kind (w .state) (w .rx) f o k n))
 
 -- ---- every call
 
 goes : (c : Call) (w : World) → empties c w (answer c w) ≡ false → Goes c w (step c w)
 unfolding step calls.notRefused outcome settledBy said statusSent restarts breakState keyState afterWrite setAfresh clears
-goes (create m) w = goes-or (create m) w _ _ refl (λ q. absurd (false≢true (sym q)))
-goes reset w = goes-or reset w _ _ refl (λ q. absurd (false≢true (sym q)))
-goes (write n v) w = goes-or (write n v) w _ _ refl (λ _. quiet (write n v) w done _ (write-kept (w .state) n _ _ refl refl ∙ and-true (w .state .notes .request)))
-goes (lineByte b) w = goes-or (lineByte b) w _ _ refl (λ _. quiet (lineByte b) w done _ (line-kept (w .state) b ∙ and-true (w .state .notes .request)))
-goes lineBreak w = goes-or lineBreak w _ _ refl (λ _. quiet lineBreak w done _ (and-true (w .state .notes .request)))
-goes key w = goes-or key w _ _ refl (λ _. quiet key w done _ (and-true (w .state .notes .request)))
-goes nextLineByte w = goes-or nextLineByte w _ _ refl (λ _. quiet nextLineByte w done _ (gone-kept (w .state) (nextOut (w .state) (w .tx)) ∙ and-true (w .state .notes .request)))
+goes (create m) w = goes-or (create m) w _ _ refl (λ _ q. absurd (false≢true (sym q)))
+goes reset w = goes-or reset w _ _ refl (λ _ q. absurd (false≢true (sym q)))
+goes (write n v) w = goes-or (write n v) w _ _ refl (λ _ _. quiet (write n v) w done _ (write-kept (w .state) n _ _ refl refl ∙ and-true (w .state .notes .request)))
+goes (lineByte b) w = goes-or (lineByte b) w _ _ refl (λ _ _. quiet (lineByte b) w done _ (line-kept (w .state) b ∙ and-true (w .state .notes .request)))
+goes lineBreak w = goes-or lineBreak w _ _ refl (λ _ _. quiet lineBreak w done _ (and-true (w .state .notes .request)))
+goes key w = goes-or key w _ _ refl (λ _ _. quiet key w done _ (and-true (w .state .notes .request)))
+goes nextLineByte w = goes-or nextLineByte w _ _ refl (λ _ _. quiet nextLineByte w done _ (gone-kept (w .state) (nextOut (w .state) (w .tx)) ∙ and-true (w .state .notes .request)))
 goes (loopFrame f) w = frame-goes w f
 goes (show side) w = λ _. and-true (w .state .notes .request) ∙ or-false (w .state .notes .request && true) ∙ (λ i. (w .state .notes .request && true) || sym (no-begins (asking (w .state))) i)
 
 -- ---- a create, reset or device clear
 
-starts-or : (c : Call) (w : World) (n : ℕ) (d : Did) → empties c w (refused n) ≡ false → (empties c w (d .said) ≡ true → d .world .state .notes .request ≡ false) →
+starts-or : (c : Call) (w : World) (n : ℕ) (d : Did) → empties c w (refused n) ≡ false → (n ≡ 0 → empties c w (d .said) ≡ true → d .world .state .notes .request ≡ false) →
     empties c w (refusedOr n d w .said) ≡ true → refusedOr n d w .world .state .notes .request ≡ false
-unfolding refusedOr
-starts-or c w n d e k =
-    by-cond (λ (x : Did). empties c w (x .said) ≡ true → x .world .state .notes .request ≡ false) (eqb n 0) d (record { said = refused n; world = w })
-    (λ _. k)
-    (λ _ q. absurd (false≢true (sym e ∙ q)))
+starts-or c w n d e =
+    or-refused (λ (x : Did). empties c w (x .said) ≡ true → x .world .state .notes .request ≡ false) n d w (λ q. absurd (false≢true (sym e ∙ q)))
 
 reset-none : (s t : State) → t .regs ≡ startRegisters → t .notes .request ≡ false → settled s t .notes .request ≡ false
 unfolding settled asking enabledBy startRegisters startOf rowIn table
 reset-none s t e q = λ i. q i || status.begins (asking s) (both (enabledBy (e i)) (conditions t))
 
-module _ (w : World) (f : ℕ) where
-  cleared-none : deviceClear (w .state) f ≡ true → frameTaken (w .state) (w .rx) f .state .notes .request ≡ false
-  unfolding frameTaken command commandState cleared deviceClear
-  cleared-none e =
-      let c : eqb (controlOf f) 4 ≡ true = and-left _ _ e in
-      let k : isClear (orderIn (w .state) f) ≡ true = and-right (eqb (controlOf f) 4) _ e in
-      let d : isData f ≡ false = le-ltb (controlOf f) 4 (omega (arith, eqb-true (controlOf f) 4 c)) in
-      rw (d, c, k)
-
 starts : (c : Call) (w : World) → empties c w (answer c w) ≡ true → requested (after c w) ≡ false
-unfolding step calls.notRefused outcome settledBy said restarts clears startState
-starts (create m) w = starts-or (create m) w _ _ refl (λ _. refl)
-starts reset w = starts-or reset w _ _ refl (λ _. reset-none (w .state) (startState (w .state .sizes .margin) _ _) refl refl)
+unfolding step calls.notRefused outcome settledBy said restarts clears startState cleared
+starts (create m) w = starts-or (create m) w _ _ refl (λ _ _. refl)
+starts reset w = starts-or reset w _ _ refl (λ _ _. reset-none (w .state) (startState (w .state .sizes .margin) _ _) refl refl)
 starts (write n v) w = λ q. absurd (false≢true q)
 starts (lineByte b) w = λ q. absurd (false≢true q)
 starts lineBreak w = λ q. absurd (false≢true q)
@@ -228,9 +173,10 @@ starts key w = λ q. absurd (false≢true q)
 starts nextLineByte w = λ q. absurd (false≢true q)
 starts (loopFrame f) w =
     starts-or (loopFrame f) w _ _ refl
-    (λ q.
-    let n : deviceClear (w .state) f ≡ true = sym (clear-same (w .state) f) ∙ and-right (taken (said (frameTaken (w .state) (w .rx) f .answer))) _ q in
-    ap (λ (t : State). t .notes .request) (cond-true (deviceClear (w .state) f) (frameTaken (w .state) (w .rx) f .state) (settled (w .state) (frameTaken (w .state) (w .rx) f .state)) n) ∙ cleared-none w f n)
+    (λ e q.
+    let n : isDeviceClear (w .state) f ≡ true = and-right (taken (said (frameTaken (w .state) (w .rx) f .answer))) _ q in
+    ap (λ (t : State). t .notes .request) (cond-true (deviceClear (w .state) f) (frameTaken (w .state) (w .rx) f .state) (settled (w .state) (frameTaken (w .state) (w .rx) f .state)) (sym (clear-same (w .state) f) ∙ n))
+    ∙ ap (λ (o : Outcome). o .state .notes .request) (clears-all (w .state) (w .rx) f _ (kind-of f w (frame-fits f w e)) n))
 starts (show side) w = λ q. absurd (false≢true q)
 
 pub requests-go : RequestsGo

@@ -6,7 +6,7 @@ use mathlib.Core.Bool.{Bool, true, false, cond, _&&_, not, false≢true}
 use mathlib.Core.List.{List, [], _∷_}
 use lib.Dec.{eqb, leb}
 use lib.ListN.{length}
-use borrow.Author.Tests.{eqb-true, leb-true, le-leb}
+use borrow.Author.Tests.{leb-true, le-leb}
 use Rattle.reading.specs.declared.Rule.{Rule}
 use Rattle.reading.specs.declared.Decision.{Decision}
 use Rattle.reading.specs.declared.Decision.the-variants.{Removed, End, Data, Wait}
@@ -25,21 +25,21 @@ use Rattle.state.proofs.Fits.{tests}
 use Rattle.line.specs.HoldingOff.{resumed}
 use Rattle.loops.specs.Sending.{ruleOf, talking, ended, removedState, sendState, sendFrom}
 use Rattle.cases.specs.Refusals.{firstRefusal}
-use Rattle.cases.proofs.Cases.{and-left, and-right, by-cond, cond-true}
+use Rattle.cases.proofs.Cases.{and-left, and-right, cond-true}
 use Rattle.state.specs.declared.Outcome.{Outcome}
-use Rattle.state.specs.Answers.{said, refused}
-use Rattle.loops.specs.Frames.{frameTaken, deviceClear}
-use Rattle.bridge.specs.Calls.{loopFrame, World, Did, checks, outcome, settledBy, refusedOr, step}
+use Rattle.state.specs.Answers.{said}
+use Rattle.loops.specs.Frames.{deviceClear}
+use Rattle.bridge.specs.Calls.{loopFrame, World, Did, checks, outcome, settledBy, step}
 use Rattle.bridge.specs.Calls as calls
 use Rattle.laws.specs.Fitting.{AllBytes}
-use Rattle.runs.specs.Observers.{taken, dataFrame, isSend, sent}
+use Rattle.runs.specs.Observers.{dataFrame, sent}
 use Rattle.runs.specs.Worlds.{heldToSend}
 use Rattle.runs.specs.Resuming.{EmptySendResumes}
 use Rattle.runs.proofs.Shapes.{Fits}
-use Rattle.runs.proofs.View.{fitting}
+use Rattle.runs.proofs.Refusals.{if-taken, frame-fits}
 use Rattle.runs.proofs.Bytes.{sent-plain}
 use Rattle.runs.proofs.Sends.{seen-plain}
-use Rattle.runs.proofs.SendRule.{sends-from}
+use Rattle.runs.proofs.FrameKinds.{sends-from, kind-of}
 
 -- ---- two bytes at most are undecided
 
@@ -128,11 +128,11 @@ none-resumes s rx tx r e h = unfold removedState resumed in off (s .line .holdin
 
 -- ---- every send
 
-module _ (f : ℕ) (w : World) (B : AllBytes (heldToSend w)) (S : isSend (w .state) f ≡ true) (F : Fits w) where
+module _ (w : World) (B : AllBytes (heldToSend w)) (F : Fits w) where
   abbrev Resumes : Outcome → Type 0
   Resumes o = dataFrame (said (o .answer)) ≡ [] → o .state .line .holding ≡ false
 
-  send-resumes : Resumes (sendFrom (w .state) (w .rx))
+  pub send-resumes : Resumes (sendFrom (w .state) (w .rx))
   unfolding sendFrom sendState ended talking sendHeld
   send-resumes = go (sendHeld (ruleOf (w .state .regs)) (w .rx) (w .state .rx)) refl
     where
@@ -140,19 +140,16 @@ module _ (f : ℕ) (w : World) (B : AllBytes (heldToSend w)) (S : isSend (w .sta
       go (none r) e = λ _. none-resumes (w .state) (w .rx) (w .tx) r F e
       go (one g r) e = λ n. let z : g ∷ [] ≡ [] = sym (seen-plain (w .state) g (sent-plain (ruleOf (w .state .regs)) (heldToSend w) g r e B)) ∙ n in cc
 
-  frame-resumes : Resumes (frameTaken (w .state) (w .rx) f)
-  frame-resumes = subst Resumes (sym (sends-from (w .state) (w .rx) f S)) send-resumes
-
-  settled-resumes : (t : Bool) (u : State) → u .line .holding ≡ false → cond t u (settled (w .state) u) .line .holding ≡ false
-  unfolding settled
-  settled-resumes true u h = h
-  settled-resumes false u h = h
+settled-off : (s u : State) (t : Bool) → u .line .holding ≡ false → cond t u (settled s u) .line .holding ≡ false
+unfolding settled
+settled-off s u true h = h
+settled-off s u false h = h
 
 pub empty-send-resumes : EmptySendResumes
-unfolding step refusedOr calls.notRefused outcome settledBy checks sent
+unfolding step calls.notRefused outcome settledBy sent
 empty-send-resumes f w B t S n =
-    let k = firstRefusal (checks (loopFrame f) w) in
-    by-cond (λ (d : Did). taken (d .said) ≡ true → dataFrame (d .said) ≡ [] → d .world .state .line .holding ≡ false) (eqb k 0) (calls.notRefused (loopFrame f) w) (record { said = refused k; world = w })
-    (λ e _ q. settled-resumes f w B S (fitting _ _ (eqb-true k 0 e) .0) (deviceClear (w .state) f) _ (frame-resumes f w B S (fitting _ _ (eqb-true k 0 e) .0) q))
-    (λ _ e. absurd (false≢true e))
+    if-taken (λ (d : Did). dataFrame (d .said) ≡ [] → d .world .state .line .holding ≡ false) (firstRefusal (checks (loopFrame f) w)) (calls.notRefused (loopFrame f) w) w
+    (λ e q.
+    let F : Fits w = frame-fits f w e in
+    settled-off (w .state) _ (deviceClear (w .state) f) (subst (Resumes w B F) (sym (sends-from (w .state) (w .rx) f _ (kind-of f w F) S)) (send-resumes w B F) q))
     t (sym (cond-true _ _ _ S) ∙ n)

@@ -42,6 +42,7 @@ use Rattle.runs.specs.Observers.{taken, dataFrame, asksStatus, statusSen
 use Rattle.runs.specs.Run.{answer, after, empties}
 use Rattle.runs.specs.StatusWay.{endsWay, statusBack}
 use Rattle.runs.specs.Events.{Event, broken, overrun, pressed}
+use Rattle.runs.proofs.Refusals.{or-refused}
 use Rattle.runs.proofs.Answered.{status-frame}
 use Rattle.laws.proofs.FramePlaces.{clear-order}
 use Rattle.runs.proofs.FrameView.{address-high}
@@ -286,8 +287,7 @@ abbrev Did-kind : Call → World → Did → Type 0
 Did-kind c w d = Kind c w (d .said) (part (d .world .state))
 
 refused-or : (c : Call) (w : World) (n : ℕ) (d : Did) → Did-kind c w d → Did-kind c w (refusedOr n d w)
-unfolding refusedOr
-refused-or c w n d k = by-cond (Did-kind c w) (eqb n 0) d (record { said = refused n; world = w }) (λ _. k) (λ _. refused-kind c w n)
+refused-or c w n d k = or-refused (Did-kind c w) n d w (refused-kind c w n) (λ _. k)
 
 pub kind : (c : Call) (w : World) → Kind c w (answer c w) (part (after c w .state))
 unfolding step calls.notRefused outcome settledBy settled said statusSent endsWay restarts breakState keyState

@@ -2,11 +2,9 @@
 use Prim.Native.Nat.{ℕ}
 use native.Mathlib.Omega.{arith}
 use mathlib.Core.Path.{_≡_, refl}
-use mathlib.Core.Bool.{Bool, true, false, cond, not}
+use mathlib.Core.Bool.{Bool, true, false, cond}
 use mathlib.Core.List.{[]}
-use lib.Dec.{eqb, ltb}
-use borrow.Author.Tests.{eqb-true}
-use Rattle.cases.proofs.Cases.{by-cond}
+use lib.Dec.{ltb}
 use Rattle.registers.specs.Meanings.{go}
 use Rattle.state.specs.Answers.{said, done, refused}
 use Rattle.state.specs.Status.{settled, breakState, keyState}
@@ -16,6 +14,7 @@ use Rattle.bridge.specs.Calls.{Call, create, reset, write, lineByte, lineBreak,
 use Rattle.bridge.specs.Calls as calls
 use Rattle.runs.specs.Observers.{isSend, arrived, sent, left, handedOut, restarts, writes, clears}
 use Rattle.runs.proofs.Shapes.{heart, frames, hands, Shape, isStill, isBegun}
+use Rattle.runs.proofs.Refusals.{or-refused, fitting}
 use Rattle.runs.proofs.Quiet.{Shaped, quietly}
 use Rattle.runs.proofs.LineView.{line-shape, next-shape, write-shape}
 use Rattle.runs.proofs.FrameView.{frame-shape}
@@ -44,20 +43,12 @@ module _ (w : World) where
   refused-still (show side) n = quietly (show side) w (refused n) _ _ _ refl isStill
 
   refused-or : (c : Call) (n : ℕ) (d : Did) → (n ≡ 0 → Shaped w c d) → Shaped w c (refusedOr n d w)
-  unfolding refusedOr
-  refused-or c n d f =
-      by-cond (Shaped w c) (eqb n 0) d (record { said = refused n; world = w })
-      (λ e. f (eqb-true n 0 e))
-      (λ e. refused-still c n)
+  refused-or c n d = or-refused (Shaped w c) n d w (refused-still c n)
 
 -- what no refusal tells
 first-none : (t : Bool) (n k : ℕ) → (n ≡ 0 → ⊥) → cond t n k ≡ 0 → (t ≡ false) × (k ≡ 0)
 first-none true n k h e = absurd (h e)
 first-none false n k h e = (refl, e)
-
-pub fitting : (t : Bool) (k : ℕ) → cond (not t) 2 k ≡ 0 → (t ≡ true) × (k ≡ 0)
-fitting true k e = (refl, e)
-fitting false k e = absurd (omega arith)
 
 -- ---- every call
 
