@@ -5,17 +5,12 @@ use mathlib.Core.Bool.{Bool, true, false, cond, _||_}
 use mathlib.Core.List.{List, [], _∷_}
 use lib.Dec.{eqb}
 use lib.ListN.{getD, length}
-use borrow.Author.Tests.{eqb-true, eq-eqb, ne-eqb}
+use borrow.Author.Tests.{eq-eqb, ne-eqb}
 use Rattle.cases.proofs.Cases.{by-cond}
-use Rattle.frame.specs.Frame.{controlOf, dataOf, isData, sameApart}
 use Rattle.registers.specs.declared.Registers.{Registers}
 use Rattle.registers.specs.Meanings.{go, stop}
 use Rattle.registers.specs.Writing.{written}
 use Rattle.registers.proofs.Fits.{fit-differ}
-use Rattle.role.specs.declared.Ready.{Ready}
-use Rattle.role.specs.declared.Ready.the-variants.{Pass, Address, Data, Status, Finish}
-use Rattle.role.specs.Parts.{isActive}
-use Rattle.role.specs.ReadyFrames.{readyOf}
 use Rattle.store.specs.Ring.{full, held}
 use Rattle.sending.specs.declared.Given.{Given}
 use Rattle.sending.specs.declared.Given.the-variants as given
@@ -31,10 +26,9 @@ use Rattle.state.specs.Status.{settled, breakState, keyState}
 use Rattle.state.specs.Status as status
 use Rattle.state.proofs.Fits.{tests}
 use Rattle.line.specs.HoldingOff.{isGoOrStop, flowed, lostState, storedWith, lineState, resumed, setAfresh, afterWrite, owed, nextOut, goneState, outAnswer}
-use Rattle.loops.specs.LoopToLine.{leftState}
 use Rattle.loops.specs.Sending.{ruleOf, removedState, sendState, sendFrom, sendStatus, talking, ended}
-use Rattle.loops.specs.Frames.{isClear, orderIn, obeyed, cleared, commandState, command, finishing, readied, ready, returned, dataPassed, identify, frameTaken, deviceClear}
-use Rattle.bridge.specs.Calls.{Call, create, reset, write, lineByte, lineBreak, key, nextLineByte, loopFrame, show, World, Did, checks, outcome, settledBy, refusedOr, step}
+use Rattle.loops.specs.Frames.{obeyed, cleared, deviceClear}
+use Rattle.bridge.specs.Calls.{Call, create, reset, write, lineByte, lineBreak, key, nextLineByte, loopFrame, show, World, Did, outcome, settledBy, refusedOr, step}
 use Rattle.bridge.specs.Calls as calls
 use Rattle.runs.specs.Observers.{restarts}
 use Rattle.runs.specs.Run.{answer, after, end, Without, startsAnew}
