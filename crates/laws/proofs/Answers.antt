@@ -1,11 +1,10 @@
 -- What each call answers, and that it refuses exactly when a check is given. Assumes nothing.
 use Prim.Native.Nat.{ℕ}
-use native.Mathlib.Omega.{arith}
 use mathlib.Core.Path.{_≡_, refl, sym, ap, subst, _∙_}
-use mathlib.Core.Bool.{Bool, true, false, cond, false≢true}
+use mathlib.Core.Bool.{true, false, false≢true}
 use mathlib.Core.List.{List}
 use lib.Dec.{eqb}
-use borrow.Author.Tests.{eqb-true}
+use borrow.Author.Tests.{eqb-true, eqb-false}
 use Rattle.cases.specs.Refusals.{firstRefusal}
 use Rattle.cases.proofs.Cases.{by-cond}
 use Rattle.frame.specs.Frame.{controlOf, isData, dataOf, sameApart}
@@ -18,11 +17,9 @@ use Rattle.sending.specs.declared.Given.the-variants.{Nothing, One}
 use Rattle.sending.specs.Sending.{givenOf, sendHeld}
 use Rattle.state.specs.declared.State.{State}
 use Rattle.state.specs.declared.Outcome.{Outcome}
-use Rattle.state.specs.declared.Answer.{Answer}
-use Rattle.state.specs.declared.Answer.the-variants as answer
 use Rattle.state.specs.declared.Out.{Out}
 use Rattle.state.specs.declared.Out.the-variants as out
-use Rattle.state.specs.Answers.{Said, done, none, byte, frame, refused, part, said}
+use Rattle.state.specs.Answers.{frame, refused, said}
 use Rattle.line.specs.HoldingOff.{nextOut, outAnswer}
 use Rattle.loops.specs.Sending.{ended, ruleOf, removedState, sendState, sendFrom, sendStatus}
 use Rattle.loops.specs.Frames.{command, readied, ready, returned, dataPassed, identify, frameTaken}
@@ -145,9 +142,10 @@ module _ (c : Call) (w : World) (k : Numbered c w) where
       (λ e. record {
         when = λ m h. absurd (false≢true (sym (k .taken) ∙ ap isRefusal h));
         given = λ h. absurd (h (eqb-true n 0 e));
+        accepts = λ h. k .taken;
         leaves = λ h. absurd (false≢true (sym (k .taken) ∙ h));
       })
-      (λ e. record { when = λ m h. cc; given = λ h. refl; leaves = λ h. refl })
+      (λ e. record { when = λ m h. cc; given = λ h. refl; accepts = λ h. absurd (eqb-false n 0 e h); leaves = λ h. refl })
 
   refuses-so : Refuses (step c w) (firstRefusal (checks c w)) w
   refuses-so = subst (λ (d : Did). Refuses d (firstRefusal (checks c w)) w) (sym (k .number)) (refuses-number (firstRefusal (checks c w)))
@@ -158,4 +156,4 @@ calls-answer-so c w = each-call (λ (d : Call). canAnswer d (step d w .said) ≡
 pub refused-exactly : RefusedExactly
 refused-exactly c w =
     each-call (λ (d : Call). Refuses (step d w) (firstRefusal (checks d w)) w) w (λ d k. refuses-so d w k)
-    (λ side. unfold step checks in record { when = λ m h. cc; given = λ h. absurd (h refl); leaves = λ h. refl }) c
+    (λ side. unfold step checks in record { when = λ m h. cc; given = λ h. absurd (h refl); accepts = λ h. refl; leaves = λ h. refl }) c

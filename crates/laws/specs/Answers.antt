@@ -72,6 +72,8 @@ pub record Refuses (d : Did) (n : ℕ) (w : World) : Type 0 where
   -- "Given exactly when"
   pub when : (m : ℕ) → d .said ≡ refused m → n ≡ m
   pub given : (n ≡ 0 → ⊥) → d .said ≡ refused n
+  -- and no refusal, nor one with the number 0, where none of its checks is given
+  pub accepts : n ≡ 0 → isRefusal (d .said) ≡ false
   -- "Each returns its number alone; state and stores stay as they were"
   pub leaves : isRefusal (d .said) ≡ true → d .world ≡ w
 

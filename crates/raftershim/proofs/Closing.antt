@@ -2,14 +2,11 @@
 use Prim.Native.Nat.{ℕ, _+_, _-_, _<_, min}
 use native.Mathlib.Omega.{arith}
 use mathlib.Core.Path.{_≡_, refl, sym, ap, _∙_}
-use mathlib.Core.Bool.{Bool, true, false, cond, not, true≢false, false≢true}
-use mathlib.Core.List.{List, []}
+use mathlib.Core.Bool.{Bool, true, false, true≢false, false≢true}
+use mathlib.Core.List.{List}
 use lib.ListN.{length, take, drop, length-take, length-drop}
 use lib.Dec.{eqb}
 use borrow.Author.Tests.{eq-eqb, ne-eqb}
-use Rattle.cases.specs.Refusals.{firstRefusal}
-use Rattle.cases.proofs.Cases.{cond-true, cond-false}
-use Rattle.registers.specs.Writing.{writeChecks}
 use Rattle.store.specs.declared.Ring.{Ring}
 use Rattle.store.specs.Ring.{Fit, run}
 use Rattle.store.proofs.Laws.{run-part}
@@ -17,17 +14,17 @@ use Rattle.state.specs.declared.State.{State}
 use Rattle.state.specs.declared.Outcome.{Outcome}
 use Rattle.state.specs.declared.Answer.{Answer}
 use Rattle.state.specs.declared.Answer.the-variants.{Done, Nothing, Byte, Frame, Refused}
-use Rattle.state.specs.Answers.{Said, said, done, refused, part}
+use Rattle.state.specs.Answers.{said, done, refused, part}
 use Rattle.state.specs.Sizes.{sizesObeyed, startState, fits}
 use Rattle.state.proofs.Fits.{rx-fits, tx-fits}
 use Rattle.block.specs.Packed.{blockLen, packed}
-use Rattle.block.specs.States.{isState, noState, meaning, fittingBlock}
+use Rattle.block.specs.States.{isState, noState, meaning}
 use Rattle.block.proofs.Same.{state-length, means-none}
 use Rattle.block.proofs.Laws.{no-state-misfits}
 use Rattle.bridge.specs.Calls.{Call, create, reset, write, lineByte, lineBreak, key, nextLineByte, loopFrame, show, World, Did, world, did, checks, notRefused, outcome, settledBy, rxAfter, txAfter, refusedOr, step, handed, shown, Created}
 use Rattle.laws.specs.Answers.{isRefusal}
 use Rattle.raftershim.specs.Word.{word, kindOf, valueOf, placeWord, startOf, storeOf, shownWord}
-use Rattle.raftershim.specs.Calls.{Lent, lent, Returned, returned, opened, blockAfter, closed, createdFor, cStep, needsState}
+use Rattle.raftershim.specs.Calls.{lent, returned, opened, blockAfter, closed, createdFor, cStep, needsState}
 
 -- ---- a state that does not fit is refused
 

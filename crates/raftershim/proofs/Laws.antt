@@ -12,7 +12,7 @@ use Rattle.state.specs.Sizes.{fits}
 use Rattle.block.specs.Packed.{blockLen, packed}
 use Rattle.block.specs.States.{Ranged}
 use Rattle.block.proofs.Laws.{packed-length, packed-means, meaning-fits}
-use Rattle.bridge.specs.Calls.{Call, create, reset, write, lineByte, lineBreak, key, nextLineByte, loopFrame, show, World, world, Did, step, shown}
+use Rattle.bridge.specs.Calls.{Call, create, reset, write, lineByte, lineBreak, key, nextLineByte, loopFrame, show, World, Did, step, shown}
 use Rattle.laws.specs.Answers.{isRefusal}
 use Rattle.laws.proofs.Answers.{refused-exactly}
 use Rattle.raftershim.specs.Word.{word, placeWord, startOf, storeOf, shownWord}

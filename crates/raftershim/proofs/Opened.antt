@@ -16,7 +16,7 @@ use Rattle.bridge.specs.Calls.{Call, create, World, world, Did, step}
 use Rattle.laws.specs.Answers.{isRefusal}
 use Rattle.runs.specs.Run.{end}
 use Rattle.raftershim.specs.Word.{word}
-use Rattle.raftershim.specs.Calls.{Lent, lent, Returned, opened, closed, createdFor, cStep, needsState}
+use Rattle.raftershim.specs.Calls.{Lent, Returned, opened, closed, createdFor, cStep, needsState}
 use Rattle.raftershim.specs.Runs.{answerWord, words, cEnd, cWords, isByteCall, allByteCalls, Typed, OfBytes, Whole}
 use Rattle.raftershim.specs.Laws.{Means, CallMeans, RunMeans, RunsMean}
 use Rattle.raftershim.proofs.Kept.{tx-kept, ranged-kept, typed-kept}

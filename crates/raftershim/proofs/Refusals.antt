@@ -9,20 +9,14 @@ use lib.Dec.{eqb}
 use borrow.Author.Tests.{eqb-true}
 use Rattle.cases.specs.Refusals.{check, firstRefusal}
 use Rattle.registers.specs.Writing.{writeChecks}
-use Rattle.state.specs.declared.Out.{Out}
-use Rattle.state.specs.declared.Out.the-variants as out
-use Rattle.state.specs.Answers.{Said, said, done, none, byte, frame, refused, part}
+use Rattle.state.specs.Answers.{Said, refused}
 use Rattle.state.specs.Sizes.{sizesObeyed, fits}
-use Rattle.line.specs.HoldingOff.{nextOut, outAnswer}
-use Rattle.loops.specs.Frames.{frameTaken}
 use Rattle.block.specs.Packed.{blockLen}
 use Rattle.block.specs.States.{isState, fittingBlock}
 use Rattle.block.proofs.Laws.{meaning-fits}
-use Rattle.bridge.specs.Calls.{Call, create, reset, write, lineByte, lineBreak, key, nextLineByte, loopFrame, show, World, checks, outcome, notRefused, refusedOr, step}
+use Rattle.bridge.specs.Calls.{Call, create, reset, write, lineByte, lineBreak, key, nextLineByte, loopFrame, show, World, checks, step}
 use Rattle.laws.specs.Answers.{isRefusal}
 use Rattle.laws.proofs.Answers.{refused-exactly}
-use Rattle.runs.specs.Observers.{isFrame}
-use Rattle.runs.proofs.Refused.{frame-answers}
 use Rattle.raftershim.specs.Word.{word, kindOf, valueOf}
 use Rattle.raftershim.specs.Calls.{Lent, Returned, opened, cStep, needsState}
 use Rattle.raftershim.specs.Told.{told, saidBy, toldPart, cAnswer}
@@ -30,34 +24,6 @@ use Rattle.raftershim.specs.Laws.{refusedBy}
 use Rattle.raftershim.specs.Refusals.{cChecks, RefusesInC, RefusedExactlyInC}
 use Rattle.raftershim.proofs.Laws.{by-kind, misfit-refused, wrong-block-refused}
 use Rattle.raftershim.proofs.Told.{answers-told, refusal-keeps-all}
-
--- ---- what is not refused answers no refusal
-
-frame-accepted : (a : Said) → isFrame a ≡ true → isRefusal a ≡ false
-frame-accepted (frame k d) e = refl
-frame-accepted (refused n) e = absurd (false≢true e)
-frame-accepted done e = refl
-frame-accepted none e = refl
-frame-accepted (byte b) e = refl
-frame-accepted (part xs) e = refl
-
-out-accepted : (o : Out) → isRefusal (said (outAnswer o)) ≡ false
-unfolding outAnswer said
-out-accepted (out.Own b) = refl
-out-accepted (out.Held b) = refl
-out-accepted out.Nothing = refl
-
-accepted : (c : Call) (w : World) → firstRefusal (checks c w) ≡ 0 → isRefusal (step c w .said) ≡ false
-unfolding step refusedOr notRefused outcome said
-accepted (create m) w e = rw e
-accepted reset w e = rw e
-accepted (write n v) w e = rw e
-accepted (lineByte b) w e = rw e
-accepted lineBreak w e = rw e
-accepted key w e = rw e
-accepted nextLineByte w e = rw e (out-accepted (nextOut (w .state) (w .tx)))
-accepted (loopFrame f) w e = rw e (frame-accepted (said (frameTaken (w .state) (w .rx) f .answer)) (frame-answers (w .state) (w .rx) f))
-accepted (show side) w e = refl
 
 -- ---- a block of the one length: the checks are those of the call
 
@@ -175,6 +141,6 @@ refused-exactly-in-c c l h = pick (eqb (length (l .block)) blockLen) refl
         record {
           when = λ m q. sym n ∙ refused-exactly c w .when m (sym a ∙ q);
           given = λ z. a ∙ refused-exactly c w .given (λ q. z (sym n ∙ q)) ∙ ap refused n;
-          accepts = λ z. ap isRefusal a ∙ accepted c w (n ∙ z);
+          accepts = λ z. ap isRefusal a ∙ refused-exactly c w .accepts (n ∙ z);
           leaves = refusal-keeps-all c l h;
         }

@@ -6,8 +6,7 @@ use mathlib.Core.List.{List}
 use lib.ListN.{length}
 use lib.Dec.{eqb}
 use Rattle.state.specs.declared.State.{State}
-use Rattle.state.specs.declared.Outcome.{Outcome}
-use Rattle.state.specs.Answers.{Said, said, refused}
+use Rattle.state.specs.Answers.{Said, refused}
 use Rattle.block.specs.Packed.{blockLen, packed}
 use Rattle.block.specs.States.{meaning}
 use Rattle.bridge.specs.Calls.{Call, create, reset, write, lineByte, lineBreak, key, nextLineByte, loopFrame, show, World, world, Did, step}

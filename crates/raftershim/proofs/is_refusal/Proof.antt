@@ -1,5 +1,4 @@
 use Rattle.state.specs.Answers.{said}
-use Rattle.laws.specs.Answers.{isRefusal}
 use borrow.Author.Needs.{needs}
 use Rattle.raftershim.proofs.is_refusal.Statement.{statement}
 use Rattle.raftershim.proofs.is_refusal.Tie as tie
