@@ -3,7 +3,6 @@ use Prim.Native.Nat.{ℕ, zero, suc, _/_, _%_, _<_}
 use mathlib.Core.List.{List, [], _∷_, _++_}
 use native.Mathlib.Omega.{arith}
 use mathlib.Core.Bool.{Bool, true, false}
-use lib.ListN.{getD}
 use Rattle.registers.specs.declared.Registers.{Registers}
 use Rattle.status.specs.declared.Events.{Events}
 use Rattle.store.specs.declared.Ring.{Ring}

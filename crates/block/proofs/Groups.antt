@@ -2,10 +2,6 @@
 use Prim.Native.Nat.{ℕ, _+_}
 use mathlib.Core.Path.{_≡_}
 use mathlib.Core.List.{List}
-use Rattle.store.specs.declared.Ring.{Ring}
-use Rattle.state.specs.declared.Sizes.{Sizes}
-use Rattle.state.specs.declared.Under.{Under}
-use Rattle.state.specs.declared.Counts.{Counts}
 use Rattle.block.specs.Packed.{at16, at32, flagAt, sizesAt, underAt, ringAt, countsAt}
 
 module _ (b : List ℕ) where

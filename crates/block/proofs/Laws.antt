@@ -1,12 +1,12 @@
 -- The laws of the block: a state has one block, a block has one meaning, and which blocks are states. Assumes nothing.
-use Prim.Native.Nat.{ℕ, suc, _+_, _*_, _/_, _%_, _≤_, _<_}
+use Prim.Native.Nat.{ℕ, _+_, _*_, _≤_, _<_}
 use mathlib.Core.Path.{_≡_, refl, sym, ap, _∙_}
 use mathlib.Core.Bool.{Bool, true, false, _&&_, true≢false}
-use mathlib.Core.List.{List, [], _∷_, _++_}
+use mathlib.Core.List.{List}
 use native.Mathlib.Omega.{arith}
-use lib.ListN.{length, getD}
+use lib.ListN.{length}
 use lib.Dec.{leb}
-use borrow.Author.Tests.{eq-eqb, leb-true}
+use borrow.Author.Tests.{leb-true}
 use Rattle.cases.proofs.Cases.{and-left, and-right}
 use Rattle.registers.specs.declared.Registers.{Registers}
 use Rattle.registers.specs.Fit.{registersFit, values, valueIn}
@@ -17,9 +17,9 @@ use Rattle.role.proofs.FitLaws.{fit-true}
 use Rattle.state.specs.declared.State.{State}
 use Rattle.state.specs.Sizes.{sizesObeyed, startState, fits, RxFits, TxFits}
 use Rattle.state.proofs.Fits.{Tests, tests, rx-fits, tx-fits}
-use Rattle.block.specs.Packed.{blockLen, flagOf, two, four, at16, at32, packed, unpacked}
-use Rattle.block.specs.States.{isState, meaning, noState, fittingBlock, RegistersRanged, RingRanged, CountsRanged, Ranged, Bytes}
-use Rattle.block.proofs.Same.{same-true, state-length, state-packed, means, means-none}
+use Rattle.block.specs.Packed.{blockLen, at16, at32, packed, unpacked}
+use Rattle.block.specs.States.{isState, meaning, noState, fittingBlock, RegistersRanged, CountsRanged, Ranged, Bytes}
+use Rattle.block.proofs.Same.{same-true, state-packed, means, means-none}
 pub use Rattle.block.proofs.ReadBack.{read-back}
 pub use Rattle.block.proofs.Bytes.{packed-bytes}
 

@@ -7,7 +7,6 @@ use borrow.Author.Tests.{eq-eqb, ne-eqb, eqb-true}
 use lib.ListN.{length}
 use lib.Dec.{eqb}
 use Rattle.cases.proofs.Cases.{and-left, and-right, cond-true, cond-false}
-use Rattle.state.specs.declared.State.{State}
 use Rattle.block.specs.Packed.{blockLen, packed, unpacked}
 use Rattle.block.specs.States.{same, isState, noState, meaning}
 

@@ -5,11 +5,10 @@ use mathlib.Core.Bool.{Bool, true, false, _&&_, true≢false}
 use mathlib.Core.List.{List, [], _∷_, _++_}
 use native.Mathlib.Omega.{arith}
 use native.Mathlib.Nat.{mod-eq-of-lt, div-eq-of-lt, add-mul-div-left, add-mul-mod-self-left, div-div-eq-div-mul}
-use borrow.Author.Tests.{eq-eqb, ne-eqb, leb-true, le-leb}
+use borrow.Author.Tests.{eq-eqb, leb-true}
 use lib.ListN.{length, getD}
 use lib.Dec.{eqb, leb}
 use Rattle.cases.proofs.Cases.{and-left, and-right}
-use Rattle.state.specs.declared.State.{State}
 use Rattle.block.specs.Packed.{blockLen, flagOf, flagAt, two, four, at16, at32, registersAt, registersBytes, packed, unpacked}
 use Rattle.block.specs.States.{isState, flagged, flaggedThree, flagsRight, Two, Four, RingBytes, Numbers}
 use Rattle.block.proofs.Same.{same-true, state-packed}

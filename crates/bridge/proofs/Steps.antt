@@ -1,27 +1,24 @@
 -- From what the parts of a call gave to the promise of the call, on plain values. Assumes nothing.
-use Prim.Native.Nat.{ℕ, _<_, _≤_, _%_}
+use Prim.Native.Nat.{ℕ, _<_, _≤_}
 use mathlib.Core.Path.{_≡_, refl, sym, ap, _∙_}
 use mathlib.Core.List.{List, [], _∷_}
-use mathlib.Core.Bool.{Bool, true, false, cond, not}
-use lib.Dec.{eqb, ltb}
-use lib.ListN.{length, take, drop}
+use mathlib.Core.Bool.{true, false}
+use lib.Dec.{ltb}
+use lib.ListN.{length}
 use borrow.Author.Tests.{eq-eqb, ne-eqb, lt-ltb, le-ltb}
 use Rattle.cases.specs.Refusals.{Check, check, firstRefusal}
-use Rattle.registers.specs.declared.Registers.{Registers}
-use Rattle.registers.specs.Writing.{writeChecks, written}
 use Rattle.store.specs.Ring.{run}
 use Rattle.state.specs.declared.State.{State}
 use Rattle.state.specs.declared.Outcome.{Outcome}
 use Rattle.state.specs.declared.Answer.{Answer}
-use Rattle.state.specs.declared.Answer.the-variants as answer
 use Rattle.state.specs.declared.Out.{Out}
-use Rattle.state.specs.Answers.{Said, said, refused}
+use Rattle.state.specs.Answers.{said}
 use Rattle.state.specs.Sizes.{sizesObeyed, startState, fits}
 use Rattle.loops.specs.LoopToLine.{busy}
 use Rattle.loops.specs.Frames.{frameSettled, Framed}
-use Rattle.line.specs.HoldingOff.{lineState, lineBytes, Taken, afterWrite, nextOut, goneState, outAnswer}
-use Rattle.state.specs.Status.{settled, breakState, keyState}
-use Rattle.bridge.specs.Calls.{Call, create, reset, write, lineByte, lineBreak, key, nextLineByte, loopFrame, show, World, Did, world, did, handed, checks, outcome, doneWith, refusedWith, settledBy, rxAfter, txAfter, notRefused, refusedOr, misfit, step, shown, Created}
+use Rattle.line.specs.HoldingOff.{nextOut, goneState, outAnswer}
+use Rattle.state.specs.Status.{settled}
+use Rattle.bridge.specs.Calls.{Call, nextLineByte, loopFrame, show, Did, world, did, handed, checks, outcome, doneWith, refusedWith, settledBy, rxAfter, txAfter, notRefused, refusedOr, misfit, step, shown, Created}
 
 -- a call that takes a state: the check for a misfit, and `more` after it
 abbrev Judged : Call → State → List ℕ → List ℕ → List Check → Type 0

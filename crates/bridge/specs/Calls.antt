@@ -1,7 +1,7 @@
 -- The calls: what each answers, and the state and every byte of both stores after it.
 use Prim.Native.Nat.{ℕ}
 use mathlib.Core.Path.{_≡_}
-use mathlib.Core.Bool.{Bool, true, false, cond, _&&_, not}
+use mathlib.Core.Bool.{cond, not}
 use mathlib.Core.List.{List, [], _∷_}
 use lib.Dec.{eqb, ltb}
 use lib.ListN.{length}
@@ -10,7 +10,6 @@ use Rattle.registers.specs.Writing.{writeChecks, written}
 use Rattle.store.specs.Ring.{run}
 use Rattle.state.specs.declared.State.{State}
 use Rattle.state.specs.declared.Outcome.{Outcome}
-use Rattle.state.specs.declared.Answer.{Answer}
 use Rattle.state.specs.declared.Answer.the-variants as answer
 use Rattle.state.specs.Answers.{Said, said, refused, part}
 use Rattle.state.specs.Sizes.{sizesObeyed, startState, fits}

@@ -1,6 +1,6 @@
 -- The first refusal that is given decides. Assumes nothing.
 use mathlib.Core.Path.{_≡_, refl}
-use mathlib.Core.Bool.{Bool, true, false, cond, _&&_, not, false≢true}
+use mathlib.Core.Bool.{Bool, true, false, not, false≢true}
 use mathlib.Core.List.{List, [], _∷_, _++_}
 use Rattle.cases.specs.Refusals.{Check, firstRefusal, noneGiven, FirstDecides}
 use Rattle.cases.proofs.Cases.{and-left, and-right}

@@ -1,9 +1,9 @@
 -- What a caller may use of frames: the parts of a made frame, and what the service bit leaves alone. Assumes nothing.
 use Prim.Native.Nat.{ℕ, _+_, _*_, _/_, _%_, _<_}
-use mathlib.Core.Path.{_≡_, refl, ap, sym, _∙_}
-use mathlib.Core.Bool.{Bool, true, false}
+use mathlib.Core.Path.{_≡_, ap}
+use mathlib.Core.Bool.{true, false}
 use native.Mathlib.Omega.{arith}
-use lib.Dec.{eqb, ltb}
+use lib.Dec.{eqb}
 use borrow.Author.Tests.{eqb-true, eqb-false, eq-eqb, ltb-true, lt-ltb}
 use Rattle.cases.proofs.Cases.{same-test}
 use Rattle.frame.specs.Frame.{controlOf, dataOf, made, isData, isEnd, hasService, stripped, withService, sameApart}

@@ -6,21 +6,19 @@ use mathlib.Core.List.{List}
 use mathlib.Core.Bool.{Bool, true, false, cond, _&&_, _||_, not, false≢true}
 use lib.Dec.{eqb, leb}
 use lib.ListN.{length, getD}
-use borrow.Author.Tests.{eq-eqb, ne-eqb, eqb-false, leb-true, leb-false}
+use borrow.Author.Tests.{eq-eqb, ne-eqb, eqb-false}
 use Rattle.registers.specs.declared.Registers.{Registers}
 use Rattle.registers.specs.Meanings.{protocolOn, go, stop}
 use Rattle.store.specs.declared.Ring.{Ring}
 use Rattle.store.specs.declared.Offered.{Offered}
-use Rattle.store.specs.Ring.{held, full, putRing, putBytes, dropRing}
+use Rattle.store.specs.Ring.{held, full, putRing, dropRing}
 use Rattle.store.specs.Promises.{Put, Dropped}
-use Rattle.store.proofs.Laws.{put-full, put-size}
 use Rattle.state.specs.declared.State.{State}
 use Rattle.state.specs.declared.Out.{Out}
 use Rattle.state.specs.declared.Out.the-variants.{Own, Held, Nothing}
 use Rattle.state.specs.declared.Answer.the-variants as answer
 use Rattle.state.specs.State.{withRegisters, withLine, withRx, withTx, withNotes, withCounts}
 use Rattle.state.specs.Counts.{counted}
-use Rattle.state.specs.Sizes.{RxFits}
 use Rattle.line.specs.HoldingOff.{isGoOrStop, flowed, free, storedWith, lostState, lineState, lineBytes, Taken, setAfresh, afterWrite, owed, nextOut, goneState, outAnswer}
 
 -- ---- a line byte

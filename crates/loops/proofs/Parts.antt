@@ -3,8 +3,8 @@ use Prim.Native.Nat.{ℕ, _≤_, _<_, _+_, _-_}
 use native.Mathlib.Omega.{arith}
 use mathlib.Core.Path.{_≡_, refl, sym, ap, subst, _∙_}
 use mathlib.Core.List.{List, [], _∷_}
-use mathlib.Core.Bool.{Bool, true, false, cond, _&&_}
-use lib.Dec.{eqb, leb, ltb}
+use mathlib.Core.Bool.{Bool, true, false, _&&_}
+use lib.Dec.{ltb}
 use lib.ListN.{length}
 use borrow.Author.Tests.{eq-eqb, ne-eqb, le-leb, lt-leb}
 use Rattle.cases.proofs.Cases.{cond-true, cond-false}
@@ -37,7 +37,7 @@ use Rattle.loops.specs.LoopToLine.{adds, busy}
 use Rattle.line.specs.HoldingOff.{resumed}
 use Rattle.state.specs.Status.{settled, serviced, statusOf, statusSent, statusBack}
 use Rattle.loops.specs.Sending.{talking, ended, ruleOf, removedState, sendState, sendFrom, sendStatus}
-use Rattle.loops.specs.Frames.{isClear, orderIn, forgotten, cleared, obeyed, commandSettled, finishing, passed, readied, ready, returned, outcomeSettled}
+use Rattle.loops.specs.Frames.{isClear, forgotten, cleared, obeyed, commandSettled, finishing, readied, ready, returned, outcomeSettled}
 
 -- ---- what a frame adds
 

@@ -10,7 +10,7 @@ use Rattle.role.specs.declared.Order.{Order}
 use Rattle.role.specs.declared.Order.the-variants.{Unlisten, Listen, Untalk, Talk, Clear, Deselect, Enable, Disable, Local, Unassign, Nothing}
 use Rattle.role.specs.declared.Ready.{Ready}
 use Rattle.role.specs.declared.Ready.the-variants.{Pass, Address, Data, Status, Finish}
-use Rattle.role.specs.Parts.{activeStatus, isActive, withTalker}
+use Rattle.role.specs.Parts.{activeStatus, isActive}
 use Rattle.role.specs.Orders.{orderOf}
 use Rattle.role.specs.Commands.{obeyedRole}
 use Rattle.role.specs.ReadyFrames.{readyOf, assignedRole}

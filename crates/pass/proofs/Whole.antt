@@ -1,10 +1,10 @@
 -- The whole run, on plain values. Assumes nothing.
-use Prim.Native.Nat.{ℕ, _+_, _-_, _*_, _≤_, _<_, min}
+use Prim.Native.Nat.{ℕ, _+_, _-_, _*_, _≤_}
 use native.Mathlib.Omega.{arith}
-use mathlib.Core.Path.{_≡_, refl, sym, ap, subst, _∙_}
-use mathlib.Core.Bool.{Bool, true, false, cond, not, _&&_, false≢true}
-use mathlib.Core.List.{List, [], _∷_, _++_}
-use lib.ListN.{length, take, length-append, length-take, length-drop}
+use mathlib.Core.Path.{_≡_, sym, ap, subst, _∙_}
+use mathlib.Core.Bool.{true, false, cond, not, false≢true}
+use mathlib.Core.List.{List, _++_}
+use lib.ListN.{length, length-append, length-take, length-drop}
 use lib.Dec.{eqb, leb}
 use borrow.Author.Tests.{eq-eqb, ne-eqb, eqb-true, leb-true, not-true, not-false}
 use Rattle.cases.proofs.Cases.{by-cond, cond-true, and-right}
@@ -15,7 +15,7 @@ use Rattle.pass.specs.declared.Sections.{Sections}
 use Rattle.pass.specs.declared.Set.{Set}
 use Rattle.pass.specs.Text.{decimal, newline, firstLine, lineWord, refusedText, bytesText, Wrote, Within}
 use Rattle.pass.specs.Input.{high, secondAt, thirdAt, endAt, counted, malformed, byCount, endOf, thirdOf, secondOf, sectionsOf, Whole}
-use Rattle.pass.specs.Passing.{setRegisters, takeBytes, framesText, framesWorld, Offers, lineOut, asks, lineText, restText, setText, runText, store, printed}
+use Rattle.pass.specs.Passing.{setRegisters, takeBytes, Offers, lineOut, asks, lineText, restText, setText, runText, store, printed}
 use Rattle.pass.proofs.Writing.{wrote-then}
 
 -- ---- the sections of well-formed input

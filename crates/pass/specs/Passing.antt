@@ -8,10 +8,10 @@ use lib.Dec.{eqb}
 use Rattle.state.specs.declared.State.{State}
 use Rattle.state.specs.Answers.{Said, done, none, byte, frame, refused, part}
 use Rattle.state.specs.Sizes.{startState}
-use Rattle.bridge.specs.Calls.{write, lineByte, nextLineByte, loopFrame, World, world, Did, step}
+use Rattle.bridge.specs.Calls.{write, lineByte, nextLineByte, loopFrame, World, world, step}
 use Rattle.pass.specs.declared.Sections.{Sections}
 use Rattle.pass.specs.declared.Set.{Set}
-use Rattle.pass.specs.Input.{high, secondAt, thirdAt, sectionsOf}
+use Rattle.pass.specs.Input.{high, sectionsOf}
 use Rattle.pass.specs.Text.{decimal, newline, firstLine, lineWord, refusedText, answerText, bytesText, Wrote}
 
 -- the number of a refusal, 0 for any other answer

@@ -12,7 +12,7 @@ use Rattle.registers.specs.Table.{character, table, rowIn, hasRow, carri
 use Rattle.registers.specs.Bits.{controlMost, characterMost, tooLarge, bitNotCarried, inRange}
 use Rattle.registers.specs.Meanings.{go, stop}
 use Rattle.registers.specs.Writing.{written, goIsStop, writeChecks}
-use Rattle.registers.specs.Fit.{Held, held, values, valueIn, valueOf, allInRange, registersFit}
+use Rattle.registers.specs.Fit.{Held, values, valueIn, valueOf, allInRange, registersFit}
 use Rattle.registers.proofs.Rows.{test-row}
 use Rattle.registers.proofs.Refusals.{accepted, small-byte}
 use Rattle.registers.proofs.Writes.{replaced, values-written, written-same}

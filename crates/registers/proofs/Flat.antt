@@ -1,7 +1,7 @@
 -- The fit test as the code has it: control registers only, since a byte is always in a character's range. Assumes nothing.
 use Prim.Native.Nat.{ℕ, _<_}
 use native.Mathlib.Omega.{arith}
-use mathlib.Core.Path.{_≡_, refl}
+use mathlib.Core.Path.{_≡_}
 use mathlib.Core.Bool.{Bool, true, _&&_, not, and-assoc, and-true}
 use borrow.Author.Tests.{le-ltb}
 use Rattle.registers.specs.declared.Registers.{Registers}

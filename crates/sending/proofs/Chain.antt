@@ -1,15 +1,15 @@
 -- A send on a ring, one decision after the other. Assumes nothing.
-use Prim.Native.Nat.{ℕ, _+_, _-_, _≤_, _<_}
+use Prim.Native.Nat.{ℕ, _-_, _≤_}
 use native.Mathlib.Omega.{arith}
 use mathlib.Core.Path.{_≡_, refl, sym, ap, subst, _∙_}
 use mathlib.Core.List.{List}
-use mathlib.Core.Bool.{Bool, true, false, false≢true}
+use mathlib.Core.Bool.{true, false, false≢true}
 use lib.ListN.{length, getD, drop, length-drop, List·getD-eq-default}
 use Rattle.frame.specs.Frame.{made}
 use Rattle.store.specs.declared.Ring.{Ring}
 use Rattle.store.specs.Ring.{Fit, held, dropRing}
 use Rattle.store.specs.Promises.{Dropped}
-use Rattle.store.proofs.Laws.{held-length, held-drop, drop-fit, drop-none, drop-again}
+use Rattle.store.proofs.Laws.{held-length, drop-none, drop-again}
 use Rattle.reading.specs.declared.Rule.{Rule}
 use Rattle.reading.specs.declared.Decision.{Decision}
 use Rattle.reading.specs.declared.Decision.the-variants.{Removed, End, Data, Wait}
@@ -21,7 +21,7 @@ use Rattle.reading.proofs.Decided.{least}
 use Rattle.reading.proofs.Sends.{send-removed, send-end, send-data, send-wait}
 use Rattle.sending.specs.declared.Given.the-variants.{Nothing, One}
 use Rattle.sending.specs.declared.Sending.{Sending}
-use Rattle.sending.specs.Sending.{givenOf, sendHeld, sentRing, Sends, isRemoved, Left, Skips, Goes}
+use Rattle.sending.specs.Sending.{givenOf, sendHeld, sentRing, Sends, isRemoved, Left, Goes}
 
 -- a decision has bytes enough in the ring
 pub enough : (rule : Rule) (s : List ℕ) (q : Ring) (d : Decision) → Fit s q → decision rule (held s q) ≡ d → takes d ≤ q .len

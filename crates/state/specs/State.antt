@@ -1,5 +1,4 @@
 -- A state with one of its parts changed.
-use Prim.Native.Nat.{ℕ}
 use mathlib.Core.Bool.{Bool, false}
 use Rattle.registers.specs.declared.Registers.{Registers}
 use Rattle.role.specs.declared.Role.{Role}

@@ -1,12 +1,11 @@
 -- "Status byte (ours)": the conditions, requests, and what shows.
 use Prim.Native.Nat.{ℕ}
 use mathlib.Core.Bool.{Bool, true, false, cond, _&&_, _||_}
-use lib.Dec.{eqb, ltb, leb}
-use Rattle.frame.specs.Frame.{made, dataOf, withService}
+use lib.Dec.{eqb, ltb}
+use Rattle.frame.specs.Frame.{withService}
 use Rattle.registers.specs.declared.Registers.{Registers}
 use Rattle.registers.specs.Meanings.{requestsShow, overrunEnabled, transmitEmptyEnabled, transmitNotFullEnabled, receiveNotEmptyEnabled, receiveFullEnabled, breakEnabled, keyEnabled}
 use Rattle.status.specs.declared.Conditions.{Conditions}
-use Rattle.status.specs.declared.Events.{Events}
 use Rattle.status.specs.Status.{statusByte, both, begins, acknowledged}
 use Rattle.store.specs.Ring.{full}
 use Rattle.state.specs.declared.State.{State}

@@ -8,7 +8,6 @@ use mathlib.Core.Bool.{Bool, true, false, cond}
 use mathlib.Core.Logic.{⊎-elim}
 use lib.ListN.{length, getD, drop, set, length-append, length-drop, length-set, List·getD-append}
 use lib.Seq.{getD-drop, getD-append-seam, getD-set-same, getD-set-other, ext-getD}
-use lib.Dec.{leb}
 use borrow.Author.Tests.{le-leb, lt-leb}
 use Rattle.cases.proofs.Cases.{split}
 use Rattle.store.specs.declared.Ring.{Ring}

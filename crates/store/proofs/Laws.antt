@@ -3,16 +3,15 @@ use Prim.Native.Nat.{ℕ, _+_, _-_, _≤_, _<_, min}
 use native.Mathlib.Omega.{arith}
 use native.Mathlib.Nat.{add-assoc}
 use mathlib.Core.Path.{_≡_, refl, sym, ap, _∙_}
-use mathlib.Core.List.{List, [], _∷_, _++_, append-nil}
-use mathlib.Core.Bool.{Bool, true, false, cond, not, _&&_}
+use mathlib.Core.List.{List, append-nil}
+use mathlib.Core.Bool.{true, false, _&&_}
 use lib.ListN.{length, drop, set, take}
-use lib.Seq.{append-snoc}
 use lib.Dec.{leb, ltb}
 use borrow.Author.Tests.{leb-true, ltb-true, lt-leb, le-leb, lt-ltb}
 use Rattle.cases.proofs.Cases.{and-left, and-right}
 use Rattle.store.specs.declared.Ring.{Ring}
 use Rattle.store.specs.declared.Offered.{Offered}
-use Rattle.store.specs.Ring.{Fit, fitTest, held, wrap, run, emptyRing, putRing, putBytes, putsRing, putsBytes, dropRing, full}
+use Rattle.store.specs.Ring.{Fit, fitTest, held, wrap, emptyRing, putRing, dropRing}
 use Rattle.store.specs.Promises.{Put, Dropped, Shown}
 use Rattle.store.proofs.Places.{wrap-wrap}
 pub use Rattle.store.specs.Ring.Basis.{wrap-low, wrap-high, wrap-below, held-length, held-at, run-part, run-first, run-rest, held-empty}

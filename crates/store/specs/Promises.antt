@@ -1,8 +1,8 @@
 -- What each call of the store promises: first what fixes the result and every byte, then what callers use of it.
-use Prim.Native.Nat.{ℕ, _+_, _-_, _≤_, _<_}
+use Prim.Native.Nat.{ℕ, _+_, _-_}
 use mathlib.Core.Path.{_≡_}
 use mathlib.Core.List.{List, [], _∷_, _++_}
-use mathlib.Core.Bool.{Bool, cond, not}
+use mathlib.Core.Bool.{cond, not}
 use lib.ListN.{length, take, drop}
 use Rattle.store.specs.declared.Ring.{Ring}
 use Rattle.store.specs.declared.Offered.{Offered}

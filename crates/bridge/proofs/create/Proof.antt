@@ -1,4 +1,4 @@
-use mathlib.Core.Path.{sym, ap, _∙_}
+use mathlib.Core.Path.{sym, _∙_}
 use denote.Ref.{now}
 use Rattle.bridge.proofs.Steps.{create-done, create-refused}
 use borrow.Author.Needs.{needs}

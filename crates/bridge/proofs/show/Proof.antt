@@ -1,4 +1,3 @@
-use mathlib.Core.Path.{sym, ap, _∙_}
 use denote.Ref.{now}
 use Rattle.state.proofs.Fits.{is-misfit, is-fit, rx-fits, tx-fits}
 use Rattle.bridge.proofs.Steps.{show-misfit, show-receive, show-transmit, show-neither}

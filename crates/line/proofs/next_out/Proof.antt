@@ -1,6 +1,5 @@
 use denote.Ref.{now}
 use Rattle.line.proofs.Parts.{next-stop, next-go, next-none, next-held, some-held}
-use borrow.Author.Needs.{needs}
 use Rattle.line.proofs.next_out.Statement.{statement}
 use Rattle.line.proofs.next_out.Tie as tie
 

@@ -1,4 +1,4 @@
-use mathlib.Core.Path.{sym, ap, _∙_}
+use mathlib.Core.Path.{sym, ap}
 use lib.ListN.{length}
 use Rattle.loops.proofs.Parts.{adds-three, adds-one}
 use borrow.Author.Needs.{needs}

@@ -1,4 +1,4 @@
-use mathlib.Core.Path.{sym, ap, _∙_}
+use mathlib.Core.Path.{sym, _∙_}
 use borrow.Author.Tests.{not-true, not-false}
 use Rattle.loops.proofs.Parts.{back-damaged, back-status, back-finishing, back-next}
 use borrow.Author.Needs.{needs}

@@ -1,4 +1,4 @@
-use mathlib.Core.Path.{sym, ap, _∙_}
+use mathlib.Core.Path.{sym, _∙_}
 use Rattle.loops.proofs.Taken.{taken-back, taken-passed, taken-command, taken-ready, taken-identify}
 use borrow.Author.Needs.{needs}
 use Rattle.loops.proofs.frame_taken.Statement.{statement}

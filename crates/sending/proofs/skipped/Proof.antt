@@ -5,8 +5,6 @@ use Rattle.sending.specs.Sending.{Left, isRemoved}
 use Rattle.sending.proofs.Chain.{left-start, left-again, pair-enough}
 use Rattle.sending.proofs.skipped.Statement.{statement}
 use Rattle.sending.proofs.skipped.Tie as tie
-use Rattle.sending.proofs.skipped.Reads as reads
-use Rattle.sending.proofs.skipped.Lts as lts
 
 abbrev Inv-loop : tie.InvT-loop
 Inv-loop rule s q₀ q = Left rule s q₀ q

@@ -1,4 +1,4 @@
-use mathlib.Core.Path.{sym, ap, _∙_}
+use mathlib.Core.Path.{sym, _∙_}
 use Rattle.state.proofs.Serviced.{serviced-on, serviced-off}
 use borrow.Author.Needs.{needs}
 use Rattle.state.proofs.requests.serviced.Statement.{statement}
