@@ -22,8 +22,8 @@ unfoldable pub isDeviceClear : State → ℕ → Bool
 isDeviceClear s f = eqb (controlOf f) 4 && (eqb (dataOf f) 20 || (eqb (dataOf f) 4 && s .role .listener))
 
 -- "A data frame taken while ours is under way is its return. .. Other data frames pass; a listener also stores them."
-abbrev pub isKept : State → ℕ → Bool
-isKept s f = (isData f && not (isActive (s .role))) && s .role .listener
+abbrev pub isStored : State → ℕ → Bool
+isStored s f = (isData f && not (isActive (s .role))) && s .role .listener
 
 -- "create, reset or device clear"
 abbrev pub empties : Call → World → Bool
@@ -51,7 +51,7 @@ rxAdds (show side) w = []
 
 -- and to the transmit store: "A listener adds the byte; for an end byte with R10 bit 2 on, then C02 and C03."
 abbrev pub txAdds : Call → World → List ℕ
-txAdds (loopFrame f) w = cond (isKept (w .state) f) (adds (w .state .regs) f) []
+txAdds (loopFrame f) w = cond (isStored (w .state) f) (adds (w .state .regs) f) []
 txAdds (create m) w = []
 txAdds reset w = []
 txAdds (write n v) w = []

@@ -34,11 +34,11 @@ use Rattle.runs.specs.Holding.{sends, writesR11, holdingAfter, HoldingGo
 use Rattle.runs.specs.NextByte.{afterByte, forbiddenAfter, ForbiddenGoes}
 use Rattle.runs.proofs.Refused.{frame-answers, frame-taken}
 use Rattle.runs.proofs.Shapes.{Fits}
+use Rattle.runs.proofs.Quiet.{same-either}
 use Rattle.runs.proofs.FrameKinds.{Kind, isSent, isStatus, isBack, isCleared, isOther, kind-of}
 
 none-any : (t : Bool) → any (cond t [] []) ≡ false
-none-any true = refl
-none-any false = refl
+none-any t = ap any (same-either t)
 
 record Goes (c : Call) (w : World) (d : Did) : Type 0 where
   holding : d .world .state .line .holding ≡ holdingAfter c w (d .said) (d .world)

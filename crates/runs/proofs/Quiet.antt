@@ -16,7 +16,7 @@ Shaped w c d = Shape w (seen c w (d .said)) (heart (d .world .state)) (d .world 
 
 -- ---- nothing arrives
 
-same-either : (t : Bool) → _≡_ {A = List ℕ} (cond t [] []) []
+pub same-either : (t : Bool) → _≡_ {A = List ℕ} (cond t [] []) []
 same-either true = refl
 same-either false = refl
 

@@ -36,6 +36,7 @@ use Rattle.laws.proofs.FramePlaces.{clear-same}
 use Rattle.runs.proofs.Refused.{frame-answers, frame-taken}
 use Rattle.runs.proofs.FrameKinds.{Kind, isSent, isStatus, isBack, isCleared, isOther, clears-all, send-notes, kind-of}
 use Rattle.runs.proofs.Refusals.{or-refused, frame-fits}
+use Rattle.runs.proofs.Quiet.{same-either}
 
 -- nothing comes to hold where all is as it was
 no-comes : (t : Bool) → status.comes t t ≡ false
@@ -57,10 +58,6 @@ and-true false = refl
 and-false : (x : Bool) → false ≡ (x && false)
 and-false true = refl
 and-false false = refl
-
-none-any : (t : Bool) → any (cond t [] []) ≡ false
-none-any true = refl
-none-any false = refl
 
 -- what a call did, with requests settled
 abbrev Goes : Call → World → Did → Type 0
@@ -97,10 +94,6 @@ write-kept : (s : State) (n : ℕ) (t u : State) → t .notes .request ≡ s .no
 write-kept s n t u p q = by-cond (λ (x : State). x .notes .request ≡ s .notes .request) (eqb n 11) t u (λ _. p) (λ _. q)
 
 -- ---- loop frames
-
-same-either : (t : Bool) → _≡_ {A = List ℕ} (cond t [] []) []
-same-either true = refl
-same-either false = refl
 
 module _ (s : State) (rx : List ℕ) (f : ℕ) where
   abbrev Request : Outcome → Type 0

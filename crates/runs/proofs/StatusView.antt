@@ -3,7 +3,7 @@ use Prim.Native.Nat.{ℕ}
 use native.Mathlib.Omega.{arith}
 use mathlib.Core.Path.{_≡_, refl, sym, ap, _∙_}
 use mathlib.Core.Bool.{Bool, true, false, cond, _&&_}
-use mathlib.Core.List.{List, [], _∷_}
+use mathlib.Core.List.{[], _∷_}
 use lib.Dec.{eqb}
 use borrow.Author.Tests.{ne-eqb, leb-false}
 use Rattle.cases.proofs.Cases.{by-cond}
@@ -43,6 +43,7 @@ use Rattle.runs.specs.Run.{answer, after, empties}
 use Rattle.runs.specs.StatusWay.{endsWay, statusBack}
 use Rattle.runs.specs.Events.{Event, broken, overrun, pressed}
 use Rattle.runs.proofs.Refusals.{or-refused}
+use Rattle.runs.proofs.Quiet.{same-either}
 use Rattle.runs.proofs.Answered.{status-frame}
 use Rattle.laws.proofs.FramePlaces.{clear-order}
 use Rattle.runs.proofs.FrameView.{address-high}
@@ -115,10 +116,6 @@ noting overrun x pressed h = h
 noting pressed x broken h = h
 noting pressed x overrun h = h
 noting pressed x pressed h = refl
-
-same-either : (t : Bool) → _≡_ {A = List ℕ} (cond t [] []) []
-same-either true = refl
-same-either false = refl
 
 stays-true : (set shown again : Bool) → set ≡ true → again ≡ true → stays set shown again ≡ true
 stays-true true true true p q = refl

@@ -32,7 +32,7 @@ afterByte k (show side) w a = k
 -- whether our sending is forbidden after a call, by what is seen of it and what held before it
 unfoldable pub forbiddenAfter : Call → World → Said → Bool
 forbiddenAfter c w a =
-    -- "device clear. .. the other end's stop end", and so at a create or reset
+    -- "device clear. .. hold-off and the other end's stop end", and so at a create or reset
     cond (empties c w a) false
     -- "Writing R11 lets our sending start again at once."
     (cond (writesR11 c a) false
@@ -52,6 +52,7 @@ nextGiven w =
     -- "If the last of go and stop we sent .. differs from what holds, the next line byte is that character, before all else, also with the
     -- protocol since off or our sending forbidden."
     cond (owed (w .state .line)) (byte (cond (holdsOff w) (stop (w .state .regs)) (go (w .state .regs))))
+    -- "it permits or forbids our sending"
     (cond (forbidden w) none
     (oldestOf (heldForLine w)))
 
