@@ -1,12 +1,12 @@
 -- Every call keeps a state that fits, and the lengths of both stores. Assumes nothing.
-use Prim.Native.Nat.{ℕ, _+_, _-_, _≤_, _<_}
+use Prim.Native.Nat.{ℕ, _-_, _≤_, _<_}
 use native.Mathlib.Omega.{arith}
-use mathlib.Core.Path.{_≡_, refl, sym, ap, subst, _∙_}
-use mathlib.Core.Bool.{Bool, true, false, cond, _&&_, _||_, not}
+use mathlib.Core.Path.{_≡_, refl, sym, subst, _∙_}
+use mathlib.Core.Bool.{Bool, true, false, cond, not}
 use mathlib.Core.List.{List}
-use lib.Dec.{eqb, leb, ltb}
+use lib.Dec.{eqb}
 use lib.ListN.{length}
-use borrow.Author.Tests.{eqb-true, leb-true, not-true}
+use borrow.Author.Tests.{eqb-true, leb-true}
 use Rattle.cases.specs.Refusals.{firstRefusal}
 use Rattle.cases.proofs.Cases.{by-cond}
 use Rattle.frame.specs.Frame.{made, controlOf, dataOf, isData, sameApart}
@@ -25,14 +25,13 @@ use Rattle.store.proofs.Several.{puts-fit, puts-size}
 use Rattle.sending.specs.declared.Given.{Given}
 use Rattle.sending.specs.declared.Given.the-variants.{Nothing, One}
 use Rattle.sending.specs.Sending.{givenOf, sendHeld, sentRing}
-use Rattle.reading.specs.Reading.{sentRest}
 use Rattle.state.specs.declared.State.{State}
 use Rattle.state.specs.declared.Outcome.{Outcome}
 use Rattle.state.specs.declared.Out.{Out}
 use Rattle.state.specs.declared.Out.the-variants as out
-use Rattle.state.specs.Answers.{Said, done, refused}
+use Rattle.state.specs.Answers.{done, refused}
 use Rattle.state.specs.State.{withRegisters, withRx, withTx}
-use Rattle.state.specs.Sizes.{sizesObeyed, startState, fits}
+use Rattle.state.specs.Sizes.{sizesObeyed, fits}
 use Rattle.state.specs.Status.{settled, conditions, shows, statusOf, statusSent, statusBack, breakState, keyState}
 use Rattle.state.proofs.Fits.{Tests, tests, rx-fits, tx-fits}
 use Rattle.line.specs.HoldingOff.{isGoOrStop, flowed, storedWith, storedState, lostState, lineState, lineBytes, resumed, setAfresh, afterWrite, nextOut, goneState}
@@ -43,7 +42,7 @@ use Rattle.loops.specs.Frames.{isClear, orderIn, cleared, obeyed, commandState,
 use Rattle.bridge.specs.Calls.{Call, create, reset, write, lineByte, lineBreak, key, nextLineByte, loopFrame, show, World, Did, world, outcome, settledBy, rxAfter, txAfter, notRefused, refusedOr, checks, step}
 use Rattle.laws.specs.Fitting.{AllBytes, ByteCall, Fits, SameStores, CallsKeepFit, CreateMakesFit, CallsKeepStores, CallsKeepBytes}
 use Rattle.laws.proofs.Small.{put-bytes, given-small, status-small}
-use Rattle.laws.proofs.States.{tested, start-fits, with-registers, with-rx, with-tx, with-under, talking-tests, obeyed-tests, cleared-tests, assigned-tests}
+use Rattle.laws.proofs.States.{tested, start-fits, with-registers, with-rx, with-tx, talking-tests, obeyed-tests, cleared-tests, assigned-tests}
 
 -- ---- both stores keep their lengths
 

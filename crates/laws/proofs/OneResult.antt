@@ -2,14 +2,11 @@
 use Prim.Native.Nat.{ℕ, _/_, _%_}
 use native.Mathlib.Omega.{arith}
 use mathlib.Core.Path.{_≡_, refl, sym, ap, _∙_}
-use mathlib.Core.List.{List}
-use Rattle.state.specs.declared.State.{State}
-use Rattle.state.specs.declared.Outcome.{Outcome}
 use Rattle.state.specs.declared.Answer.{Answer}
 use Rattle.state.specs.declared.Answer.the-variants.{Done, Nothing, Byte, Frame, Refused}
-use Rattle.state.specs.Answers.{Said, done, none, byte, frame, refused, part, said}
-use Rattle.bridge.specs.Calls.{Call, World, Did, world, did, handed, step, Created}
-use Rattle.laws.specs.OneResult.{Same, CallsHaveOneResult, CreateHasOneResult, ShowHasOneResult}
+use Rattle.state.specs.Answers.{part, said}
+use Rattle.bridge.specs.Calls.{Did, did}
+use Rattle.laws.specs.OneResult.{CallsHaveOneResult, CreateHasOneResult, ShowHasOneResult}
 
 same-frame : (f g : ℕ) → f / 256 ≡ g / 256 → f % 256 ≡ g % 256 → f ≡ g
 same-frame f g p q = omega arith

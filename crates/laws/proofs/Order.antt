@@ -1,7 +1,7 @@
 -- The checks of every call stand in the order of their numbers. Assumes nothing.
 use mathlib.Core.Path.{refl}
 use Rattle.registers.specs.Writing.{writeChecks}
-use Rattle.bridge.specs.Calls.{Call, create, reset, write, lineByte, lineBreak, key, nextLineByte, loopFrame, show, World, checks}
+use Rattle.bridge.specs.Calls.{create, reset, write, lineByte, lineBreak, key, nextLineByte, loopFrame, show, checks}
 use Rattle.laws.specs.Order.{ChecksRise}
 
 pub checks-rise : ChecksRise

@@ -1,7 +1,7 @@
 -- The places of a store go on, whatever was removed. Assumes nothing.
 use Prim.Native.Nat.{ℕ, _+_, _-_, _≤_}
 use native.Mathlib.Omega.{arith}
-use mathlib.Core.Path.{_≡_, refl, sym, ap, _∙_}
+use mathlib.Core.Path.{_≡_, sym, ap, _∙_}
 use lib.ListN.{length}
 use Rattle.store.specs.declared.Ring.{Ring}
 use Rattle.store.specs.Ring.{wrap, dropRing}

@@ -1,14 +1,13 @@
 -- A frame sent from bytes is a data frame, and a status byte is a byte. Assumes nothing.
 use Prim.Native.Nat.{ℕ, zero, suc, _+_, _-_, _≤_, _<_}
 use native.Mathlib.Omega.{arith}
-use mathlib.Core.Path.{_≡_, refl, sym, ap, subst, _∙_}
+use mathlib.Core.Path.{_≡_, sym, subst}
 use mathlib.Core.Logic.{⊎-elim}
 use mathlib.Core.Bool.{Bool, true, false, cond}
 use mathlib.Core.List.{List, [], _∷_}
 use lib.ListN.{length, getD, drop, set, List·getD-eq-default}
 use lib.Seq.{getD-drop}
 use Rattle.cases.proofs.Cases.{split, by-cond}
-use Rattle.frame.specs.Frame.{made}
 use Rattle.store.specs.declared.Ring.{Ring}
 use Rattle.store.specs.Ring.{Fit, held, wrap, full, putBytes}
 use Rattle.store.proofs.Laws.{held-at, held-length}
@@ -22,7 +21,7 @@ use Rattle.reading.specs.Steps.{decision, carried, cut}
 use Rattle.reading.proofs.Cuts.{skip-oldest, by-cuts}
 use Rattle.reading.proofs.Reading.{send-at}
 use Rattle.reading.proofs.Lawful.{lawful}
-use Rattle.sending.specs.declared.Given.the-variants.{Nothing, One}
+use Rattle.sending.specs.declared.Given.the-variants.{One}
 use Rattle.sending.specs.Sending.{givenOf, sendHeld}
 use Rattle.laws.specs.Fitting.{AllBytes}
 

@@ -1,17 +1,13 @@
 -- A state that fits, changed by one part of a call, fits. Assumes nothing.
 use Prim.Native.Nat.{ℕ, _+_, _-_, _*_, _≤_, _<_}
 use native.Mathlib.Omega.{arith}
-use mathlib.Core.Path.{_≡_, refl, sym, ap, subst, _∙_}
-use mathlib.Core.Bool.{Bool, true, false, cond, _&&_}
-use mathlib.Core.List.{List}
-use lib.Dec.{eqb, leb, ltb}
-use lib.ListN.{length}
+use mathlib.Core.Path.{_≡_, refl}
+use mathlib.Core.Bool.{true, _&&_}
+use lib.Dec.{leb}
 use borrow.Author.Tests.{eq-eqb, lt-ltb, le-leb, leb-true}
 use Rattle.cases.proofs.Cases.{and-left, and-right, by-cond}
-use Rattle.frame.specs.Frame.{made, dataOf}
 use Rattle.registers.specs.declared.Registers.{Registers}
 use Rattle.registers.specs.Fit.{registersFit}
-use Rattle.registers.specs.Table.{startRegisters}
 use Rattle.registers.proofs.Fits.{fit-start}
 use Rattle.role.specs.declared.Role.{Role}
 use Rattle.role.specs.declared.Order.{Order}
@@ -24,12 +20,11 @@ use Rattle.role.proofs.ReadyLaws.{assigned-fit}
 use Rattle.store.specs.declared.Ring.{Ring}
 use Rattle.store.specs.Ring as store-ring
 use Rattle.store.specs.Ring.{emptyRing}
-use Rattle.store.proofs.Laws as store-laws
 use Rattle.state.specs.declared.State.{State}
 use Rattle.state.specs.declared.Under.{Under}
 use Rattle.state.specs.State.{withRegisters, withRole, withUnder, withRx, withTx, noFrame}
 use Rattle.state.specs.Sizes.{sizesObeyed, startState, fits}
-use Rattle.state.proofs.Fits.{Tests, tests}
+use Rattle.state.proofs.Fits.{Tests}
 use Rattle.loops.specs.Sending.{talking}
 use Rattle.loops.specs.Frames.{forgotten, cleared, obeyed}
 

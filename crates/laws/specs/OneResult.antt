@@ -4,7 +4,7 @@ use Prim.Native.Nat.{ℕ}
 use mathlib.Core.Path.{_≡_}
 use mathlib.Core.List.{List}
 use Rattle.state.specs.declared.Outcome.{Outcome}
-use Rattle.bridge.specs.Calls.{Call, show, World, world, did, handed, step, Created}
+use Rattle.bridge.specs.Calls.{Call, show, World, did, handed, step, Created}
 
 -- two results are the same
 pub record Same (o₁ o₂ : Outcome) (rx₁ rx₂ tx₁ tx₂ : List ℕ) : Type 0 where

@@ -4,7 +4,6 @@ use mathlib.Core.Path.{_≡_, refl, ap}
 use mathlib.Core.Bool.{Bool, true, false, cond, _&&_, _||_, not}
 use mathlib.Core.List.{List, [], _∷_}
 use lib.Dec.{eqb, leb}
-use Rattle.role.proofs.FitLaws as role-laws
 use Rattle.runs.proofs.Refusals.{or-refused, frame-fits}
 use Rattle.registers.specs.Meanings.{protocolOn, stop}
 use Rattle.registers.specs.Writing.{written}

@@ -7,8 +7,6 @@ use mathlib.Core.List.{List, []}
 use borrow.Author.Tests.{eqb-true, le-ltb}
 use Rattle.cases.specs.Refusals.{firstRefusal}
 use Rattle.frame.specs.Frame.{controlOf}
-use Rattle.role.specs.Fit as role-fit
-use Rattle.role.proofs.FitLaws as role-laws
 use Rattle.state.specs.declared.Outcome.{Outcome}
 use Rattle.state.specs.declared.Answer.the-variants.{Frame}
 use Rattle.state.specs.Answers.{Said, said}

@@ -4,7 +4,7 @@ use mathlib.Core.Path.{_≡_, refl, sym, subst}
 use mathlib.Core.Bool.{Bool, true, false, cond}
 use mathlib.Core.List.{List, []}
 use Rattle.store.specs.Ring.{full}
-use Rattle.state.specs.Answers.{Said, said}
+use Rattle.state.specs.Answers.{Said}
 use Rattle.bridge.specs.Calls.{Call, World, Did}
 use Rattle.runs.specs.Observers.{arrived, accepted, lost, sent, left, handedOut}
 use Rattle.runs.specs.Run.{changes, empties, startsAnew}

@@ -24,7 +24,7 @@ use Rattle.loops.specs.Frames.{command, readied, ready, returned, dataPassed, i
 use Rattle.bridge.specs.Calls.{create, reset, write, lineByte, lineBreak, key, nextLineByte, loopFrame, show, World, Did, checks, outcome, refusedOr, step}
 use Rattle.bridge.specs.Calls as calls
 use Rattle.runs.specs.Observers.{taken, isFrame}
-use Rattle.runs.specs.Run.{answer, after}
+use Rattle.runs.specs.Run.{after}
 use Rattle.runs.specs.Demands.{RefusedStays, OneFrameOut}
 use Rattle.runs.proofs.Refusals.{or-refused, if-taken}
 
