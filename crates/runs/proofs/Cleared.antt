@@ -21,11 +21,13 @@ use Rattle.state.specs.declared.Notes.{Notes}
 use Rattle.state.specs.declared.Outcome.{Outcome}
 use Rattle.state.specs.declared.Out.{Out}
 use Rattle.state.specs.declared.Out.the-variants as out
+use Rattle.state.specs.declared.Answer.the-variants.{Frame}
 use Rattle.state.specs.Answers.{Said, said, done, refused}
 use Rattle.state.specs.Sizes.{startState}
 use Rattle.state.specs.Status.{settled, breakState, keyState, statusOf}
 use Rattle.state.specs.Status as status
 use Rattle.line.specs.HoldingOff.{isGoOrStop, flowed, lostState, storedWith, storedState, lineState, setAfresh, afterWrite, nextOut, goneState}
+use Rattle.loops.specs.LoopToLine.{leftState}
 use Rattle.loops.specs.Sending.{sendStatus, talking, ended}
 use Rattle.loops.specs.Frames.{cleared, returned, frameTaken, deviceClear}
 use Rattle.bridge.specs.Calls.{Call, create, reset, write, lineByte, lineBreak, key, nextLineByte, loopFrame, show, World, Did, checks, outcome, settledBy, refusedOr, step}
@@ -41,7 +43,7 @@ use Rattle.runs.proofs.Bits.{event-shown}
 use Rattle.runs.proofs.Answered.{status-small, status-frame}
 use Rattle.runs.proofs.Runs.{first-not}
 use Rattle.runs.proofs.Refused.{frame-answers, frame-taken}
-use Rattle.runs.proofs.FrameKinds.{Kind, isSent, isStatus, isBack, isCleared, isOther, sends-status, send-notes, kind-of}
+use Rattle.runs.proofs.FrameKinds.{Kind, isSent, isStatus, isBack, isCleared, isKept, isOther, sends-status, send-notes, kind-of}
 use Rattle.runs.proofs.Refusals.{or-refused, frame-fits}
 
 -- ---- what is noted of an event
@@ -141,7 +143,7 @@ module _ (e : Event) (w : World) (f : ℕ) where
   still-way a t n = (λ i. sym (frame-taken a t) i && (isData f || eqb (controlOf f) 4)) ∙ n
 
   frame-noted : (o : Outcome) → Kind (w .state) (w .rx) f o → isFrame (said (o .answer)) ≡ true → FrameNoted o
-  unfolding sendStatus ended talking cleared status.statusSent status.statusBack endsWay said
+  unfolding sendStatus ended talking cleared leftState status.statusSent status.statusBack endsWay said
   frame-noted o (isSent m) t =
       left e (loopFrame f) w _ _ (no-empties _ (m .clear)) (λ h. ap (λ (n : Notes). noted e (n .seen)) (send-notes (w .state) (w .rx) f) ∙ h)
       (λ _ k. absurd (false≢true (sym (busy-talking (w .state) f k .0) ∙ m .send)))
@@ -152,10 +154,12 @@ module _ (e : Event) (w : World) (f : ℕ) where
       left e (loopFrame f) w _ _ (no-empties _ (m .clear)) (never-noted (w .state .notes .seen) (w .state .notes .again) (dataOf (w .state .under .frame)) e)
       (λ n _. absurd (false≢true (sym n ∙ (λ i. d i || eqb (controlOf f) 4))))
   frame-noted o (isCleared m c) t = begun e (loopFrame f) w _ _ (or-true (isData f) _ c) (none-noted e)
-  frame-noted o (isOther q p m x) t =
+  frame-noted o (isKept m d l) t =
+      left e (loopFrame f) w _ _ (no-empties _ (m .clear)) (λ h. h) (λ n _. absurd (false≢true (sym n ∙ (λ i. d i || eqb (controlOf f) 4))))
+  frame-noted o (isOther u k p m x) t =
       left e (loopFrame f) w _ _ (no-empties _ (m .clear)) (λ h. ap (λ (n : Notes). noted e (n .seen)) (x .notes) ∙ h)
       (λ n _.
-      let y = x .way (still-way (said (q .answer)) t n) in
+      let y = x .way (still-way (said (Frame k)) t n) in
       record {
         talker = y .0;
         frame = y .1;

@@ -21,6 +21,7 @@ use Rattle.state.specs.Sizes.{startState}
 use Rattle.state.specs.Status.{settled, breakState, keyState}
 use Rattle.state.specs.Status as state-status
 use Rattle.line.specs.HoldingOff.{isGoOrStop, flowed, free, lostState, storedWith, storedState, lineState, lineBytes, resumed, setAfresh, afterWrite, nextOut, goneState, outAnswer}
+use Rattle.loops.specs.LoopToLine.{leftState}
 use Rattle.loops.specs.Sending.{ruleOf, removedState, sendState, sendFrom, sendStatus, talking, ended}
 use Rattle.loops.specs.Frames.{cleared, frameTaken, deviceClear}
 use Rattle.bridge.specs.Calls.{Call, create, reset, write, lineByte, lineBreak, key, nextLineByte, loopFrame, show, World, Did, outcome, settledBy, rxAfter, txAfter, refusedOr, step}
@@ -34,7 +35,7 @@ use Rattle.runs.specs.NextByte.{afterByte, forbiddenAfter, ForbiddenGoes
 use Rattle.runs.proofs.Refused.{frame-answers, frame-taken}
 use Rattle.runs.proofs.Shapes.{Fits}
 use Rattle.runs.proofs.Quiet.{same-either}
-use Rattle.runs.proofs.FrameKinds.{Kind, isSent, isStatus, isBack, isCleared, isOther, kind-of}
+use Rattle.runs.proofs.FrameKinds.{Kind, isSent, isStatus, isBack, isCleared, isKept, isOther, kind-of}
 
 none-any : (t : Bool) → any (cond t [] []) ≡ false
 none-any t = ap any (same-either t)
@@ -149,12 +150,13 @@ module _ (s : State) (rx : List ℕ) (f : ℕ) where
       go (one g r) = record { holding = refl; forbidden = refl }
 
   by-kind : (o : Outcome) → Kind s rx f o → Framed (isDeviceClear s f) (isSend s f) (o .state)
-  unfolding sendStatus ended talking cleared state-status.statusSent state-status.statusBack
+  unfolding sendStatus ended talking cleared leftState state-status.statusSent state-status.statusBack
   by-kind o (isSent m) = rw (m .clear, m .send) send-framed
   by-kind o (isStatus m) = rw (m .clear, m .send) (record { holding = refl; forbidden = refl })
   by-kind o (isBack m d) = rw (m .clear, m .send) (record { holding = refl; forbidden = refl })
   by-kind o (isCleared m c) = rw (m .clear, m .send) (record { holding = refl; forbidden = refl })
-  by-kind o (isOther q p m x) = rw (m .clear, m .send) (record { holding = ap (λ (l : Line). l .holding) (x .line); forbidden = ap (λ (l : Line). l .forbidden) (x .line) })
+  by-kind o (isKept m d l) = rw (m .clear, m .send) (record { holding = refl; forbidden = refl })
+  by-kind o (isOther t n p m x) = rw (m .clear, m .send) (record { holding = ap (λ (l : Line). l .holding) (x .line); forbidden = ap (λ (l : Line). l .forbidden) (x .line) })
 
   settled-framed : (x y t : Bool) (u : State) → Framed x y u → Framed x y (cond t u (settled s u))
   unfolding settled

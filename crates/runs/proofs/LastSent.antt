@@ -26,6 +26,7 @@ use Rattle.state.specs.Status.{settled, breakState, keyState}
 use Rattle.state.specs.Status as status
 use Rattle.state.proofs.Fits.{tests}
 use Rattle.line.specs.HoldingOff.{isGoOrStop, flowed, lostState, storedWith, lineState, resumed, setAfresh, afterWrite, owed, nextOut, goneState, outAnswer}
+use Rattle.loops.specs.LoopToLine.{leftState}
 use Rattle.loops.specs.Sending.{ruleOf, removedState, sendState, sendFrom, sendStatus, talking, ended}
 use Rattle.loops.specs.Frames.{obeyed, cleared, deviceClear}
 use Rattle.bridge.specs.Calls.{Call, create, reset, write, lineByte, lineBreak, key, nextLineByte, loopFrame, show, World, Did, outcome, settledBy, refusedOr, step}
@@ -34,7 +35,7 @@ use Rattle.runs.specs.Observers.{restarts}
 use Rattle.runs.specs.Run.{answer, after, end, Without, startsAnew}
 use Rattle.runs.specs.LastSent.{afterOwn, lastOf, lastSent, recorded, LastKept, LastSince}
 use Rattle.runs.proofs.Shapes.{Fits}
-use Rattle.runs.proofs.FrameKinds.{Kind, isSent, isStatus, isBack, isCleared, isOther, kind-of}
+use Rattle.runs.proofs.FrameKinds.{Kind, isSent, isStatus, isBack, isCleared, isKept, isOther, kind-of}
 use Rattle.runs.proofs.Refusals.{or-refused, next-fits, frame-fits}
 use Rattle.runs.proofs.Runs.{first-not}
 
@@ -62,12 +63,13 @@ module _ (s : State) (rx : List ℕ) (f : ℕ) where
       go (given.One x) = refl
 
   frame-same : (o : Outcome) → Kind s rx f o → Same s (o .state)
-  unfolding sendStatus ended talking cleared obeyed status.statusSent status.statusBack
+  unfolding sendStatus ended talking cleared obeyed leftState status.statusSent status.statusBack
   frame-same o (isSent m) = send-same
   frame-same o (isStatus m) = refl
   frame-same o (isBack m d) = refl
   frame-same o (isCleared m c) = refl
-  frame-same o (isOther q p m x) = ap (λ (l : Line). l .stopped) (x .line)
+  frame-same o (isKept m d l) = refl
+  frame-same o (isOther t n p m x) = ap (λ (l : Line). l .stopped) (x .line)
 
   settled-same : (t : Bool) (u : State) → Same s u → Same s (cond t u (settled s u))
   unfolding settled

@@ -1,14 +1,14 @@
--- `Shapes` names the kinds of change of the stores, `View` finds the kind of every call, with its parts `Quiet`, `LineView` and `FrameView`;
--- `FrameKinds` does the same for what a frame does to the line, the notes and the frame under way, and `StatusView` for the status byte.
--- They are all that knows the conditions of a step. `Refusals` takes what holds of a call that is not refused to the call. Then each
--- statement by the kinds: `FramesRead`, `Events` and `Margin` are demand 3.
+-- `FrameKinds` finds what a loop frame does. `Shapes` names the kinds of change of the stores, `View` finds the kind of every call, with its
+-- parts `Quiet`, `LineView` and `FrameView`; `StatusView` does the same for the status byte. They are all that knows the conditions of a
+-- step. `Refusals` takes what holds of a call that is not refused to the call. Then each statement by the kinds: `FramesRead`, `Events` and
+-- `Margin` are demand 3.
 pub mod Answered
 pub mod Shapes
 pub mod Refusals
 pub mod Quiet
 pub mod LineView
-pub mod FrameView
 pub mod FrameKinds
+pub mod FrameView
 pub mod View
 pub mod Bytes
 pub mod Sends

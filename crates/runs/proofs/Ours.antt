@@ -15,7 +15,7 @@ use Rattle.bridge.specs.Calls.{create, reset, write, lineByte, lineBreak, key, 
 use Rattle.bridge.specs.Calls as calls
 use Rattle.runs.specs.Observers.{dataFrame, asksStatus, isSend, passesOn, sent}
 use Rattle.runs.specs.SendRule.{ours, OursAreSent}
-use Rattle.runs.proofs.FrameKinds.{Kind, isSent, isStatus, isBack, isCleared, isOther, no-data, kind-of}
+use Rattle.runs.proofs.FrameKinds.{Kind, isSent, isStatus, isBack, isCleared, isKept, isOther, no-data, kind-of}
 use Rattle.runs.proofs.Refusals.{or-refused, frame-fits}
 
 no-either : (t u : Bool) → _≡_ {A = List ℕ} (cond t [] []) (cond u [] [])
@@ -38,8 +38,9 @@ module _ (w : World) (f : ℕ) where
   same-kind o (isStatus m) = rw (m .passes, m .status, m .send)
   same-kind o (isBack m d) = rw (m .passes, m .status, m .send)
   same-kind o (isCleared m c) = unseen (said (Frame f)) (no-data f (le-ltb (controlOf f) 4 (omega (arith, eqb-true (controlOf f) 4 c))))
-  same-kind o (isOther q true m x) = rw (m .passes, m .send)
-  same-kind o (isOther q false m x) = unseen (said (q .answer)) (x .answer refl)
+  same-kind o (isKept m d l) = rw (m .passes, m .send)
+  same-kind o (isOther t n true m x) = rw (m .passes, m .send)
+  same-kind o (isOther t n false m x) = unseen (said (Frame n)) (no-data n (x .answer refl))
 
 pub ours-are-sent : OursAreSent
 unfolding ours sent step calls.notRefused outcome

@@ -46,7 +46,7 @@ use Rattle.runs.proofs.Refusals.{or-refused}
 use Rattle.runs.proofs.Quiet.{same-either}
 use Rattle.runs.proofs.Answered.{status-frame}
 use Rattle.laws.proofs.FramePlaces.{clear-order}
-use Rattle.runs.proofs.FrameView.{address-high}
+use Rattle.runs.proofs.FrameKinds.{address-high}
 
 -- the part of a state that this is about
 pub record Part : Type 0 where
