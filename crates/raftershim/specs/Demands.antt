@@ -25,6 +25,7 @@ pub record Run (leftOut : Call → World → Said → Bool) (cs : List Call) (l 
   pub start : Whole l
   -- line bytes are bytes
   pub calls : allByteCalls cs ≡ true
+  -- no call of that kind
   pub without : cSome leftOut cs l ≡ false
 
 -- "The data frames sent from the receive store, followed by those the reading rule gives for the bytes still held, are those it gives for

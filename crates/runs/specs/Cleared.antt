@@ -17,6 +17,7 @@ EventsClear =
     (r : ℕ) → statusBack (g ∷ []) (loopFrame r) (answer (loopFrame r) (end cs (after (loopFrame f) w))) ≡ true →
     bitOf e (after (loopFrame r) (end cs (after (loopFrame f) w))) ≡ false
 
+-- no bit comes to be set in a run in which the thing does not happen
 abbrev pub NoneInvented : Type 0
 NoneInvented = (e : Event) (cs : List Call) (w : World) → bitOf e w ≡ false → Without (happens e) cs w → bitOf e (end cs w) ≡ false
 

@@ -39,5 +39,6 @@ holdingAfter c w a v =
     (cond (writesR11 c a) (protocolOn (v .state .regs) && leb (free (w .state)) (w .state .sizes .margin))
     (holdsOff w))))
 
+-- of every call, in every world
 abbrev pub HoldingGoes : Type 0
 HoldingGoes = (c : Call) (w : World) → holdsOff (after c w) ≡ holdingAfter c w (answer c w) (after c w)

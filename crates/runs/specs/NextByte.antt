@@ -38,6 +38,7 @@ forbiddenAfter c w a =
     (cond (writesR11 c a) false
     (afterByte (forbidden w) c w a))
 
+-- of every call, in every world
 abbrev pub ForbiddenGoes : Type 0
 ForbiddenGoes = (c : Call) (w : World) → forbidden (after c w) ≡ forbiddenAfter c w (answer c w)
 
@@ -56,5 +57,6 @@ nextGiven w =
     (cond (forbidden w) none
     (oldestOf (heldForLine w)))
 
+-- in every world in which it is not refused
 abbrev pub NextGiven : Type 0
 NextGiven = (w : World) → taken (answer nextLineByte w) ≡ true → answer nextLineByte w ≡ nextGiven w

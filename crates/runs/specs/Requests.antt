@@ -8,9 +8,11 @@ use Rattle.runs.specs.Observers.{statusSent}
 use Rattle.runs.specs.Run.{answer, after, empties}
 use Rattle.runs.specs.Events.{any}
 
+-- a request has begun and not ended, whether it shows or not
 abbrev pub requested : World → Bool
 requested w = w .state .notes .request
 
+-- the request over a call
 pub record RequestRight (c : Call) (w : World) : Type 0 where
   -- "A device clear leaves no request.", nor does a create or reset
   pub starts : empties c w (answer c w) ≡ true → requested (after c w) ≡ false
@@ -19,5 +21,6 @@ pub record RequestRight (c : Call) (w : World) : Type 0 where
   pub goes : empties c w (answer c w) ≡ false →
       requested (after c w) ≡ ((requested w && not (any (statusSent c w (answer c w)))) || status.begins (asking (w .state)) (asking (after c w .state)))
 
+-- of every call, in every world
 abbrev pub RequestsGo : Type 0
 RequestsGo = (c : Call) (w : World) → RequestRight c w
