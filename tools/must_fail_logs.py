@@ -19,7 +19,7 @@ UNFIT = re.compile(
 ERROR = re.compile(r"error:|it is not proved that")
 IN_FUNCTION = re.compile(r"/proofs/(?:\w+/)?(\w+)/\w+\.antt:\d+:\d+: error:")
 IN_LAW = re.compile(r"/proofs/(\w+\.antt):\d+:\d+: error: `([^`]+)`")
-IN_CODE = re.compile(r"/src/(\w+\.rt):(\d+):\d+: it is not proved that")
+IN_CODE = re.compile(r"/src/(\w+\.rt):(\d+):(\d+): it is not proved that")
 PUBLIC = re.compile(r"^pub (?:extern \"C\" )?fn (\w+)", re.M)
 LAWS = re.compile(r"`crates/(\w+)/proofs/(\w+\.antt)`((?:,? `[\w-]+`)+)")
 
@@ -41,16 +41,25 @@ def first_error(text):
     return ""
 
 
-def function_at(path, line):
-    """The function of a source file that this line belongs to."""
-    above = "".join(open(path, encoding="utf-8").readlines()[:line])
-    return re.findall(r"\bfn (\w+)", above)[-1]
+def function_at(path, line, column):
+    """The function of a source file that this place belongs to, or that begins there with its attributes."""
+    lines = open(path, encoding="utf-8").readlines()
+    if column == 1:
+        return re.search(r"\bfn (\w+)", "".join(lines[line - 1 :])).group(1)
+    return re.findall(r"\bfn (\w+)", "".join(lines[:line]))[-1]
+
+
+def is_public(path):
+    """Whether other crates can name what a source file declares: its crate's root, and the modules that the root makes public."""
+    folder, module = os.path.dirname(path), os.path.splitext(os.path.basename(path))[0]
+    root = os.path.join(folder, "lib.rt")
+    return path == root or os.path.exists(root) and f"pub mod {module};" in open(root, encoding="utf-8").read()
 
 
 def promises():
     """Public functions and named laws, each with the number of edits that break it, 0 to begin with."""
     counts = {}
-    for path in sorted(glob.glob("crates/*/src/*.rt")):
+    for path in filter(is_public, sorted(glob.glob("crates/*/src/*.rt"))):
         for name in PUBLIC.findall(open(path, encoding="utf-8").read()):
             counts[path.split(os.sep)[1], name] = 0
     for crate, _, names in LAWS.findall(open("docs/PROMISES.md", encoding="utf-8").read()):
@@ -63,7 +72,7 @@ def broken(crate, text):
     """The functions and laws of a crate whose proofs a log refuses."""
     names = {name for line in text.split("\n") for name in IN_FUNCTION.findall(line)}
     names |= {name for _, name in IN_LAW.findall(text)}
-    return names | {function_at(f"crates/{crate}/src/{file}", int(line)) for file, line in IN_CODE.findall(text)}
+    return names | {function_at(f"crates/{crate}/src/{file}", int(line), int(column)) for file, line, column in IN_CODE.findall(text)}
 
 
 def main():
