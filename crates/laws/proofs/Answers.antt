@@ -135,10 +135,10 @@ module _ (c : Call) (w : World) (k : Numbered c w) where
       rw (k .number)
       (by-cond (λ (d : Did). canAnswer c (d .said) ≡ true) (eqb (firstRefusal (checks c w)) 0) _ _ (λ _. k .answer) (λ _. k .refusal (firstRefusal (checks c w))))
 
-  refuses-number : (n : ℕ) → Refuses (refusedOr n (notRefused c w) w) n w
+  refuses-number : (n : ℕ) → Refuses (refusedOr n (notRefused c w) w .said) (refusedOr n (notRefused c w) w .world) n w
   unfolding refusedOr
   refuses-number n =
-      by-cond (λ (d : Did). Refuses d n w) (eqb n 0) _ _
+      by-cond (λ (d : Did). Refuses (d .said) (d .world) n w) (eqb n 0) _ _
       (λ e. record {
         when = λ m h. absurd (false≢true (sym (k .taken) ∙ ap isRefusal h));
         given = λ h. absurd (h (eqb-true n 0 e));
@@ -147,13 +147,13 @@ module _ (c : Call) (w : World) (k : Numbered c w) where
       })
       (λ e. record { when = λ m h. cc; given = λ h. refl; accepts = λ h. absurd (eqb-false n 0 e h); leaves = λ h. refl })
 
-  refuses-so : Refuses (step c w) (firstRefusal (checks c w)) w
-  refuses-so = subst (λ (d : Did). Refuses d (firstRefusal (checks c w)) w) (sym (k .number)) (refuses-number (firstRefusal (checks c w)))
+  refuses-so : Refuses (step c w .said) (step c w .world) (firstRefusal (checks c w)) w
+  refuses-so = subst (λ (d : Did). Refuses (d .said) (d .world) (firstRefusal (checks c w)) w) (sym (k .number)) (refuses-number (firstRefusal (checks c w)))
 
 pub calls-answer-so : CallsAnswerSo
 calls-answer-so c w = each-call (λ (d : Call). canAnswer d (step d w .said) ≡ true) w (λ d k. answers-so d w k) (λ side. unfold step in refl) c
 
 pub refused-exactly : RefusedExactly
 refused-exactly c w =
-    each-call (λ (d : Call). Refuses (step d w) (firstRefusal (checks d w)) w) w (λ d k. refuses-so d w k)
+    each-call (λ (d : Call). Refuses (step d w .said) (step d w .world) (firstRefusal (checks d w)) w) w (λ d k. refuses-so d w k)
     (λ side. unfold step checks in record { when = λ m h. cc; given = λ h. absurd (h refl); accepts = λ h. refl; leaves = λ h. refl }) c

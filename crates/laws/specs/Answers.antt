@@ -4,7 +4,7 @@ use mathlib.Core.Path.{_≡_}
 use mathlib.Core.Bool.{Bool, true, false}
 use Rattle.cases.specs.Refusals.{firstRefusal}
 use Rattle.state.specs.Answers.{Said, done, none, byte, frame, refused, part}
-use Rattle.bridge.specs.Calls.{Call, create, reset, write, lineByte, lineBreak, key, nextLineByte, loopFrame, show, World, Did, checks, step}
+use Rattle.bridge.specs.Calls.{Call, create, reset, write, lineByte, lineBreak, key, nextLineByte, loopFrame, show, World, checks, step}
 
 -- a refusal
 abbrev pub isRefusal : Said → Bool
@@ -67,16 +67,17 @@ canAnswer (show side) x = isPart x
 abbrev pub CallsAnswerSo : Type 0
 CallsAnswerSo = (c : Call) (w : World) → canAnswer c (step c w .said) ≡ true
 
--- what a call did, d, in the world w, where n is the number of the first of its checks that is given, 0 where none is
-pub record Refuses (d : Did) (n : ℕ) (w : World) : Type 0 where
+-- a call on x answered a and left y, where n is the number of the first of its checks that is given, 0 where none is: x and y are worlds,
+-- or the buffers lent to a C function
+pub record Refuses {X : Type 0} (a : Said) (y : X) (n : ℕ) (x : X) : Type 0 where
   -- "Given exactly when"
-  pub when : (m : ℕ) → d .said ≡ refused m → n ≡ m
-  pub given : (n ≡ 0 → ⊥) → d .said ≡ refused n
+  pub when : (m : ℕ) → a ≡ refused m → n ≡ m
+  pub given : (n ≡ 0 → ⊥) → a ≡ refused n
   -- and no refusal, nor one with the number 0, where none of its checks is given
-  pub accepts : n ≡ 0 → isRefusal (d .said) ≡ false
+  pub accepts : n ≡ 0 → isRefusal a ≡ false
   -- "Each returns its number alone; state and stores stay as they were"
-  pub leaves : isRefusal (d .said) ≡ true → d .world ≡ w
+  pub leaves : isRefusal a ≡ true → y ≡ x
 
 -- "Given exactly when": every call, in every world, refuses by the first of its checks that is given, and only then
 abbrev pub RefusedExactly : Type 0
-RefusedExactly = (c : Call) (w : World) → Refuses (step c w) (firstRefusal (checks c w)) w
+RefusedExactly = (c : Call) (w : World) → Refuses (step c w .said) (step c w .world) (firstRefusal (checks c w)) w

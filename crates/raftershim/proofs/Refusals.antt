@@ -15,13 +15,13 @@ use Rattle.block.specs.Packed.{blockLen}
 use Rattle.block.specs.States.{isState, fittingBlock}
 use Rattle.block.proofs.Laws.{meaning-fits}
 use Rattle.bridge.specs.Calls.{Call, create, reset, write, lineByte, lineBreak, key, nextLineByte, loopFrame, show, World, checks, step}
-use Rattle.laws.specs.Answers.{isRefusal}
+use Rattle.laws.specs.Answers.{isRefusal, Refuses}
 use Rattle.laws.proofs.Answers.{refused-exactly}
 use Rattle.raftershim.specs.Word.{word, kindOf, valueOf}
 use Rattle.raftershim.specs.Calls.{Lent, Returned, opened, cStep, needsState}
 use Rattle.raftershim.specs.Told.{told, saidBy, toldPart, cAnswer}
 use Rattle.raftershim.specs.Laws.{refusedBy}
-use Rattle.raftershim.specs.Refusals.{cChecks, RefusesInC, RefusedExactlyInC}
+use Rattle.raftershim.specs.Refusals.{cChecks, RefusedExactlyInC}
 use Rattle.raftershim.proofs.Laws.{by-kind, misfit-refused, wrong-block-refused}
 use Rattle.raftershim.proofs.Told.{answers-told, refusal-keeps-all}
 
@@ -61,7 +61,7 @@ told-two : told (word (refused 2)) ≡ refused 2
 told-two = unfold told word kindOf valueOf saidBy in refl
 
 -- a call that is refused by the first of its checks
-refuses : (a : Said) (k : Lent) (n : ℕ) (l : Lent) → (n ≡ 0 → ⊥) → a ≡ refused n → k ≡ l → RefusesInC a k n l
+refuses : (a : Said) (k : Lent) (n : ℕ) (l : Lent) → (n ≡ 0 → ⊥) → a ≡ refused n → k ≡ l → Refuses a k n l
 refuses a k n l z e h =
     record {
       when = λ m q. let r : refused n ≡ refused m = sym e ∙ q in cc;
@@ -76,7 +76,7 @@ module _ (l : Lent) (e : eqb (length (l .block)) blockLen ≡ false) where
   misfits = rw e
 
   abbrev Right : Call → Type 0
-  Right c = RefusesInC (cAnswer c l) (cStep c l .lent) (firstRefusal (cChecks c l)) l
+  Right c = Refuses (cAnswer c l) (cStep c l .lent) (firstRefusal (cChecks c l)) l
 
   creating : (m : ℕ) → Right (create m)
   unfolding cAnswer cChecks
@@ -84,7 +84,7 @@ module _ (l : Lent) (e : eqb (length (l .block)) blockLen ≡ false) where
       let r : cStep (create m) l ≡ refusedBy 1 l = wrong-block-refused m l e in
       let t : Bool = sizesObeyed m (length (l .rx)) (length (l .tx)) in
       let n : firstRefusal (cChecks (create m) l) ≡ 1 = ap (λ (b : Bool). firstRefusal (check 1 (not t || not b) ∷ [])) e ∙ either t in
-      subst (λ (k : ℕ). RefusesInC (cAnswer (create m) l) (cStep (create m) l .lent) k l) (sym n)
+      subst (λ (k : ℕ). Refuses (cAnswer (create m) l) (cStep (create m) l .lent) k l) (sym n)
       (refuses _ _ 1 l (λ z. omega arith) (ap (λ (x : Returned). told (x .word)) r ∙ told-one) (ap (λ (x : Returned). x .lent) r))
     where
       either : (t : Bool) → firstRefusal (check 1 (not t || true) ∷ []) ≡ 1
@@ -99,7 +99,7 @@ module _ (l : Lent) (e : eqb (length (l .block)) blockLen ≡ false) where
   unfolding cAnswer cChecks needsState
   calling c n =
       let r : cStep c l ≡ refusedBy 2 l = misfit-refused c l n misfits in
-      subst (λ (k : ℕ). RefusesInC (cAnswer c l) (cStep c l .lent) k l) (sym (misfit-first c n))
+      subst (λ (k : ℕ). Refuses (cAnswer c l) (cStep c l .lent) k l) (sym (misfit-first c n))
       (refuses _ _ 2 l (λ z. omega arith) (by-number c n ∙ ap (λ (x : Returned). told (x .word)) r ∙ told-two) (ap (λ (x : Returned). x .lent) r))
     where
       by-number : (c : Call) → needsState c ≡ true → cAnswer c l ≡ told (cStep c l .word)
@@ -133,7 +133,7 @@ refused-exactly-in-c c l h = pick (eqb (length (l .block)) blockLen) refl
     w : World
     w = opened l
 
-    pick : (t : Bool) → eqb (length (l .block)) blockLen ≡ t → RefusesInC (cAnswer c l) (cStep c l .lent) (firstRefusal (cChecks c l)) l
+    pick : (t : Bool) → eqb (length (l .block)) blockLen ≡ t → Refuses (cAnswer c l) (cStep c l .lent) (firstRefusal (cChecks c l)) l
     pick false e = other-length l e c
     pick true e =
         let a : cAnswer c l ≡ step c w .said = answers-told c l (record { size = eqb-true (length (l .block)) blockLen e; bytes = h }) in

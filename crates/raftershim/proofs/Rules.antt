@@ -48,7 +48,7 @@ pub send-rule-in-c : SendRuleInC
 send-rule-in-c f l h t s =
     let a = answers-told (loopFrame f) l h in
     let u : taken (answer (loopFrame f) (opened l)) ≡ true = sym (ap taken a) ∙ t in
-    let r : SendsFirst f (opened l) = send-rule f (opened l) (taken-bytes f (opened l) (opened-typed l (h .bytes)) u) u s in
+    let r : SendsFirst f (opened l) (answer (loopFrame f) (opened l)) = send-rule f (opened l) (taken-bytes f (opened l) (opened-typed l (h .bytes)) u) u s in
     record { first = ap (sent (loopFrame f) (opened l)) a ∙ r .first; ends = λ e. a ∙ r .ends e }
 
 pub frames-since-in-c : FramesSinceInC

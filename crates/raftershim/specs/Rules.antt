@@ -4,14 +4,14 @@ use mathlib.Core.Path.{_≡_}
 use mathlib.Core.Bool.{true, false, cond}
 use mathlib.Core.List.{List, [], _∷_, _++_}
 use Rattle.registers.specs.Meanings.{go, stop}
-use Rattle.state.specs.Answers.{frame, byte}
+use Rattle.state.specs.Answers.{byte}
 use Rattle.bridge.specs.Calls.{Call, nextLineByte, loopFrame}
 use Rattle.runs.specs.Observers.{taken, isSend, sent, accepted, statusSent}
 use Rattle.runs.specs.Run.{changes, empties, startsAnew, holdsOff}
 use Rattle.runs.specs.StatusWay.{endsWay, statusBack}
 use Rattle.runs.specs.Events.{Event, bitOf, happens}
 use Rattle.runs.specs.LastSent.{isOwn}
-use Rattle.runs.specs.SendRule.{firstOf}
+use Rattle.runs.specs.SendRule.{SendsFirst}
 use Rattle.runs.specs.Worlds.{heldToSend, reading}
 use Rattle.raftershim.specs.Calls.{Lent, opened}
 use Rattle.raftershim.specs.Runs.{cEnd, cAfter, cThen, Whole}
@@ -20,14 +20,9 @@ use Rattle.raftershim.specs.Demands.{Run}
 
 -- ---- sending
 
--- "send the first frame, or 5,64 if the reading rule has none"; "equal gives the next frame, or 5,64 if none"
-pub record SendsFirstInC (f : ℕ) (l : Lent) : Type 0 where
-  pub first : sent (loopFrame f) (opened l) (cAnswer (loopFrame f) l) ≡ firstOf (reading (opened l) (heldToSend (opened l)))
-  pub ends : reading (opened l) (heldToSend (opened l)) ≡ [] → cAnswer (loopFrame f) l ≡ frame 5 64
-
 -- of every send: "the answer to ready 96 above, or to an equal return unless finishing or of status"
 abbrev pub SendRuleInC : Type 0
-SendRuleInC = (f : ℕ) (l : Lent) → Whole l → taken (cAnswer (loopFrame f) l) ≡ true → isSend (opened l .state) f ≡ true → SendsFirstInC f l
+SendRuleInC = (f : ℕ) (l : Lent) → Whole l → taken (cAnswer (loopFrame f) l) ≡ true → isSend (opened l .state) f ≡ true → SendsFirst f (opened l) (cAnswer (loopFrame f) l)
 
 -- "Both stores empty": since the last create, reset or device clear, the frames sent, followed by those of the bytes still held, are those
 -- of all accepted since, and of nothing that was held before

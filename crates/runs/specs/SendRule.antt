@@ -23,14 +23,14 @@ abbrev pub firstOf : List ℕ → List ℕ
 firstOf [] = []
 firstOf (f ∷ fs) = f ∷ []
 
--- "send the first frame, or 5,64 if the reading rule has none"; "equal gives the next frame, or 5,64 if none"
-pub record SendsFirst (f : ℕ) (w : World) : Type 0 where
-  pub first : sent (loopFrame f) w (answer (loopFrame f) w) ≡ firstOf (reading w (heldToSend w))
-  pub ends : reading w (heldToSend w) ≡ [] → answer (loopFrame f) w ≡ frame 5 64
+-- the frame f is answered by a: "send the first frame, or 5,64 if the reading rule has none"; "equal gives the next frame, or 5,64 if none"
+pub record SendsFirst (f : ℕ) (w : World) (a : Said) : Type 0 where
+  pub first : sent (loopFrame f) w a ≡ firstOf (reading w (heldToSend w))
+  pub ends : reading w (heldToSend w) ≡ [] → a ≡ frame 5 64
 
 -- of every send, "the answer to ready 96 above, or to an equal return unless finishing or of status", in every world; a byte is below 256
 abbrev pub SendRule : Type 0
-SendRule = (f : ℕ) (w : World) → AllBytes (heldToSend w) → taken (answer (loopFrame f) w) ≡ true → isSend (w .state) f ≡ true → SendsFirst f w
+SendRule = (f : ℕ) (w : World) → AllBytes (heldToSend w) → taken (answer (loopFrame f) w) ≡ true → isSend (w .state) f ≡ true → SendsFirst f w (answer (loopFrame f) w)
 
 -- ---- the receive store since it was emptied
 
