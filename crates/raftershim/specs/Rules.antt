@@ -1,13 +1,12 @@
 -- Rules of the paper that are more than demand 3, over C calls and runs of them.
 use Prim.Native.Nat.{ℕ}
 use mathlib.Core.Path.{_≡_}
-use mathlib.Core.Bool.{true, false, cond}
+use mathlib.Core.Bool.{true, false}
 use mathlib.Core.List.{List, [], _∷_, _++_}
-use Rattle.registers.specs.Meanings.{go, stop}
 use Rattle.state.specs.Answers.{byte}
 use Rattle.bridge.specs.Calls.{Call, nextLineByte, loopFrame}
-use Rattle.runs.specs.Observers.{taken, isSend, sent, accepted, statusSent}
-use Rattle.runs.specs.Run.{changes, empties, startsAnew, holdsOff}
+use Rattle.runs.specs.Observers.{taken, isSend, sent, accepted, statusSent, ownCharacter}
+use Rattle.runs.specs.Run.{changes, empties, startsAnew}
 use Rattle.runs.specs.StatusWay.{endsWay, statusBack}
 use Rattle.runs.specs.Events.{Event, bitOf, happens}
 use Rattle.runs.specs.LastSent.{isOwn}
@@ -56,5 +55,4 @@ abbrev pub OwnGivenInC : Type 0
 OwnGivenInC =
     (c : Call) (l : Lent) → Whole l → startsAnew c (opened l) (cAnswer c l) ≡ true → (cs : List Call) → Run startsAnew cs (cAfter c l) →
     taken (cAnswer nextLineByte (cThen c cs l)) ≡ true → isOwn (cLastSent false cs (cAfter c l)) (opened (cThen c cs l)) ≡ true →
-    cAnswer nextLineByte (cThen c cs l)
-    ≡ byte (cond (holdsOff (opened (cThen c cs l))) (stop (opened (cThen c cs l) .state .regs)) (go (opened (cThen c cs l) .state .regs)))
+    cAnswer nextLineByte (cThen c cs l) ≡ byte (ownCharacter (opened (cThen c cs l)))

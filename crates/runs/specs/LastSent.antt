@@ -4,12 +4,12 @@ use mathlib.Core.Path.{_≡_}
 use mathlib.Core.Bool.{Bool, true, false, cond}
 use mathlib.Core.List.{List, [], _∷_}
 use lib.Dec.{eqb}
-use Rattle.registers.specs.Meanings.{go, stop}
+use Rattle.registers.specs.Meanings.{stop}
 use Rattle.state.specs.Answers.{Said, byte}
 use Rattle.line.specs.HoldingOff.{owed}
 use Rattle.bridge.specs.Calls.{Call, create, reset, write, lineByte, lineBreak, key, nextLineByte, loopFrame, show, World}
-use Rattle.runs.specs.Observers.{taken, lineByteOf}
-use Rattle.runs.specs.Run.{answer, after, end, Without, startsAnew, holdsOff}
+use Rattle.runs.specs.Observers.{taken, lineByteOf, ownCharacter}
+use Rattle.runs.specs.Run.{answer, after, end, Without, startsAnew}
 
 -- ---- here k is whether the last of go and stop we sent was stop
 
@@ -64,5 +64,4 @@ OwnGiven =
     (c : Call) (w : World) → startsAnew c w (answer c w) ≡ true → (cs : List Call) → Without startsAnew cs (after c w) →
     taken (answer nextLineByte (end cs (after c w))) ≡ true →
     isOwn (lastSent false cs (after c w)) (end cs (after c w)) ≡ true →
-    answer nextLineByte (end cs (after c w))
-    ≡ byte (cond (holdsOff (end cs (after c w))) (stop (end cs (after c w) .state .regs)) (go (end cs (after c w) .state .regs)))
+    answer nextLineByte (end cs (after c w)) ≡ byte (ownCharacter (end cs (after c w)))

@@ -4,12 +4,12 @@ use lib.Dec.{eqb}
 use mathlib.Core.Path.{_≡_}
 use mathlib.Core.Bool.{Bool, true, false, cond, _&&_}
 use mathlib.Core.List.{List, [], _∷_}
-use Rattle.registers.specs.Meanings.{go, stop}
+use Rattle.registers.specs.Meanings.{stop}
 use Rattle.state.specs.Answers.{Said, none, byte}
 use Rattle.line.specs.HoldingOff.{isGoOrStop, owed}
 use Rattle.bridge.specs.Calls.{Call, create, reset, write, lineByte, lineBreak, key, nextLineByte, loopFrame, show, World}
-use Rattle.runs.specs.Observers.{taken}
-use Rattle.runs.specs.Run.{answer, after, empties, holdsOff}
+use Rattle.runs.specs.Observers.{taken, ownCharacter}
+use Rattle.runs.specs.Run.{answer, after, empties}
 use Rattle.runs.specs.Worlds.{heldForLine}
 use Rattle.runs.specs.Holding.{writesR11}
 
@@ -52,7 +52,7 @@ unfoldable pub nextGiven : World → Said
 nextGiven w =
     -- "If the last of go and stop we sent .. differs from what holds, the next line byte is that character, before all else, also with the
     -- protocol since off or our sending forbidden."
-    cond (owed (w .state .line)) (byte (cond (holdsOff w) (stop (w .state .regs)) (go (w .state .regs))))
+    cond (owed (w .state .line)) (byte (ownCharacter w))
     -- "it permits or forbids our sending"
     (cond (forbidden w) none
     (oldestOf (heldForLine w)))

@@ -125,6 +125,10 @@ statusSent c w a = onFrame (λ f. cond (asksStatus (w .state) f) (dataFrame a) [
 unfoldable pub left : Call → World → Said → List ℕ
 left c w a = onFrame (λ f. cond (taken a && (isData f && w .state .role .listener)) (adds (w .state .regs) f) []) [] c
 
+-- "that character", which is owed "If the last of go and stop we sent .. differs from what holds": stop where the line is held off, else go
+abbrev pub ownCharacter : World → ℕ
+ownCharacter w = cond (w .state .line .holding) (stop (w .state .regs)) (go (w .state .regs))
+
 -- without our own character, the one that is owed
 abbrev pub others : ℕ → List ℕ → List ℕ
 others x [] = []
@@ -134,7 +138,7 @@ others x (b ∷ bs) = cond (eqb b x) bs (b ∷ bs)
 -- and it "is that character"; any other byte that is answered there is handed out
 unfoldable pub handedOut : Call → World → Said → List ℕ
 handedOut nextLineByte w a =
-    cond (owed (w .state .line)) (others (cond (w .state .line .holding) (stop (w .state .regs)) (go (w .state .regs))) (lineByteOf a)) (lineByteOf a)
+    cond (owed (w .state .line)) (others (ownCharacter w) (lineByteOf a)) (lineByteOf a)
 handedOut (create m) w a = []
 handedOut reset w a = []
 handedOut (write n v) w a = []
