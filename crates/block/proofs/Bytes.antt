@@ -8,7 +8,8 @@ use Rattle.status.specs.declared.Events.{Events}
 use Rattle.store.specs.declared.Ring.{Ring}
 use Rattle.state.specs.declared.State.{State}
 use Rattle.block.specs.Packed.{flagOf, two, four, registersBytes, ringBytes, eventsBytes, packed}
-use Rattle.block.specs.States.{RegistersRanged, Ranged, Bytes}
+use Rattle.block.specs.States.{RegistersRanged, Ranged}
+use Rattle.store.specs.Bytes.{Bytes}
 
 -- each number of a list is a byte
 data Each : List ℕ → Type 0 where

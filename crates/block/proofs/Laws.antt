@@ -18,7 +18,8 @@ use Rattle.state.specs.declared.State.{State}
 use Rattle.state.specs.Sizes.{sizesObeyed, startState, fits, RxFits, TxFits}
 use Rattle.state.proofs.Fits.{Tests, tests, rx-fits, tx-fits}
 use Rattle.block.specs.Packed.{blockLen, at16, at32, packed, unpacked}
-use Rattle.block.specs.States.{isState, meaning, noState, fittingBlock, RegistersRanged, CountsRanged, Ranged, Bytes}
+use Rattle.block.specs.States.{isState, meaning, noState, fittingBlock, RegistersRanged, CountsRanged, Ranged}
+use Rattle.store.specs.Bytes.{Bytes}
 use Rattle.block.proofs.Same.{same-true, state-packed, means, means-none}
 pub use Rattle.block.proofs.ReadBack.{read-back}
 pub use Rattle.block.proofs.Bytes.{packed-bytes}

@@ -70,10 +70,6 @@ pub record Ranged (s : State) : Type 0 where
   pub txRing : RingRanged (s .tx)
   pub counts : CountsRanged (s .counts)
 
--- a list of bytes, as every slice of the code is
-abbrev pub Bytes : List ℕ → Type 0
-Bytes b = (i : ℕ) → getD b i 0 < 256
-
 -- ---- what the code tests of a block
 
 -- the flag at this place is 1 or 0

@@ -1,7 +1,7 @@
 -- The calls: what each answers, and the state and every byte of both stores after it.
 use Prim.Native.Nat.{ℕ}
 use mathlib.Core.Path.{_≡_}
-use mathlib.Core.Bool.{cond, not}
+use mathlib.Core.Bool.{Bool, false, cond, not}
 use mathlib.Core.List.{List, [], _∷_}
 use lib.Dec.{eqb, ltb}
 use lib.ListN.{length}
@@ -18,18 +18,68 @@ use Rattle.line.specs.HoldingOff.{lineState, lineBytes, afterWrite, nextOut, go
 use Rattle.state.specs.Status.{settled, breakState, keyState}
 use Rattle.loops.specs.Frames.{deviceClear, frameTaken, frameBytes}
 
--- "Calls: create, reset, write a register, take a line byte, take a break, take a press of the MSRQ key, give the next line byte, take a
--- loop frame, show a store."
+-- What is built, calls: seven are made on a state
+pub data OnState : Type 0 where
+  reset : OnState
+  write : ℕ → ℕ → OnState
+  lineByte : ℕ → OnState
+  lineBreak : OnState
+  key : OnState
+  nextLineByte : OnState
+  loopFrame : ℕ → OnState
+
+-- create makes a state, and show only looks at one
 pub data Call : Type 0 where
   create : ℕ → Call
-  reset : Call
-  write : ℕ → ℕ → Call
-  lineByte : ℕ → Call
-  lineBreak : Call
-  key : Call
-  nextLineByte : Call
-  loopFrame : ℕ → Call
   show : ℕ → Call
+  on : OnState → Call
+
+-- ---- a call by its kind: what is seen of the one kind, and nothing of the others
+
+abbrev pub onState : {X : Type 0} → (OnState → X) → X → Call → X
+onState see nothing (create m) = nothing
+onState see nothing (show side) = nothing
+onState see nothing (on c) = see c
+
+abbrev pub ofFrame : {X : Type 0} → (ℕ → X) → X → OnState → X
+ofFrame see nothing (loopFrame f) = see f
+ofFrame see nothing reset = nothing
+ofFrame see nothing (write n v) = nothing
+ofFrame see nothing (lineByte b) = nothing
+ofFrame see nothing lineBreak = nothing
+ofFrame see nothing key = nothing
+ofFrame see nothing nextLineByte = nothing
+
+abbrev pub ofLineByte : {X : Type 0} → (ℕ → X) → X → OnState → X
+ofLineByte see nothing (lineByte b) = see b
+ofLineByte see nothing reset = nothing
+ofLineByte see nothing (write n v) = nothing
+ofLineByte see nothing lineBreak = nothing
+ofLineByte see nothing key = nothing
+ofLineByte see nothing nextLineByte = nothing
+ofLineByte see nothing (loopFrame f) = nothing
+
+abbrev pub ofWrite : {X : Type 0} → (ℕ → ℕ → X) → X → OnState → X
+ofWrite see nothing (write n v) = see n v
+ofWrite see nothing reset = nothing
+ofWrite see nothing (lineByte b) = nothing
+ofWrite see nothing lineBreak = nothing
+ofWrite see nothing key = nothing
+ofWrite see nothing nextLineByte = nothing
+ofWrite see nothing (loopFrame f) = nothing
+
+-- two calls on a state are of one kind
+abbrev pub kindOn : OnState → ℕ
+kindOn reset = 0
+kindOn (write n v) = 1
+kindOn (lineByte b) = 2
+kindOn lineBreak = 3
+kindOn key = 4
+kindOn nextLineByte = 5
+kindOn (loopFrame f) = 6
+
+abbrev pub is : OnState → OnState → Bool
+is c d = eqb (kindOn c) (kindOn d)
 
 -- a state, and the bytes of the receive and the transmit store
 pub record World : Type 0 where
@@ -54,21 +104,25 @@ handed xs w = record { said = part xs; world = w }
 
 -- ---- refusals
 
--- "the state does not fit the lent stores"
+-- Sizes and refusals, 2: the state does not fit the lent stores
 abbrev pub misfit : World → Check
 misfit w = check 2 (not (fits (w .state) (length (w .rx)) (length (w .tx))))
 
--- the table of refusals, "Checked in the order of their numbers"
+-- the table after that, in the order of its numbers: a register write has 5 to 8, a loop frame 3 and 4
+unfoldable pub checksOn : OnState → State → List Check
+checksOn (write n v) s = writeChecks (s .regs) n v
+checksOn (loopFrame f) s = check 3 (ltb 2047 f) ∷ check 4 (busy s f) ∷ []
+checksOn reset s = []
+checksOn (lineByte b) s = []
+checksOn lineBreak s = []
+checksOn key s = []
+checksOn nextLineByte s = []
+
+-- Sizes and refusals, the table: create has 1, showing has no number
 unfoldable pub checks : Call → World → List Check
 checks (create m) w = check 1 (not (sizesObeyed m (length (w .rx)) (length (w .tx)))) ∷ []
-checks reset w = misfit w ∷ []
-checks (write n v) w = misfit w ∷ writeChecks (w .state .regs) n v
-checks (lineByte b) w = misfit w ∷ []
-checks lineBreak w = misfit w ∷ []
-checks key w = misfit w ∷ []
-checks nextLineByte w = misfit w ∷ []
-checks (loopFrame f) w = misfit w ∷ check 3 (ltb 2047 f) ∷ check 4 (busy (w .state) f) ∷ []
 checks (show side) w = []
+checks (on c) w = misfit w ∷ checksOn c (w .state)
 
 -- ---- what a call that is not refused does
 
@@ -78,9 +132,8 @@ doneWith s = record { state = s; answer = answer.Done }
 abbrev pub refusedWith : State → ℕ → Outcome
 refusedWith s n = record { state = s; answer = answer.Refused n }
 
--- the state and the answer; of showing only the state, since its answer is a part, which `step` gives
-unfoldable pub outcome : Call → World → Outcome
-outcome (create m) w = doneWith (startState m (length (w .rx)) (length (w .tx)))
+-- the state, before requests are settled, and the answer
+unfoldable pub outcome : OnState → World → Outcome
 outcome reset w = doneWith (startState (w .state .sizes .margin) (length (w .rx)) (length (w .tx)))
 outcome (write n v) w = doneWith (afterWrite (w .state) n (written (w .state .regs) n v))
 outcome (lineByte b) w = doneWith (lineState (w .state) b)
@@ -88,47 +141,20 @@ outcome lineBreak w = doneWith (breakState (w .state))
 outcome key w = doneWith (keyState (w .state))
 outcome nextLineByte w = record { state = goneState (w .state) (nextOut (w .state) (w .tx)); answer = outAnswer (nextOut (w .state) (w .tx)) }
 outcome (loopFrame f) w = frameTaken (w .state) (w .rx) f
-outcome (show side) w = doneWith (w .state)
 
--- "A request begins when an enabled condition comes to hold", in any call; create has no state before it, and "A device clear leaves no
--- request."
-unfoldable pub settledBy : Call → State → State → State
-settledBy (create m) s t = t
-settledBy reset s t = settled s t
-settledBy (write n v) s t = settled s t
-settledBy (lineByte b) s t = settled s t
-settledBy lineBreak s t = settled s t
-settledBy key s t = settled s t
-settledBy nextLineByte s t = settled s t
-settledBy (loopFrame f) s t = cond (deviceClear s f) t (settled s t)
-settledBy (show side) s t = t
+-- Status byte, requests: one begins in any call on a state, and a device clear leaves none
+unfoldable pub settledBy : OnState → State → State → State
+settledBy c s t = cond (ofFrame (deviceClear s) false c) t (settled s t)
 
--- the bytes of the receive store after a call
-unfoldable pub rxAfter : Call → World → List ℕ
-rxAfter (lineByte b) w = lineBytes (w .state) (w .rx) b
-rxAfter (create m) w = w .rx
-rxAfter reset w = w .rx
-rxAfter (write n v) w = w .rx
-rxAfter lineBreak w = w .rx
-rxAfter key w = w .rx
-rxAfter nextLineByte w = w .rx
-rxAfter (loopFrame f) w = w .rx
-rxAfter (show side) w = w .rx
+-- the bytes of the receive and of the transmit store after a call
+unfoldable pub rxAfter : OnState → World → List ℕ
+rxAfter c w = ofLineByte (lineBytes (w .state) (w .rx)) (w .rx) c
 
--- the bytes of the transmit store after a call
-unfoldable pub txAfter : Call → World → List ℕ
-txAfter (loopFrame f) w = frameBytes (w .state) (w .tx) f
-txAfter (create m) w = w .tx
-txAfter reset w = w .tx
-txAfter (write n v) w = w .tx
-txAfter (lineByte b) w = w .tx
-txAfter lineBreak w = w .tx
-txAfter key w = w .tx
-txAfter nextLineByte w = w .tx
-txAfter (show side) w = w .tx
+unfoldable pub txAfter : OnState → World → List ℕ
+txAfter c w = ofFrame (frameBytes (w .state) (w .tx)) (w .tx) c
 
--- "it returns the longest unbroken run of bytes from the oldest one, as a part of the receive or the transmit buffer, and an empty part
--- if nothing is held, the state misfits or the side is neither": side 0 is the receive store, side 1 the transmit store
+-- Sizes and refusals, showing: the longest unbroken run from the oldest byte, an empty part for a misfit; side 0 is the receive store,
+-- side 1 the transmit store, and any other side shows nothing
 unfoldable pub shown : ℕ → World → List ℕ
 shown side w =
     cond (fits (w .state) (length (w .rx)) (length (w .tx)))
@@ -137,32 +163,31 @@ shown side w =
     []))
     []
 
--- what a call that is not refused did
+-- what a call that is not refused did; create has no state before it
 unfoldable pub notRefused : Call → World → Did
-notRefused c w =
+notRefused (create m) w = did (doneWith (startState m (length (w .rx)) (length (w .tx)))) (w .rx) (w .tx)
+notRefused (show side) w = handed (shown side w) w
+notRefused (on c) w =
     record {
       said = said (outcome c w .answer);
       world = world (settledBy c (w .state) (outcome c w .state)) (rxAfter c w) (txAfter c w);
     }
 
--- "Each returns its number alone; state and stores stay as they were"
+-- Sizes and refusals, below the table: a refusal is its number alone, and all stays as it was
 unfoldable pub refusedOr : ℕ → Did → World → Did
 refusedOr n d w = cond (eqb n 0) d (record { said = refused n; world = w })
 
 -- every call, in every world
 unfoldable pub step : Call → World → Did
-step (show side) w = handed (shown side w) w
-step (create m) w = refusedOr (firstRefusal (checks (create m) w)) (notRefused (create m) w) w
-step reset w = refusedOr (firstRefusal (checks reset w)) (notRefused reset w) w
-step (write n v) w = refusedOr (firstRefusal (checks (write n v) w)) (notRefused (write n v) w) w
-step (lineByte b) w = refusedOr (firstRefusal (checks (lineByte b) w)) (notRefused (lineByte b) w) w
-step lineBreak w = refusedOr (firstRefusal (checks lineBreak w)) (notRefused lineBreak w) w
-step key w = refusedOr (firstRefusal (checks key w)) (notRefused key w) w
-step nextLineByte w = refusedOr (firstRefusal (checks nextLineByte w)) (notRefused nextLineByte w) w
-step (loopFrame f) w = refusedOr (firstRefusal (checks (loopFrame f) w)) (notRefused (loopFrame f) w) w
+step c w = refusedOr (firstRefusal (checks c w)) (notRefused c w) w
 
--- "create returns no state" where it refuses: the caller's, whatever it is, stays; what stands in its place fits no stores
-pub record Created (m : ℕ) (rx tx : List ℕ) (o : Outcome) : Type 0 where
-  pub made : o .state ≡ startState m (length rx) (length tx)
-  pub answer : (s : State) → said (o .answer) ≡ step (create m) (world s rx tx) .said
-  pub world : (s : State) → step (create m) (world s rx tx) .world ≡ world (cond (sizesObeyed m (length rx) (length tx)) (o .state) s) rx tx
+-- ---- the promise
+
+-- what every call promises, called in the world w: it did this
+abbrev pub Promised : Call → World → Did → Type 0
+Promised c w d = d ≡ step c w
+
+-- create is lent two stores and given no state: what stands in its place is the state that it would make, and a law says that any other
+-- state there comes to the same
+abbrev pub unmade : ℕ → List ℕ → List ℕ → World
+unmade m rx tx = world (startState m (length rx) (length tx)) rx tx

@@ -1,6 +1,6 @@
 // The bridge: a software HP-IL/RS-232 interface. The state goes in by value and comes back; both stores are lent at every call.
 ghost use mathlib.Core.Path.{_≡_};
-ghost use Rattle.bridge.specs.Calls.{step, world, did, handed, doneWith, refusedWith, Created, reset, write, lineByte, lineBreak, key, nextLineByte, loopFrame, show};
+ghost use Rattle.bridge.specs.Calls.{Promised, unmade, world, did, handed, doneWith, refusedWith, on, create, reset, write, lineByte, lineBreak, key, nextLineByte, loopFrame, show};
 use state::Answer;
 use state::Outcome;
 use state::State;
@@ -27,7 +27,7 @@ fn done(s: State) -> Outcome
 
 // Makes a state for these stores, or refuses; neither store is written.
 pub fn create(rx: &[u8], tx: &[u8], margin: usize) -> Outcome
-    ensures { λ r. ⌜ Created margin (now (rx .entry)) (now (tx .entry)) r ⌝ }
+    ensures { λ r. ⌜ Promised (create margin) (unmade margin (now (rx .entry)) (now (tx .entry))) (did r (now (rx .entry)) (now (tx .entry))) ⌝ }
 {
     let s = state::fitting::start(margin, rx.len(), tx.len());
     if state::fitting::sizes_obeyed(margin, rx.len(), tx.len()) {
@@ -39,7 +39,7 @@ pub fn create(rx: &[u8], tx: &[u8], margin: usize) -> Outcome
 
 // Gives what create gives for the same sizes and margin; neither store is written.
 pub fn reset(s: State, rx: &[u8], tx: &[u8]) -> Outcome
-    ensures { λ r. ⌜ did r (now (rx .entry)) (now (tx .entry)) ≡ step reset (world s (now (rx .entry)) (now (tx .entry))) ⌝ }
+    ensures { λ r. ⌜ Promised (on reset) (world s (now (rx .entry)) (now (tx .entry))) (did r (now (rx .entry)) (now (tx .entry))) ⌝ }
 {
     if !state::fitting::state_fits(s, rx.len(), tx.len()) {
         return refused(s, 2);
@@ -50,7 +50,7 @@ pub fn reset(s: State, rx: &[u8], tx: &[u8]) -> Outcome
 
 // Writes the register of this number.
 pub fn write_register(s: State, rx: &[u8], tx: &[u8], number: u32, value: u32) -> Outcome
-    ensures { λ r. ⌜ did r (now (rx .entry)) (now (tx .entry)) ≡ step (write number value) (world s (now (rx .entry)) (now (tx .entry))) ⌝ }
+    ensures { λ r. ⌜ Promised (on (write number value)) (world s (now (rx .entry)) (now (tx .entry))) (did r (now (rx .entry)) (now (tx .entry))) ⌝ }
 {
     if !state::fitting::state_fits(s, rx.len(), tx.len()) {
         return refused(s, 2);
@@ -66,7 +66,7 @@ pub fn write_register(s: State, rx: &[u8], tx: &[u8], number: u32, value: u32) -
 
 // Takes a byte from the line.
 pub fn line_byte(s: State, rx: &mut [u8], tx: &[u8], b: u8) -> Outcome
-    ensures { λ r. ⌜ did r (now (rx .exit)) (now (tx .entry)) ≡ step (lineByte b) (world s (now (rx .entry)) (now (tx .entry))) ⌝ }
+    ensures { λ r. ⌜ Promised (on (lineByte b)) (world s (now (rx .entry)) (now (tx .entry))) (did r (now (rx .exit)) (now (tx .entry))) ⌝ }
 {
     if !state::fitting::state_fits(s, rx.len(), tx.len()) {
         return refused(s, 2);
@@ -77,7 +77,7 @@ pub fn line_byte(s: State, rx: &mut [u8], tx: &[u8], b: u8) -> Outcome
 
 // Takes a break on the line.
 pub fn take_break(s: State, rx: &mut [u8], tx: &[u8]) -> Outcome
-    ensures { λ r. ⌜ did r (now (rx .exit)) (now (tx .entry)) ≡ step lineBreak (world s (now (rx .entry)) (now (tx .entry))) ⌝ }
+    ensures { λ r. ⌜ Promised (on lineBreak) (world s (now (rx .entry)) (now (tx .entry))) (did r (now (rx .exit)) (now (tx .entry))) ⌝ }
 {
     if !state::fitting::state_fits(s, rx.len(), tx.len()) {
         return refused(s, 2);
@@ -88,7 +88,7 @@ pub fn take_break(s: State, rx: &mut [u8], tx: &[u8]) -> Outcome
 
 // Takes a press of the MSRQ key.
 pub fn take_key(s: State, rx: &[u8], tx: &[u8]) -> Outcome
-    ensures { λ r. ⌜ did r (now (rx .entry)) (now (tx .entry)) ≡ step key (world s (now (rx .entry)) (now (tx .entry))) ⌝ }
+    ensures { λ r. ⌜ Promised (on key) (world s (now (rx .entry)) (now (tx .entry))) (did r (now (rx .entry)) (now (tx .entry))) ⌝ }
 {
     if !state::fitting::state_fits(s, rx.len(), tx.len()) {
         return refused(s, 2);
@@ -99,7 +99,7 @@ pub fn take_key(s: State, rx: &[u8], tx: &[u8]) -> Outcome
 
 // Gives the next line byte.
 pub fn next_line_byte(s: State, rx: &[u8], tx: &[u8]) -> Outcome
-    ensures { λ r. ⌜ did r (now (rx .entry)) (now (tx .entry)) ≡ step nextLineByte (world s (now (rx .entry)) (now (tx .entry))) ⌝ }
+    ensures { λ r. ⌜ Promised (on nextLineByte) (world s (now (rx .entry)) (now (tx .entry))) (did r (now (rx .entry)) (now (tx .entry))) ⌝ }
 {
     if !state::fitting::state_fits(s, rx.len(), tx.len()) {
         return refused(s, 2);
@@ -115,7 +115,7 @@ pub fn next_line_byte(s: State, rx: &[u8], tx: &[u8]) -> Outcome
 
 // Takes a frame from the loop, and gives exactly one.
 pub fn loop_frame(s: State, rx: &[u8], tx: &mut [u8], frame: u32) -> Outcome
-    ensures { λ r. ⌜ did r (now (rx .entry)) (now (tx .exit)) ≡ step (loopFrame frame) (world s (now (rx .entry)) (now (tx .entry))) ⌝ }
+    ensures { λ r. ⌜ Promised (on (loopFrame frame)) (world s (now (rx .entry)) (now (tx .entry))) (did r (now (rx .entry)) (now (tx .exit))) ⌝ }
 {
     if !state::fitting::state_fits(s, rx.len(), tx.len()) {
         return refused(s, 2);
@@ -132,7 +132,7 @@ pub fn loop_frame(s: State, rx: &[u8], tx: &mut [u8], frame: u32) -> Outcome
 
 // Shows the longest unbroken run of bytes from the oldest one: side 0 of the receive store, side 1 of the transmit store.
 pub fn show<'a>(s: State, rx: &'a [u8], tx: &'a [u8], side: u32) -> &'a [u8]
-    ensures { λ o. ⌜ handed (now o) (world s (now (rx .entry)) (now (tx .entry))) ≡ step (show side) (world s (now (rx .entry)) (now (tx .entry))) ⌝ }
+    ensures { λ o. ⌜ Promised (show side) (world s (now (rx .entry)) (now (tx .entry))) (handed (now o) (world s (now (rx .entry)) (now (tx .entry)))) ⌝ }
 {
     if !state::fitting::state_fits(s, rx.len(), tx.len()) {
         return &rx[0..0];

@@ -7,6 +7,7 @@ use lib.Dec.{eqb}
 use borrow.Author.Tests.{eqb-true, eqb-false}
 use Rattle.cases.specs.Refusals.{firstRefusal}
 use Rattle.cases.proofs.Cases.{by-cond}
+use Rattle.machine.specs.Machine.{Obeys}
 use Rattle.frame.specs.Frame.{controlOf, isData, dataOf, sameApart}
 use Rattle.role.specs.declared.Ready.{Ready}
 use Rattle.role.specs.declared.Ready.the-variants.{Pass, Address, Data, Status, Finish}
@@ -19,12 +20,14 @@ use Rattle.state.specs.declared.State.{State}
 use Rattle.state.specs.declared.Outcome.{Outcome}
 use Rattle.state.specs.declared.Out.{Out}
 use Rattle.state.specs.declared.Out.the-variants as out
-use Rattle.state.specs.Answers.{frame, refused, said}
+use Rattle.state.specs.Answers.{Said, frame, refused, said, isRefusal}
 use Rattle.line.specs.HoldingOff.{nextOut, outAnswer}
 use Rattle.loops.specs.Sending.{ended, ruleOf, removedState, sendState, sendFrom, sendStatus}
 use Rattle.loops.specs.Frames.{command, readied, ready, returned, dataPassed, identify, frameTaken}
-use Rattle.bridge.specs.Calls.{Call, create, reset, write, lineByte, lineBreak, key, nextLineByte, loopFrame, show, World, Did, outcome, checks, notRefused, refusedOr, step}
-use Rattle.laws.specs.Answers.{isRefusal, byteOrRefused, frameOrRefused, canAnswer, CallsAnswerSo, Refuses, RefusedExactly}
+use Rattle.bridge.specs.Calls.{Call, create, show, on, reset, write, lineByte, lineBreak, key, nextLineByte, loopFrame, World, outcome, checks, notRefused, step}
+use Rattle.laws.specs.Bridges.{bridge}
+use Rattle.laws.specs.Answers.{byteOrRefused, frameOrRefused, canAnswer, AnswersSo, Refuses, RefusedExactly}
+use Rattle.laws.proofs.Refusing.{by-refusal}
 
 -- ---- a frame for a frame
 
@@ -90,6 +93,9 @@ taken-frame s rx f =
     identified : Framed (identify s f)
     identified = unfold identify said in record { frame = refl; taken = refl }
 
+pub frame-not-refused : (s : State) (rx : List ℕ) (f : ℕ) → isRefusal (said (frameTaken s rx f .answer)) ≡ false
+frame-not-refused s rx f = taken-frame s rx f .taken
+
 -- ---- every call that is accepted
 
 out-said : (o : Out) → byteOrRefused (said (outAnswer o)) ≡ true
@@ -104,56 +110,61 @@ out-taken (out.Own b) = refl
 out-taken (out.Held b) = refl
 out-taken out.Nothing = refl
 
--- a call that has numbers: what it answers when it is accepted is no refusal, and it is refused by the first of its checks that is given
-record Numbered (c : Call) (w : World) : Type 0 where
-  answer : canAnswer c (notRefused c w .said) ≡ true
-  taken : isRefusal (notRefused c w .said) ≡ false
-  refusal : (n : ℕ) → canAnswer c (refused n) ≡ true
-  number : step c w ≡ refusedOr (firstRefusal (checks c w)) (notRefused c w) w
+-- what a call answers when it is not refused is no refusal
+record Accepted (c : Call) (x : Said) : Type 0 where
+  answer : canAnswer c x ≡ true
+  taken : isRefusal x ≡ false
 
--- a law of every call: all but showing have numbers
-each-call : (P : Call → Type 0) (w : World) → ((c : Call) → Numbered c w → P c) → ((side : ℕ) → P (show side)) → (c : Call) → P c
-unfolding notRefused outcome said step
-each-call P w p q (create m) = p (create m) (record { answer = refl; taken = refl; refusal = λ n. refl; number = refl })
-each-call P w p q reset = p reset (record { answer = refl; taken = refl; refusal = λ n. refl; number = refl })
-each-call P w p q (write n v) = p (write n v) (record { answer = refl; taken = refl; refusal = λ n. refl; number = refl })
-each-call P w p q (lineByte b) = p (lineByte b) (record { answer = refl; taken = refl; refusal = λ n. refl; number = refl })
-each-call P w p q lineBreak = p lineBreak (record { answer = refl; taken = refl; refusal = λ n. refl; number = refl })
-each-call P w p q key = p key (record { answer = refl; taken = refl; refusal = λ n. refl; number = refl })
-each-call P w p q nextLineByte =
+accepted : (c : Call) (w : World) → Accepted c (notRefused c w .said)
+unfolding notRefused outcome said
+accepted (create m) w = record { answer = refl; taken = refl }
+accepted (show side) w = record { answer = refl; taken = refl }
+accepted (on reset) w = record { answer = refl; taken = refl }
+accepted (on (write n v)) w = record { answer = refl; taken = refl }
+accepted (on (lineByte b)) w = record { answer = refl; taken = refl }
+accepted (on lineBreak) w = record { answer = refl; taken = refl }
+accepted (on key) w = record { answer = refl; taken = refl }
+accepted (on nextLineByte) w =
     let o = nextOut (w .state) (w .tx) in
-    p nextLineByte (record { answer = out-said o; taken = out-taken o; refusal = λ n. refl; number = refl })
-each-call P w p q (loopFrame f) =
+    record { answer = out-said o; taken = out-taken o }
+accepted (on (loopFrame f)) w =
     let h = taken-frame (w .state) (w .rx) f in
-    p (loopFrame f) (record { answer = h .frame; taken = h .taken; refusal = λ n. refl; number = refl })
-each-call P w p q (show side) = q side
+    record { answer = h .frame; taken = h .taken }
 
-module _ (c : Call) (w : World) (k : Numbered c w) where
-  answers-so : canAnswer c (step c w .said) ≡ true
-  unfolding refusedOr
-  answers-so =
-      rw (k .number)
-      (by-cond (λ (d : Did). canAnswer c (d .said) ≡ true) (eqb (firstRefusal (checks c w)) 0) _ _ (λ _. k .answer) (λ _. k .refusal (firstRefusal (checks c w))))
+-- every call can answer a refusal but showing, which has no checks
+can-refuse : (c : Call) (w : World) → (firstRefusal (checks c w) ≡ 0 → ⊥) → (n : ℕ) → canAnswer c (refused n) ≡ true
+unfolding checks
+can-refuse (create m) w h n = refl
+can-refuse (show side) w h n = absurd (h refl)
+can-refuse (on reset) w h n = refl
+can-refuse (on (write k v)) w h n = refl
+can-refuse (on (lineByte b)) w h n = refl
+can-refuse (on lineBreak) w h n = refl
+can-refuse (on key) w h n = refl
+can-refuse (on nextLineByte) w h n = refl
+can-refuse (on (loopFrame f)) w h n = refl
 
-  refuses-number : (n : ℕ) → Refuses (refusedOr n (notRefused c w) w .said) (refusedOr n (notRefused c w) w .world) n w
-  unfolding refusedOr
-  refuses-number n =
-      by-cond (λ (d : Did). Refuses (d .said) (d .world) n w) (eqb n 0) _ _
-      (λ e. record {
-        when = λ m h. absurd (false≢true (sym (k .taken) ∙ ap isRefusal h));
-        given = λ h. absurd (h (eqb-true n 0 e));
-        accepts = λ h. k .taken;
-        leaves = λ h. absurd (false≢true (sym (k .taken) ∙ h));
-      })
-      (λ e. record { when = λ m h. cc; given = λ h. refl; accepts = λ h. absurd (eqb-false n 0 e h); leaves = λ h. refl })
+pub answers-so : Obeys (bridge step) AnswersSo
+answers-so c w _ =
+    by-refusal (λ d. canAnswer c (d .said) ≡ true) c w (λ _. accepted c w .answer) (λ h. can-refuse c w h (firstRefusal (checks c w)))
 
-  refuses-so : Refuses (step c w .said) (step c w .world) (firstRefusal (checks c w)) w
-  refuses-so = subst (λ (d : Did). Refuses (d .said) (d .world) (firstRefusal (checks c w)) w) (sym (k .number)) (refuses-number (firstRefusal (checks c w)))
+pub refuses : (c : Call) (w : World) → Refuses (step c w .said) (step c w .world) (firstRefusal (checks c w)) w
+refuses c w =
+    by-refusal (λ d. Refuses (d .said) (d .world) (firstRefusal (checks c w)) w) c w
+    (λ e. record {
+      when = λ m h. absurd (false≢true (sym taken ∙ ap isRefusal h));
+      given = λ h. absurd (h e);
+      accepts = λ h. taken;
+      leaves = λ h. absurd (false≢true (sym taken ∙ h));
+    })
+    (λ h. record { when = λ m q. cc; given = λ q. refl; accepts = λ q. absurd (h q); leaves = λ q. refl })
+  where
+    taken : isRefusal (notRefused c w .said) ≡ false
+    taken = accepted c w .taken
 
-pub calls-answer-so : CallsAnswerSo
-calls-answer-so c w = each-call (λ (d : Call). canAnswer d (step d w .said) ≡ true) w (λ d k. answers-so d w k) (λ side. unfold step in refl) c
+pub refused-exactly : Obeys (bridge step) RefusedExactly
+refused-exactly c w _ = refuses c w
 
-pub refused-exactly : RefusedExactly
-refused-exactly c w =
-    each-call (λ (d : Call). Refuses (step d w .said) (step d w .world) (firstRefusal (checks d w)) w) w (λ d k. refuses-so d w k)
-    (λ side. unfold step checks in record { when = λ m h. cc; given = λ h. absurd (h refl); accepts = λ h. refl; leaves = λ h. refl }) c
+-- a refused call leaves all as it was, in every world
+pub refusal-leaves : (c : Call) (w : World) → isRefusal (step c w .said) ≡ true → step c w .world ≡ w
+refusal-leaves c w = refuses c w .leaves

@@ -2,14 +2,17 @@
 use Prim.Native.Nat.{ℕ, _+_, _-_, _≤_}
 use native.Mathlib.Omega.{arith}
 use mathlib.Core.Path.{_≡_, refl, sym, subst, _∙_}
-use mathlib.Core.Bool.{Bool, true, false, cond, _&&_, not, false≢true}
-use mathlib.Core.List.{[], _∷_}
+use mathlib.Core.Bool.{Bool, true, false, cond, _&&_, not, and-false}
+use mathlib.Core.List.{List, [], _∷_}
 use lib.Dec.{eqb, ltb}
 use lib.ListN.{length}
-use borrow.Author.Tests.{eqb-true, leb-true, leb-false, ltb-false}
+use borrow.Author.Tests.{eqb-true, leb-true, leb-false, ltb-false, lt-leb}
 use Rattle.cases.specs.Refusals.{firstRefusal}
 use Rattle.cases.proofs.Cases.{by-cond}
+use Rattle.machine.specs.Machine.{Obeys}
 use Rattle.frame.specs.Frame.{isData}
+use Rattle.role.specs.Parts.{isActive}
+use Rattle.role.proofs.FitLaws as role-laws
 use Rattle.store.specs.declared.Ring.{Ring}
 use Rattle.store.specs.Ring.{full, emptyRing, putBytes, putsRing, putsBytes}
 use Rattle.store.proofs.Laws.{put-full}
@@ -18,28 +21,24 @@ use Rattle.state.specs.declared.Out.{Out}
 use Rattle.state.specs.declared.Out.the-variants as out
 use Rattle.state.specs.Sizes.{startState, RxFits, TxFits}
 use Rattle.state.specs.Status.{settled, breakState, keyState}
-use Rattle.state.proofs.Fits.{rx-fits, tx-fits}
+use Rattle.state.proofs.Fits.{tests, rx-fits, tx-fits}
 use Rattle.line.specs.HoldingOff.{isGoOrStop, flowed, lostState, storedWith, storedState, lineState, lineBytes, setAfresh, afterWrite, nextOut, goneState}
 use Rattle.line.proofs.Parts.{gone-some}
 use Rattle.loops.specs.LoopToLine.{adds, busy, leftBytes}
 use Rattle.loops.specs.Frames.{frameTaken, deviceClear, addsBytes, frameBytes}
-use Rattle.bridge.specs.Calls.{Call, create, reset, write, lineByte, lineBreak, key, nextLineByte, loopFrame, show, World, Did, world, outcome, settledBy, rxAfter, txAfter, notRefused, refusedOr, checks, step}
-use Rattle.laws.specs.Answers.{isRefusal}
+use Rattle.bridge.specs.Calls.{OnState, reset, write, lineByte, lineBreak, key, nextLineByte, loopFrame, Call, create, show, on, World, world, Did, outcome, settledBy, rxAfter, txAfter, notRefused, checks, step}
+use Rattle.state.specs.Answers.{refused, said}
 use Rattle.laws.specs.Fitting.{Fits}
 use Rattle.laws.specs.Places.{nextPlace}
-use Rattle.laws.specs.CallPlaces.{empties, rxAdds, txAdds, Placed, BothPlaced, CallsPlace}
-use Rattle.laws.proofs.OneStore.{stays, stays-same, emptied, added, left}
-use Rattle.laws.proofs.FramePlaces.{Kind, clears, stores, other, clear-same, frame-kind}
-
--- ---- what no refusal tells
-
-fitting : (t : Bool) (n : ℕ) → cond (not t) 2 n ≡ 0 → (t ≡ true) × (n ≡ 0)
-fitting true n e = (refl, e)
-fitting false n e = absurd (omega arith)
-
-no-check : (t : Bool) (k n : ℕ) → (k ≡ 0 → ⊥) → cond t k n ≡ 0 → (t ≡ false) × (n ≡ 0)
-no-check true k n h e = absurd (h e)
-no-check false k n h e = (refl, e)
+use Rattle.laws.specs.Bridges.{bridge}
+use Rattle.laws.specs.Observers.{accepted, added, empties}
+use Rattle.laws.specs.Observers as see
+use Rattle.laws.specs.CallPlaces.{Placed, BothPlaced, Places}
+use Rattle.laws.proofs.Refusing.{by-refusal, fitting, frame-fitting}
+use Rattle.laws.proofs.OneStore.{stays, stays-same, emptied, left}
+use Rattle.laws.proofs.OneStore as one-store
+use Rattle.laws.proofs.Answers.{frame-not-refused}
+use Rattle.laws.proofs.FramePlaces.{Kind, clears, stores, other, frame-kind}
 
 -- ---- a line byte
 
@@ -50,7 +49,7 @@ module _ (w : World) (e : Fits w) where
   g : TxFits (w .state) (w .tx)
   g = tx-fits (w .state) (w .rx) (w .tx) e
 
-  line-rx : (b : ℕ) → Placed false (rxAdds (lineByte b) w) (w .rx) (w .state .rx) (lineBytes (w .state) (w .rx) b) (lineState (w .state) b .rx)
+  line-rx : (b : ℕ) → Placed false (cond (full (w .state .sizes .rx) (w .state .rx)) [] (cond (not (isGoOrStop (w .state .regs) b)) (b ∷ []) [])) (w .rx) (w .state .rx) (lineBytes (w .state) (w .rx) b) (lineState (w .state) b .rx)
   unfolding lineBytes lineState flowed lostState storedWith putsBytes putsRing
   line-rx b = go (isGoOrStop (w .state .regs) b) (full (w .state .sizes .rx) (w .state .rx)) refl
     where
@@ -58,10 +57,11 @@ module _ (w : World) (e : Fits w) where
       r = w .state .rx
 
       go : (i u : Bool) → full (w .state .sizes .rx) r ≡ u →
-          Placed false (cond i [] (cond u [] (b ∷ []))) (w .rx) r (cond i (w .rx) (putBytes (w .rx) r b)) (cond i (flowed (w .state) b) (cond u (lostState (w .state)) (storedState (w .state))) .rx)
-      go true u h = stays-same (w .rx) r r refl
+          Placed false (cond u [] (cond (not i) (b ∷ []) [])) (w .rx) r (cond i (w .rx) (putBytes (w .rx) r b)) (cond i (flowed (w .state) b) (cond u (lostState (w .state)) (storedState (w .state))) .rx)
+      go true true h = stays-same (w .rx) r r refl
+      go true false h = stays-same (w .rx) r r refl
       go false true h = rw (put-full (w .rx) r b (omega (arith, f .size, leb-true (w .state .sizes .rx) (r .len) h))) (stays-same (w .rx) r r refl)
-      go false false h = added (w .rx) r (b ∷ []) (w .state .sizes .rx) (f .ring) (f .size) (omega (arith, f .size, leb-false (w .state .sizes .rx) (r .len) h))
+      go false false h = one-store.added (w .rx) r (b ∷ []) (w .state .sizes .rx) (f .ring) (f .size) (omega (arith, f .size, leb-false (w .state .sizes .rx) (r .len) h))
 
   line-tx : (b : ℕ) → lineState (w .state) b .tx ≡ w .state .tx
   unfolding lineState flowed lostState storedWith
@@ -104,24 +104,12 @@ module _ (w : World) (e : Fits w) where
       rw (c, l)
       (record {
         rx = stays-same (w .rx) (w .state .rx) (t .rx) x;
-        tx = rw y (added (w .tx) (w .state .tx) (adds (w .state .regs) n) (w .state .sizes .tx) (g .ring) (g .size) (room n d h b));
+        tx = rw y (one-store.added (w .tx) (w .state .tx) (adds (w .state .regs) n) (w .state .sizes .tx) (g .ring) (g .size) (room n d h b));
       })
   by-kind n t b (other c l s) =
       rw (c, l) (record { rx = stays (w .rx) (w .state .rx) (t .rx) (s .place); tx = stays-same (w .tx) (w .state .tx) (t .tx) (s .ring) })
 
 -- ---- every call
-
--- where a call is not refused, it is accepted
-abbrev Places : Call → World → World → Type 0
-Places c w v = BothPlaced (empties c w) (rxAdds c w) (txAdds c w) w v
-
-by-refusal : (c : Call) (w : World) → (firstRefusal (checks c w) ≡ 0 → Places c w (notRefused c w .world)) →
-    isRefusal (refusedOr (firstRefusal (checks c w)) (notRefused c w) w .said) ≡ false → Places c w (refusedOr (firstRefusal (checks c w)) (notRefused c w) w .world)
-unfolding refusedOr
-by-refusal c w p =
-    by-cond (λ (d : Did). isRefusal (d .said) ≡ false → Places c w (d .world)) (eqb (firstRefusal (checks c w)) 0) _ _
-    (λ e _. p (eqb-true (firstRefusal (checks c w)) 0 e))
-    (λ _ h. absurd (false≢true (sym h)))
 
 -- neither store changes, or both are emptied
 quiet : (w : World) (t : State) → t .rx ≡ w .state .rx → t .tx ≡ w .state .tx → BothPlaced false [] [] w (world t (w .rx) (w .tx))
@@ -130,41 +118,77 @@ quiet w t a b = record { rx = stays-same (w .rx) (w .state .rx) (t .rx) a; tx = 
 empty : (w : World) (t : State) → t .rx ≡ emptyRing → t .tx ≡ emptyRing → BothPlaced true [] [] w (world t (w .rx) (w .tx))
 empty w t a b = record { rx = emptied (w .rx) (w .state .rx) (t .rx) a; tx = emptied (w .tx) (w .state .tx) (t .tx) b }
 
-accepted-place : (c : Call) (w : World) → firstRefusal (checks c w) ≡ 0 → Places c w (notRefused c w .world)
-unfolding notRefused checks outcome settledBy settled rxAfter txAfter startState breakState keyState afterWrite setAfresh frameBytes addsBytes
-accepted-place (create m) w h = empty w _ refl refl
-accepted-place reset w h = empty w _ refl refl
-accepted-place (write n v) w h =
-    by-cond (λ (t : State). BothPlaced false [] [] w (world (settled (w .state) t) (w .rx) (w .tx))) (eqb n 11) _ _ (λ _. quiet w _ refl refl) (λ _. quiet w _ refl refl)
-accepted-place (lineByte b) w h =
-    let e : Fits w = fitting _ _ h .0 in
-    record { rx = line-rx w e b; tx = stays-same (w .tx) (w .state .tx) _ (line-tx w e b) }
-accepted-place lineBreak w h = quiet w _ refl refl
-accepted-place key w h = quiet w _ refl refl
-accepted-place nextLineByte w h =
-    let e : Fits w = fitting _ _ h .0 in
-    let o : Out = nextOut (w .state) (w .tx) in
-    record { rx = stays-same (w .rx) (w .state .rx) _ (gone-rx w e o); tx = stays (w .tx) (w .state .tx) _ (gone-tx w e o refl) }
-accepted-place (loopFrame n) w h =
-    let x = fitting _ _ h in
-    let y = no-check (ltb 2047 n) 3 _ (λ z. omega arith) (x .1) in
-    let b : busy (w .state) n ≡ false = no-check (busy (w .state) n) 4 0 (λ z. omega arith) (y .1) .0 in
-    let t : State = frameTaken (w .state) (w .rx) n .state in
-    subst
-    (λ (c : Bool). BothPlaced c [] (cond (addsBytes (w .state) n) (adds (w .state .regs) n) []) w
-    (world (cond (deviceClear (w .state) n) t (settled (w .state) t)) (w .rx) (cond (addsBytes (w .state) n) (leftBytes (w .state) (w .tx) n) (w .tx))))
-    (sym (clear-same (w .state) n))
-    (by-kind w (x .0) n t b (frame-kind (w .rx) (w .state) (rx-fits (w .state) (w .rx) (w .tx) (x .0) .ring) n))
-accepted-place (show side) w h = quiet w _ refl refl
+abbrev PlacesOf : Call → World → Did → Type 0
+PlacesOf c w d = BothPlaced (empties c w (d .said)) (accepted c w (d .said)) (added c w (d .said)) w (d .world)
 
-pub calls-place : CallsPlace
-unfolding step
-calls-place (show side) w = λ _. quiet w (w .state) refl refl
-calls-place (create m) w = by-refusal (create m) w (accepted-place (create m) w)
-calls-place reset w = by-refusal reset w (accepted-place reset w)
-calls-place (write n v) w = by-refusal (write n v) w (accepted-place (write n v) w)
-calls-place (lineByte b) w = by-refusal (lineByte b) w (accepted-place (lineByte b) w)
-calls-place lineBreak w = by-refusal lineBreak w (accepted-place lineBreak w)
-calls-place key w = by-refusal key w (accepted-place key w)
-calls-place nextLineByte w = by-refusal nextLineByte w (accepted-place nextLineByte w)
-calls-place (loopFrame n) w = by-refusal (loopFrame n) w (accepted-place (loopFrame n) w)
+-- where nothing arrives, nothing is accepted
+none-accepted : (w : World) (x : Bool) (e : Bool) (v : World) → BothPlaced e [] [] w v → BothPlaced e (cond x [] []) [] w v
+none-accepted w true e v p = p
+none-accepted w false e v p = p
+
+refused-places : (c : Call) (w : World) (n : ℕ) → PlacesOf c w (record { said = refused n; world = w })
+unfolding see.restarts see.clears accepted see.arrived added
+refused-places (create m) w n = none-accepted w (full (w .state .sizes .rx) (w .state .rx)) false w (quiet w (w .state) refl refl)
+refused-places (show side) w n = none-accepted w (full (w .state .sizes .rx) (w .state .rx)) false w (quiet w (w .state) refl refl)
+refused-places (on c) w n = still c
+  where
+    F : Bool
+    F = full (w .state .sizes .rx) (w .state .rx)
+
+    still : (c : OnState) → PlacesOf (on c) w (record { said = refused n; world = w })
+    still reset = none-accepted w F false w (quiet w (w .state) refl refl)
+    still (write k v) = none-accepted w F false w (quiet w (w .state) refl refl)
+    still (lineByte b) = none-accepted w F false w (quiet w (w .state) refl refl)
+    still lineBreak = none-accepted w F false w (quiet w (w .state) refl refl)
+    still key = none-accepted w F false w (quiet w (w .state) refl refl)
+    still nextLineByte = none-accepted w F false w (quiet w (w .state) refl refl)
+    still (loopFrame f) = none-accepted w F false w (quiet w (w .state) refl refl)
+
+-- a listener is no active talker
+stores-same : (w : World) → Fits w → (f : ℕ) → addsBytes (w .state) f ≡ (isData f && w .state .role .listener)
+unfolding addsBytes
+stores-same w e f = go (isData f) (w .state .role .listener) refl
+  where
+    idle : w .state .role .listener ≡ true → isActive (w .state .role) ≡ false
+    idle l = lt-leb 2 (w .state .role .talker) (omega (arith, role-laws.fit-true (w .state .role) (tests (w .state) (length (w .rx)) (length (w .tx)) e .role) .apart l))
+
+    go : (d l : Bool) → w .state .role .listener ≡ l → ((d && not (isActive (w .state .role))) && l) ≡ (d && l)
+    go true true e = λ i. not (idle e i) && true
+    go true false e = and-false (not (isActive (w .state .role)))
+    go false l e = refl
+
+done-places : (c : Call) (w : World) → firstRefusal (checks c w) ≡ 0 → PlacesOf c w (notRefused c w)
+unfolding notRefused outcome settledBy settled rxAfter txAfter startState breakState keyState afterWrite setAfresh frameBytes see.restarts see.clears accepted see.arrived see.isFlow isGoOrStop added adds said
+done-places c w h = go c h
+  where
+    F : Bool
+    F = full (w .state .sizes .rx) (w .state .rx)
+
+    accept : (x : Bool) {c : Bool} {l : List ℕ} {v : World} → BothPlaced c [] l w v → BothPlaced c (cond x [] []) l w v
+    accept true p = p
+    accept false p = p
+
+    go : (c : Call) → firstRefusal (checks c w) ≡ 0 → PlacesOf c w (notRefused c w)
+    go (create m) h = none-accepted w F true _ (empty w _ refl refl)
+    go (show side) h = none-accepted w F false w (quiet w (w .state) refl refl)
+    go (on reset) h = none-accepted w F true _ (empty w _ refl refl)
+    go (on (write n v)) h =
+        none-accepted w F false _
+        (by-cond (λ (t : State). BothPlaced false [] [] w (world (settled (w .state) t) (w .rx) (w .tx))) (eqb n 11) _ _ (λ _. quiet w _ refl refl) (λ _. quiet w _ refl refl))
+    go (on (lineByte b)) h =
+        let e : Fits w = fitting (lineByte b) w h .0 in
+        record { rx = line-rx w e b; tx = stays-same (w .tx) (w .state .tx) _ (line-tx w e b) }
+    go (on lineBreak) h = none-accepted w F false _ (quiet w _ refl refl)
+    go (on key) h = none-accepted w F false _ (quiet w _ refl refl)
+    go (on nextLineByte) h =
+        let e : Fits w = fitting nextLineByte w h .0 in
+        let o : Out = nextOut (w .state) (w .tx) in
+        none-accepted w F false _ (record { rx = stays-same (w .rx) (w .state .rx) _ (gone-rx w e o); tx = stays (w .tx) (w .state .tx) _ (gone-tx w e o refl) })
+    go (on (loopFrame n)) h =
+        let x = frame-fitting n w h in
+        let t : State = frameTaken (w .state) (w .rx) n .state in
+        rw (frame-not-refused (w .state) (w .rx) n, ← stores-same w (x .0) n)
+        (accept F (by-kind w (x .0) n t (x .1 .1) (frame-kind (w .rx) (w .state) (rx-fits (w .state) (w .rx) (w .tx) (x .0) .ring) n)))
+
+pub places : Obeys (bridge step) Places
+places c w _ = by-refusal (PlacesOf c w) c w (done-places c w) (λ _. refused-places c w _)

@@ -15,8 +15,8 @@ use Rattle.state.specs.Status.{conditions, enabledBy, asking, settled, shows, s
 use Rattle.loops.specs.LoopToLine.{adds, busy}
 use Rattle.loops.specs.Sending.{ruleOf}
 use Rattle.loops.specs.Frames.{readied, ready, frameTaken, deviceClear, frameBytes, addsBytes}
-use Rattle.bridge.specs.Calls.{checks, outcome, settledBy, rxAfter, txAfter, notRefused, refusedOr, step}
+use Rattle.bridge.specs.Calls.{checksOn, checks, outcome, settledBy, rxAfter, txAfter, notRefused, refusedOr, step}
 
 pub examples : AllAsThePaperSays
-unfolding given table inCuts byCuts cut ruleOf written registers-table.table registers-table.rowIn registers-table.carriedOf registers-table.startOf registers-table.startRegisters tooLarge bitNotCarried inRange values allInRange registersFit readyOf fitTest said sizesObeyed startState fits conditions enabledBy asking settled shows serviced adds busy readied ready frameTaken deviceClear frameBytes addsBytes checks outcome settledBy rxAfter txAfter notRefused refusedOr step
+unfolding given table inCuts byCuts cut ruleOf written registers-table.table registers-table.rowIn registers-table.carriedOf registers-table.startOf registers-table.startRegisters tooLarge bitNotCarried inRange values allInRange registersFit readyOf fitTest said sizesObeyed startState fits conditions enabledBy asking settled shows serviced adds busy readied ready frameTaken deviceClear frameBytes addsBytes checksOn checks outcome settledBy rxAfter txAfter notRefused refusedOr step
 examples = refl

@@ -1,7 +1,7 @@
 -- Every call keeps a state that fits, and the lengths of both stores. Assumes nothing.
 use Prim.Native.Nat.{ℕ, _-_, _≤_, _<_}
 use native.Mathlib.Omega.{arith}
-use mathlib.Core.Path.{_≡_, refl, sym, subst, _∙_}
+use mathlib.Core.Path.{_≡_, refl, sym, ap, subst, _∙_}
 use mathlib.Core.Bool.{Bool, true, false, cond, not}
 use mathlib.Core.List.{List}
 use lib.Dec.{eqb}
@@ -9,6 +9,7 @@ use lib.ListN.{length}
 use borrow.Author.Tests.{eqb-true, leb-true}
 use Rattle.cases.specs.Refusals.{firstRefusal}
 use Rattle.cases.proofs.Cases.{by-cond}
+use Rattle.machine.specs.Machine.{Obeys}
 use Rattle.frame.specs.Frame.{made, controlOf, dataOf, isData, sameApart}
 use Rattle.registers.specs.Writing.{writeChecks, written}
 use Rattle.registers.proofs.Fits.{fit-written}
@@ -39,8 +40,11 @@ use Rattle.line.proofs.Parts.{gone-some}
 use Rattle.loops.specs.LoopToLine.{adds, leftState, leftBytes}
 use Rattle.loops.specs.Sending.{ruleOf, talking, ended, removedState, sendState, sendFrom, sendStatus}
 use Rattle.loops.specs.Frames.{isClear, orderIn, cleared, obeyed, commandState, command, finishing, readied, ready, returned, dataPassed, identify, frameTaken, deviceClear, addsBytes, frameBytes}
-use Rattle.bridge.specs.Calls.{Call, create, reset, write, lineByte, lineBreak, key, nextLineByte, loopFrame, show, World, Did, world, outcome, settledBy, rxAfter, txAfter, notRefused, refusedOr, checks, step}
-use Rattle.laws.specs.Fitting.{AllBytes, ByteCall, Fits, SameStores, CallsKeepFit, CreateMakesFit, CallsKeepStores, CallsKeepBytes}
+use Rattle.bridge.specs.Calls.{OnState, reset, write, lineByte, lineBreak, key, nextLineByte, loopFrame, Call, create, show, on, ofFrame, World, Did, outcome, settledBy, rxAfter, txAfter, notRefused, checks, step}
+use Rattle.laws.specs.Bridges.{ByteOn, ByteCall, bridge}
+use Rattle.laws.specs.Fitting.{Fits, SameStores, KeepsFit, CreateMakesFit, KeepsStores}
+use Rattle.laws.proofs.Refusing.{by-refusal, write-fitting}
+use Rattle.store.specs.Bytes.{Bytes}
 use Rattle.laws.proofs.Small.{put-bytes, given-small, status-small}
 use Rattle.laws.proofs.States.{tested, start-fits, with-registers, with-rx, with-tx, talking-tests, obeyed-tests, cleared-tests, assigned-tests}
 
@@ -54,29 +58,25 @@ frame-size : (s : State) (tx : List ℕ) (f : ℕ) → length (frameBytes s tx f
 unfolding frameBytes leftBytes
 frame-size s tx f = by-cond (λ (x : List ℕ). length x ≡ length tx) (addsBytes s f) _ tx (λ _. puts-size tx (s .tx) (adds (s .regs) f)) (λ _. refl)
 
-rx-size : (c : Call) (w : World) → length (rxAfter c w) ≡ length (w .rx)
+rx-size : (c : OnState) (w : World) → length (rxAfter c w) ≡ length (w .rx)
 unfolding rxAfter
 rx-size (lineByte b) w = line-size (w .state) (w .rx) b
-rx-size (create m) w = refl
 rx-size reset w = refl
 rx-size (write n v) w = refl
 rx-size lineBreak w = refl
 rx-size key w = refl
 rx-size nextLineByte w = refl
 rx-size (loopFrame f) w = refl
-rx-size (show side) w = refl
 
-tx-size : (c : Call) (w : World) → length (txAfter c w) ≡ length (w .tx)
+tx-size : (c : OnState) (w : World) → length (txAfter c w) ≡ length (w .tx)
 unfolding txAfter
 tx-size (loopFrame f) w = frame-size (w .state) (w .tx) f
-tx-size (create m) w = refl
 tx-size reset w = refl
 tx-size (write n v) w = refl
 tx-size (lineByte b) w = refl
 tx-size lineBreak w = refl
 tx-size key w = refl
 tx-size nextLineByte w = refl
-tx-size (show side) w = refl
 
 -- ---- the state that each part leaves
 
@@ -90,7 +90,7 @@ module _ (rx tx : List ℕ) where
   unfolding fits settled
   settled-good s q e = e
 
-  module _ (s : State) (bytes : AllBytes rx) (e : fits s (length rx) (length tx) ≡ true) where
+  module _ (s : State) (bytes : Bytes rx) (e : fits s (length rx) (length tx) ≡ true) where
     t : Tests s (length rx) (length tx)
     t = tests s (length rx) (length tx) e
 
@@ -179,7 +179,7 @@ module _ (rx tx : List ℕ) where
       more : Good rx tx (sendState p q (One g) .state)
       more = unfold fits sendState in talking-good q 2 g e h (omega arith) (k g refl)
 
-  module _ (s : State) (bytes : AllBytes rx) (e : fits s (length rx) (length tx) ≡ true) where
+  module _ (s : State) (bytes : Bytes rx) (e : fits s (length rx) (length tx) ≡ true) where
     send-good : 1 ≤ s .role .talker → Good rx tx (sendFrom s rx .state)
     unfolding sendFrom
     send-good h =
@@ -244,117 +244,83 @@ module _ (rx tx : List ℕ) where
 
 -- ---- every call
 
--- the world of a call that is not refused, by its state
-by-state : (c : Call) (w : World) → Good (w .rx) (w .tx) (settledBy c (w .state) (outcome c w .state)) → Fits (notRefused c w .world)
-unfolding notRefused
-by-state c w e = rw (rx-size c w, tx-size c w) e
-
--- a call is refused and leaves the world, or is accepted
-by-refusal : (c : Call) (w : World) → Fits w → (firstRefusal (checks c w) ≡ 0 → Good (w .rx) (w .tx) (settledBy c (w .state) (outcome c w .state))) →
-    Fits (refusedOr (firstRefusal (checks c w)) (notRefused c w) w .world)
-unfolding refusedOr
-by-refusal c w e f =
-    by-cond (λ (d : Did). Fits (d .world)) (eqb (firstRefusal (checks c w)) 0) _ _
-    (λ h. by-state c w (f (eqb-true (firstRefusal (checks c w)) 0 h)))
-    (λ _. e)
-
 -- create is accepted exactly where the sizes are obeyed
-create-sizes : (m : ℕ) (w : World) → firstRefusal (checks (create m) w) ≡ 0 → sizesObeyed m (length (w .rx)) (length (w .tx)) ≡ true
-unfolding checks
-create-sizes m w = go (sizesObeyed m (length (w .rx)) (length (w .tx)))
+create-good : (m : ℕ) (w : World) → firstRefusal (checks (create m) w) ≡ 0 → Fits (notRefused (create m) w .world)
+unfolding checks notRefused
+create-good m w h = start-fits m (length (w .rx)) (length (w .tx)) (go (sizesObeyed m (length (w .rx)) (length (w .tx))) h)
   where
     go : (t : Bool) → _≡_ {A = ℕ} (cond (not t) 1 0) 0 → t ≡ true
     go true h = refl
     go false h = absurd (omega arith)
 
-create-good : (m : ℕ) (w : World) → firstRefusal (checks (create m) w) ≡ 0 → Good (w .rx) (w .tx) (settledBy (create m) (w .state) (outcome (create m) w .state))
-unfolding settledBy outcome
-create-good m w h = start-fits m (length (w .rx)) (length (w .tx)) (create-sizes m w h)
+module _ (w : World) (b : Bytes (w .rx)) (e : Fits w) where
+  outcome-good : (c : OnState) → firstRefusal (checks (on c) w) ≡ 0 → Good (w .rx) (w .tx) (outcome c w .state)
+  unfolding outcome
+  outcome-good reset h = start-fits (w .state .sizes .margin) (length (w .rx)) (length (w .tx)) (tests (w .state) (length (w .rx)) (length (w .tx)) e .sizes)
+  outcome-good (write n v) h = write-good (w .rx) (w .tx) (w .state) b e n v (write-fitting n v w h .1)
+  outcome-good (lineByte x) h = line-good (w .rx) (w .tx) (w .state) b e x
+  outcome-good lineBreak h = unfold fits breakState in e
+  outcome-good key h = unfold fits keyState in e
+  outcome-good nextLineByte h = gone-good (w .rx) (w .tx) (w .state) b e (nextOut (w .state) (w .tx)) refl
+  outcome-good (loopFrame f) h = frame-good (w .rx) (w .tx) (w .state) b e f
 
-reset-good : (w : World) → Fits w → Good (w .rx) (w .tx) (settledBy reset (w .state) (outcome reset w .state))
-unfolding settledBy outcome
-reset-good w e =
-    settled-good (w .rx) (w .tx) (w .state) _
-    (start-fits (w .state .sizes .margin) (length (w .rx)) (length (w .tx)) (tests (w .state) (length (w .rx)) (length (w .tx)) e .sizes))
+  -- requests are settled or not, and the stores keep their lengths
+  pub state-good : (c : OnState) → firstRefusal (checks (on c) w) ≡ 0 → Fits (notRefused (on c) w .world)
+  unfolding notRefused settledBy
+  state-good c h =
+      rw (rx-size c w, tx-size c w)
+      (by-cond (Good (w .rx) (w .tx)) (ofFrame (deviceClear (w .state)) false c) _ _
+      (λ _. outcome-good c h) (λ _. settled-good (w .rx) (w .tx) (w .state) _ (outcome-good c h)))
 
-write-refusal : (n v : ℕ) (w : World) → Fits w → firstRefusal (checks (write n v) w) ≡ 0 → firstRefusal (writeChecks (w .state .regs) n v) ≡ 0
-unfolding checks
-write-refusal n v w e h = rw e at h
-
-pub calls-keep-fit : CallsKeepFit
-unfolding step
-calls-keep-fit (show side) w b e = e
-calls-keep-fit (create m) w b e = by-refusal (create m) w e (create-good m w)
-calls-keep-fit reset w b e = by-refusal reset w e (λ _. reset-good w e)
-calls-keep-fit (write n v) w b e = by-refusal (write n v) w e (λ h. unfold settledBy outcome in settled-good (w .rx) (w .tx) (w .state) _ (write-good (w .rx) (w .tx) (w .state) b e n v (write-refusal n v w e h)))
-calls-keep-fit (lineByte x) w b e = by-refusal (lineByte x) w e (λ _. unfold settledBy outcome in settled-good (w .rx) (w .tx) (w .state) _ (line-good (w .rx) (w .tx) (w .state) b e x))
-calls-keep-fit lineBreak w b e = by-refusal lineBreak w e (λ _. unfold settledBy outcome in settled-good (w .rx) (w .tx) (w .state) _ (unfold fits breakState in e))
-calls-keep-fit key w b e = by-refusal key w e (λ _. unfold settledBy outcome in settled-good (w .rx) (w .tx) (w .state) _ (unfold fits keyState in e))
-calls-keep-fit nextLineByte w b e = by-refusal nextLineByte w e (λ _. unfold settledBy outcome in settled-good (w .rx) (w .tx) (w .state) _ (gone-good (w .rx) (w .tx) (w .state) b e (nextOut (w .state) (w .tx)) refl))
-calls-keep-fit (loopFrame f) w b e =
-    by-refusal (loopFrame f) w e
-    (λ _. unfold settledBy outcome in
-    by-cond (Good (w .rx) (w .tx)) (deviceClear (w .state) f) _ _
-    (λ _. frame-good (w .rx) (w .tx) (w .state) b e f)
-    (λ _. settled-good (w .rx) (w .tx) (w .state) _ (frame-good (w .rx) (w .tx) (w .state) b e f)))
-
-pub create-makes-fit : CreateMakesFit
-unfolding step refusedOr
-create-makes-fit m w = go (firstRefusal (checks (create m) w)) refl
+pub keeps-fit : Obeys (bridge step) KeepsFit
+keeps-fit c w b e = by-refusal (λ (d : Did). Fits (d .world)) c w (go c) (λ _. e)
   where
-    go : (n : ℕ) → firstRefusal (checks (create m) w) ≡ n →
-        cond (eqb n 0) (notRefused (create m) w) (record { said = refused n; world = w }) .said ≡ done → Fits (cond (eqb n 0) (notRefused (create m) w) (record { said = refused n; world = w }) .world)
-    go n h = by-cond (λ (d : Did). d .said ≡ done → Fits (d .world)) (eqb n 0) _ _ (λ z _. by-state (create m) w (create-good m w (h ∙ eqb-true n 0 z))) (λ _ z. let y : _≡_ {A = ℕ} 0 1 = cc in absurd (omega arith))
+    go : (c : Call) → firstRefusal (checks c w) ≡ 0 → Fits (notRefused c w .world)
+    go (create m) h = create-good m w h
+    go (show side) h = unfold notRefused in e
+    go (on c) h = state-good w b e c h
 
-kept : (c : Call) (w : World) → SameStores w (refusedOr (firstRefusal (checks c w)) (notRefused c w) w .world)
-unfolding refusedOr notRefused
-kept c w =
-    by-cond (λ (d : Did). SameStores w (d .world)) (eqb (firstRefusal (checks c w)) 0) _ _
-    (λ _. record { rx = rx-size c w; tx = tx-size c w })
-    (λ _. record { rx = refl; tx = refl })
+pub create-fits-so : (m : ℕ) (w : World) → step (create m) w .said ≡ done → Fits (step (create m) w .world)
+create-fits-so m w =
+    by-refusal (λ (d : Did). d .said ≡ done → Fits (d .world)) (create m) w (λ h _. create-good m w h) (λ _ z. let y : _≡_ {A = ℕ} 0 1 = cc in absurd (omega arith))
 
-pub calls-keep-stores : CallsKeepStores
-unfolding step
-calls-keep-stores (show side) w = record { rx = refl; tx = refl }
-calls-keep-stores (create m) w = kept (create m) w
-calls-keep-stores reset w = kept reset w
-calls-keep-stores (write n v) w = kept (write n v) w
-calls-keep-stores (lineByte x) w = kept (lineByte x) w
-calls-keep-stores lineBreak w = kept lineBreak w
-calls-keep-stores key w = kept key w
-calls-keep-stores nextLineByte w = kept nextLineByte w
-calls-keep-stores (loopFrame f) w = kept (loopFrame f) w
+pub create-makes-fit : Obeys (bridge step) CreateMakesFit
+create-makes-fit c w _ m q = subst (λ (x : Call). step x w .said ≡ done → Fits (step x w .world)) (sym q) (create-fits-so m w)
+
+stores-kept : (c : Call) (w : World) → SameStores w (notRefused c w .world)
+unfolding notRefused
+stores-kept (create m) w = record { rx = refl; tx = refl }
+stores-kept (show side) w = record { rx = refl; tx = refl }
+stores-kept (on c) w = record { rx = rx-size c w; tx = tx-size c w }
+
+pub stores-stay : (c : Call) (w : World) → SameStores w (step c w .world)
+stores-stay c w = by-refusal (λ (d : Did). SameStores w (d .world)) c w (λ _. stores-kept c w) (λ _. record { rx = refl; tx = refl })
+
+pub keeps-stores : Obeys (bridge step) KeepsStores
+keeps-stores c w _ = stores-stay c w
 
 -- ---- the receive store stays a store of bytes
 
-line-bytes : (s : State) (rx : List ℕ) (b : ℕ) → b < 256 → AllBytes rx → AllBytes (lineBytes s rx b)
+line-bytes : (s : State) (rx : List ℕ) (b : ℕ) → b < 256 → Bytes rx → Bytes (lineBytes s rx b)
 unfolding lineBytes
-line-bytes s rx b h k = by-cond AllBytes (isGoOrStop (s .regs) b) _ _ (λ _. k) (λ _. put-bytes rx (s .rx) b h k)
+line-bytes s rx b h k = by-cond Bytes (isGoOrStop (s .regs) b) _ _ (λ _. k) (λ _. put-bytes rx (s .rx) b h k)
 
-rx-bytes : (c : Call) (w : World) → ByteCall c → AllBytes (w .rx) → AllBytes (rxAfter c w)
+rx-bytes : (c : OnState) (w : World) → ByteOn c → Bytes (w .rx) → Bytes (rxAfter c w)
 unfolding rxAfter
 rx-bytes (lineByte b) w h k = line-bytes (w .state) (w .rx) b h k
-rx-bytes (create m) w h k = k
 rx-bytes reset w h k = k
 rx-bytes (write n v) w h k = k
 rx-bytes lineBreak w h k = k
 rx-bytes key w h k = k
 rx-bytes nextLineByte w h k = k
 rx-bytes (loopFrame f) w h k = k
-rx-bytes (show side) w h k = k
 
-kept-bytes : (c : Call) (w : World) → ByteCall c → AllBytes (w .rx) → AllBytes (refusedOr (firstRefusal (checks c w)) (notRefused c w) w .world .rx)
-unfolding refusedOr notRefused
-kept-bytes c w h k = by-cond (λ (d : Did). AllBytes (d .world .rx)) (eqb (firstRefusal (checks c w)) 0) _ _ (λ _. rx-bytes c w h k) (λ _. k)
-
-pub calls-keep-bytes : CallsKeepBytes
-unfolding step
-calls-keep-bytes (show side) w h k = k
-calls-keep-bytes (create m) w h k = kept-bytes (create m) w h k
-calls-keep-bytes reset w h k = kept-bytes reset w h k
-calls-keep-bytes (write n v) w h k = kept-bytes (write n v) w h k
-calls-keep-bytes (lineByte b) w h k = kept-bytes (lineByte b) w h k
-calls-keep-bytes lineBreak w h k = kept-bytes lineBreak w h k
-calls-keep-bytes key w h k = kept-bytes key w h k
-calls-keep-bytes nextLineByte w h k = kept-bytes nextLineByte w h k
-calls-keep-bytes (loopFrame f) w h k = kept-bytes (loopFrame f) w h k
+-- so what the types give of our bridge goes on
+pub keeps-bytes : (c : Call) (w : World) → ByteCall c → Bytes (w .rx) → Bytes (step c w .world .rx)
+unfolding notRefused
+keeps-bytes c w h k = by-refusal (λ (d : Did). Bytes (d .world .rx)) c w (λ _. go c h) (λ _. k)
+  where
+    go : (c : Call) → ByteCall c → Bytes (notRefused c w .world .rx)
+    go (create m) h = k
+    go (show side) h = k
+    go (on c) h = rx-bytes c w h k

@@ -27,38 +27,9 @@ use Rattle.line.specs.HoldingOff.{resumed}
 use Rattle.loops.specs.LoopToLine.{adds, leftState}
 use Rattle.loops.specs.Sending.{ruleOf, talking, ended, removedState, sendState, sendFrom, sendStatus}
 use Rattle.loops.specs.Frames.{isClear, orderIn, cleared, obeyed, commandState, command, finishing, readied, ready, returned, dataPassed, identify, frameTaken, deviceClear, addsBytes}
+use Rattle.loops.proofs.Clears.{clear-order}
 use Rattle.laws.specs.Places.{nextPlace}
-use Rattle.laws.specs.CallPlaces.{isDeviceClear}
 use Rattle.laws.proofs.OneStore.{left}
-
--- which commands are a device clear
-pub clear-order : (r : Role) (d : ℕ) → isClear (orderOf 31 r d) ≡ (eqb d 20 || (eqb d 4 && r .listener))
-unfolding orderOf listenOrder talkOrder otherOrder
-clear-order r d =
-    by-cond (λ o. isClear o ≡ rest) (eqb (d - d % 32) 32) _ _
-    (λ e. by-cond Other (eqb (d % 32) 31) _ _ (λ _. refl) (λ _. by-cond Other (eqb (d % 32) (ownAddress 31 r)) _ _ (λ _. refl) (λ _. refl)) ∙ sym (high (omega (arith, eqb-true (d - d % 32) 32 e))))
-    (λ _. by-cond (λ o. isClear o ≡ rest) (eqb (d - d % 32) 64) _ _
-    (λ e. by-cond Other (eqb (d % 32) (ownAddress 31 r) && not (eqb (d % 32) 31)) _ _ (λ _. refl) (λ _. refl) ∙ sym (high (omega (arith, eqb-true (d - d % 32) 64 e))))
-    (λ _. by-cond (λ o. isClear o ≡ rest) rest _ _ (λ e. sym e)
-    (λ e. by-cond Other (eqb d 144) _ _ (λ _. refl)
-    (λ _. by-cond Other (eqb d 146) _ _ (λ _. refl)
-    (λ _. by-cond Other (eqb d 147) _ _ (λ _. refl)
-    (λ _. by-cond Other (eqb d 1 && r .listener) _ _ (λ _. refl)
-    (λ _. by-cond Other (eqb d 154) _ _ (λ _. refl) (λ _. refl)))))
-    ∙ sym e)))
-  where
-    rest : Bool
-    rest = eqb d 20 || (eqb d 4 && r .listener)
-
-    Other : Order → Type 0
-    Other o = isClear o ≡ false
-
-    high : 32 ≤ d → rest ≡ false
-    high h = λ i. ne-eqb d 20 (λ e. omega arith) i || (ne-eqb d 4 (λ e. omega arith) i && r .listener)
-
-pub clear-same : (s : State) (f : ℕ) → isDeviceClear s f ≡ deviceClear s f
-unfolding isDeviceClear deviceClear
-clear-same s f = λ i. eqb (controlOf f) 4 && sym (clear-order (s .role) (dataOf f)) i
 
 -- nothing is added: the receive store's next place and the transmit store's ring stay
 pub record Still (n : ℕ) (s t : State) : Type 0 where
@@ -126,9 +97,12 @@ module _ (rx : List ℕ) (s : State) (fit : Fit rx (s .rx)) where
       o : Order
       o = orderIn s f
 
+      same : deviceClear s f ≡ isClear o
+      same = λ i. e i && sym (clear-order (s .role) (dataOf f)) i
+
       go : (t : Bool) → isClear o ≡ t → Kind (length rx) s f (cond (isClear o) (cleared (obeyed s o)) (obeyed s o))
-      go true h = unfold cleared in clears (rw (e, h)) (rw d) (rw h) (rw h)
-      go false h = unfold obeyed in other (rw (e, h)) (rw d) (record { place = rw h; ring = rw h })
+      go true h = unfold cleared in clears (same ∙ h) (rw d) (rw h) (rw h)
+      go false h = unfold obeyed in other (same ∙ h) (rw d) (record { place = rw h; ring = rw h })
 
   passed-kind : (f : ℕ) → isData f ≡ true → isActive (s .role) ≡ false → Kind (length rx) s f (dataPassed s f .state)
   unfolding dataPassed addsBytes leftState

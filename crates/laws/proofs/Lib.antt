@@ -1,5 +1,6 @@
--- `Small` bounds the frames that are sent, `States` has each change of a state that fits, `OneStore` and `FramePlaces` serve `CallPlaces`;
+-- `Refusing` tells what is refused from what is done, `Small` bounds the frames that are sent, `States` has each change of a state that fits, `OneStore` and `FramePlaces` serve `CallPlaces`;
 -- the others prove the specs of their names.
+pub mod Refusing
 pub mod Small
 pub mod States
 pub mod Fitting
@@ -11,4 +12,5 @@ pub mod OneStore
 pub mod FramePlaces
 pub mod CallPlaces
 pub mod Starting
+pub mod Showing
 pub mod Examples

@@ -1,12 +1,18 @@
 -- Two results that a promise allows are equal. Assumes nothing.
 use Prim.Native.Nat.{ℕ, _/_, _%_}
 use native.Mathlib.Omega.{arith}
-use mathlib.Core.Path.{_≡_, refl, sym, ap, _∙_}
+use mathlib.Core.Path.{_≡_, refl, sym, ap, subst, _∙_}
+use mathlib.Core.Bool.{Bool, true, false, false≢true}
+use mathlib.Core.List.{List}
+use lib.ListN.{length}
 use Rattle.state.specs.declared.Answer.{Answer}
 use Rattle.state.specs.declared.Answer.the-variants.{Done, Nothing, Byte, Frame, Refused}
 use Rattle.state.specs.Answers.{part, said}
-use Rattle.bridge.specs.Calls.{Did, did}
-use Rattle.laws.specs.OneResult.{CallsHaveOneResult, CreateHasOneResult, ShowHasOneResult}
+use Rattle.state.specs.declared.Outcome.{Outcome}
+use Rattle.state.specs.Sizes.{sizesObeyed, startState}
+use Rattle.bridge.specs.Calls.{create, Did, did, checks, notRefused, refusedOr, step, Promised, unmade}
+use Rattle.laws.proofs.Refusing.{by-refusal}
+use Rattle.laws.specs.OneResult.{OneResult, CreatedAnywhere, CreateTakesNoState}
 
 same-frame : (f g : ℕ) → f / 256 ≡ g / 256 → f % 256 ≡ g % 256 → f ≡ g
 same-frame f g p q = omega arith
@@ -40,24 +46,32 @@ said-one (Refused x) Nothing e = cc
 said-one (Refused x) (Byte y) e = cc
 said-one (Refused x) (Frame y) e = cc
 
-pub calls-have-one-result : CallsHaveOneResult
-calls-have-one-result c w o₁ o₂ rx₁ rx₂ tx₁ tx₂ p q =
-    let e : did o₁ rx₁ tx₁ ≡ did o₂ rx₂ tx₂ = p ∙ sym q in
+pub one-result : OneResult
+one-result =
     record {
-      reply = said-one (o₁ .answer) (o₂ .answer) (ap (λ (d : Did). d .said) e);
-      state = ap (λ (d : Did). d .world .state) e;
-      rx = ap (λ (d : Did). d .world .rx) e;
-      tx = ap (λ (d : Did). d .world .tx) e;
+      calls = λ c w o₁ o₂ rx₁ rx₂ tx₁ tx₂ p q.
+          let e : did o₁ rx₁ tx₁ ≡ did o₂ rx₂ tx₂ = p ∙ sym q in
+          record {
+            reply = said-one (o₁ .answer) (o₂ .answer) (ap (λ (d : Did). d .said) e);
+            state = ap (λ (d : Did). d .world .state) e;
+            rx = ap (λ (d : Did). d .world .rx) e;
+            tx = ap (λ (d : Did). d .world .tx) e;
+          };
+      shown = λ side w x₁ x₂ p q. let e : part x₁ ≡ part x₂ = ap (λ (d : Did). d .said) (p ∙ sym q) in cc;
     }
 
-pub create-has-one-result : CreateHasOneResult
-create-has-one-result m rx tx o₁ o₂ p q =
-    record {
-      reply = said-one (o₁ .answer) (o₂ .answer) (p .answer (o₁ .state) ∙ sym (q .answer (o₁ .state)));
-      state = p .made ∙ sym (q .made);
-      rx = refl;
-      tx = refl;
-    }
+pub create-takes-no-state : CreateTakesNoState
+unfolding step refusedOr checks notRefused said
+create-takes-no-state m rx tx s d p =
+    subst (CreatedAnywhere m rx tx s) (sym p) (pick (sizesObeyed m (length rx) (length tx)) refl)
+  where
+    pick : (t : Bool) → sizesObeyed m (length rx) (length tx) ≡ t → CreatedAnywhere m rx tx s (step (create m) (unmade m rx tx))
+    pick true e = record { answer = rw e; made = λ _. rw e; kept = λ h. absurd (false≢true (rw e at h)) }
+    pick false e = record { answer = rw e; made = λ h. absurd (false≢true (sym (rw e at h))); kept = λ _. rw e }
 
-pub show-has-one-result : ShowHasOneResult
-show-has-one-result side w x₁ x₂ p q = let e : part x₁ ≡ part x₂ = ap (λ (d : Did). d .said) (p ∙ sym q) in cc
+-- the state that create gives, also beside a refusal
+pub create-state : (m : ℕ) (rx tx : List ℕ) (o : Outcome) → Promised (create m) (unmade m rx tx) (did o rx tx) → o .state ≡ startState m (length rx) (length tx)
+unfolding notRefused
+create-state m rx tx o p =
+    ap (λ (d : Did). d .world .state) p
+    ∙ by-refusal (λ (d : Did). d .world .state ≡ startState m (length rx) (length tx)) (create m) (unmade m rx tx) (λ _. refl) (λ _. refl)

@@ -23,10 +23,10 @@ use Rattle.reading.proofs.Reading.{send-at}
 use Rattle.reading.proofs.Lawful.{lawful}
 use Rattle.sending.specs.declared.Given.the-variants.{One}
 use Rattle.sending.specs.Sending.{givenOf, sendHeld}
-use Rattle.laws.specs.Fitting.{AllBytes}
+use Rattle.store.specs.Bytes.{Bytes}
 
 -- what a store of bytes holds is bytes
-pub held-bytes : (s : List ℕ) (r : Ring) → Fit s r → AllBytes s → AllBytes (held s r)
+pub held-bytes : (s : List ℕ) (r : Ring) → Fit s r → Bytes s → Bytes (held s r)
 held-bytes s r f b k =
     ⊎-elim
     (λ l. subst (λ (n : ℕ). n < 256) (sym (held-at s r k f l)) (b (wrap (length s) (r .oldest + k))))
@@ -34,18 +34,18 @@ held-bytes s r f b k =
     (split k (r .len))
 
 -- a byte stored among bytes
-pub put-bytes : (s : List ℕ) (r : Ring) (b : ℕ) → b < 256 → AllBytes s → AllBytes (putBytes s r b)
+pub put-bytes : (s : List ℕ) (r : Ring) (b : ℕ) → b < 256 → Bytes s → Bytes (putBytes s r b)
 unfolding putBytes
-put-bytes s r b h k = by-cond AllBytes (full (length s) r) _ _ (λ _. k) (λ _ j. set-bytes s (wrap (length s) (r .oldest + r .len)) j k)
+put-bytes s r b h k = by-cond Bytes (full (length s) r) _ _ (λ _. k) (λ _ j. set-bytes s (wrap (length s) (r .oldest + r .len)) j k)
   where
-    set-bytes : (xs : List ℕ) (at j : ℕ) → AllBytes xs → getD (set xs at b) j 0 < 256
+    set-bytes : (xs : List ℕ) (at j : ℕ) → Bytes xs → getD (set xs at b) j 0 < 256
     set-bytes [] at j k = omega arith
     set-bytes (x ∷ xs) zero zero k = h
     set-bytes (x ∷ xs) zero (suc j) k = k (suc j)
     set-bytes (x ∷ xs) (suc i) zero k = k 0
     set-bytes (x ∷ xs) (suc i) (suc j) k = set-bytes xs i j (λ n. k (suc n))
 
-pub drop-bytes : (n : ℕ) (xs : List ℕ) → AllBytes xs → AllBytes (drop n xs)
+pub drop-bytes : (n : ℕ) (xs : List ℕ) → Bytes xs → Bytes (drop n xs)
 drop-bytes n xs b k = subst (λ (m : ℕ). m < 256) (sym (getD-drop n xs k 0)) (b (n + k))
 
 -- a cut's frame is a data frame
@@ -58,25 +58,25 @@ abbrev SmallSent : Sent ℕ ℕ → Type 0
 SmallSent (none r) = Unit {0}
 SmallSent (one f r) = f < 1024
 
-carried-small : (d : Decision) (xs : List ℕ) → AllBytes xs → SmallCut (carried d xs)
+carried-small : (d : Decision) (xs : List ℕ) → Bytes xs → SmallCut (carried d xs)
 carried-small Removed xs b = tt
 carried-small End xs b = omega (arith, b 0)
 carried-small Data xs b = omega (arith, b 0)
 carried-small Wait xs b = tt
 
-cut-small : (r : Rule) (xs : List ℕ) → AllBytes xs → SmallCut (cut r xs)
+cut-small : (r : Rule) (xs : List ℕ) → Bytes xs → SmallCut (cut r xs)
 unfolding cut
 cut-small r xs b = carried-small (decision r xs) xs b
 
-send-small : (r : Rule) (xs : List ℕ) → AllBytes xs → SmallSent (send (cut r) xs)
+send-small : (r : Rule) (xs : List ℕ) → Bytes xs → SmallSent (send (cut r) xs)
 send-small r =
-    by-cuts (cut r) (lawful r) (λ xs. AllBytes xs → SmallSent (send (cut r) xs))
+    by-cuts (cut r) (lawful r) (λ xs. Bytes xs → SmallSent (send (cut r) xs))
     (λ xs e b. subst SmallSent (sym (send-at (cut r) (lawful r) xs wait e)) tt)
-    (λ xs s e ih b. subst SmallSent (sym (send-at (cut r) (lawful r) xs (skip s) e)) (ih (subst AllBytes (sym (skip-oldest (cut r) (lawful r) xs s e .suffix)) (drop-bytes (length xs - length s) xs b))))
+    (λ xs s e ih b. subst SmallSent (sym (send-at (cut r) (lawful r) xs (skip s) e)) (ih (subst Bytes (sym (skip-oldest (cut r) (lawful r) xs s e .suffix)) (drop-bytes (length xs - length s) xs b))))
     (λ xs f s e ih b. subst SmallSent (sym (send-at (cut r) (lawful r) xs (give f s) e)) (subst SmallCut e (cut-small r xs b)))
 
 -- the frame of a send
-pub given-small : (r : Rule) (s : List ℕ) (q : Ring) (f : ℕ) → Fit s q → AllBytes s → givenOf (sendHeld r s q) ≡ One f → f < 1024
+pub given-small : (r : Rule) (s : List ℕ) (q : Ring) (f : ℕ) → Fit s q → Bytes s → givenOf (sendHeld r s q) ≡ One f → f < 1024
 unfolding sendHeld
 given-small r s q f h b e = go (send (cut r) (held s q)) (send-small r (held s q) (held-bytes s q h b)) e
   where

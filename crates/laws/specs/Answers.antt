@@ -1,19 +1,12 @@
 -- What a call can answer, and when it refuses.
 use Prim.Native.Nat.{ℕ}
 use mathlib.Core.Path.{_≡_}
-use mathlib.Core.Bool.{Bool, true, false}
+use mathlib.Core.Bool.{Bool, true, false, cond}
 use Rattle.cases.specs.Refusals.{firstRefusal}
-use Rattle.state.specs.Answers.{Said, done, none, byte, frame, refused, part}
-use Rattle.bridge.specs.Calls.{Call, create, reset, write, lineByte, lineBreak, key, nextLineByte, loopFrame, show, World, checks, step}
-
--- a refusal
-abbrev pub isRefusal : Said → Bool
-isRefusal (refused n) = true
-isRefusal done = false
-isRefusal none = false
-isRefusal (byte b) = false
-isRefusal (frame k d) = false
-isRefusal (part xs) = false
+use Rattle.machine.specs.Machine.{ofCalls}
+use Rattle.state.specs.Answers.{Said, done, none, byte, frame, refused, part, isRefusal}
+use Rattle.bridge.specs.Calls.{nextLineByte, Call, create, show, on, ofFrame, is, checks}
+use Rattle.laws.specs.Bridges.{Law}
 
 -- "A call that has nothing to hand out answers that it is done"
 abbrev pub doneOrRefused : Said → Bool
@@ -54,30 +47,24 @@ isPart (refused n) = false
 -- the answers of each call
 abbrev pub canAnswer : Call → Said → Bool
 canAnswer (create m) x = doneOrRefused x
-canAnswer reset x = doneOrRefused x
-canAnswer (write n v) x = doneOrRefused x
-canAnswer (lineByte b) x = doneOrRefused x
-canAnswer lineBreak x = doneOrRefused x
-canAnswer key x = doneOrRefused x
-canAnswer nextLineByte x = byteOrRefused x
-canAnswer (loopFrame f) x = frameOrRefused x
 canAnswer (show side) x = isPart x
+canAnswer (on c) x = cond (is nextLineByte c) (byteOrRefused x) (ofFrame (λ f. frameOrRefused x) (doneOrRefused x) c)
 
--- every call, in every world, answers one of these
-abbrev pub CallsAnswerSo : Type 0
-CallsAnswerSo = (c : Call) (w : World) → canAnswer c (step c w .said) ≡ true
+-- every call answers one of these
+abbrev pub AnswersSo : Law
+AnswersSo = ofCalls (λ s. canAnswer (s .call) (s .answer) ≡ true)
 
 -- a call on x answered a and left y, where n is the number of the first of its checks that is given, 0 where none is: x and y are worlds,
 -- or the buffers lent to a C function
 pub record Refuses {X : Type 0} (a : Said) (y : X) (n : ℕ) (x : X) : Type 0 where
-  -- "Given exactly when"
+  -- Sizes and refusals, the table: given exactly then
   pub when : (m : ℕ) → a ≡ refused m → n ≡ m
   pub given : (n ≡ 0 → ⊥) → a ≡ refused n
   -- and no refusal, nor one with the number 0, where none of its checks is given
   pub accepts : n ≡ 0 → isRefusal a ≡ false
-  -- "Each returns its number alone; state and stores stay as they were"
+  -- Sizes and refusals, below the table: the number alone, and all stays
   pub leaves : isRefusal a ≡ true → y ≡ x
 
--- "Given exactly when": every call, in every world, refuses by the first of its checks that is given, and only then
-abbrev pub RefusedExactly : Type 0
-RefusedExactly = (c : Call) (w : World) → Refuses (step c w .said) (step c w .world) (firstRefusal (checks c w)) w
+-- every call refuses by the first of its checks that is given, and only then
+abbrev pub RefusedExactly : Law
+RefusedExactly = ofCalls (λ s. Refuses (s .answer) (s .after) (firstRefusal (checks (s .call) (s .before))) (s .before))

@@ -11,7 +11,7 @@ use Rattle.registers.specs.Writing.{written}
 use Rattle.loops.specs.Sending.{ruleOf}
 use Rattle.state.specs.Answers.{Said, frame}
 use Rattle.state.specs.Sizes.{startState}
-use Rattle.bridge.specs.Calls.{Did, loopFrame, world, step}
+use Rattle.bridge.specs.Calls.{on, Did, loopFrame, world, step}
 
 -- what is tried: bytes held, with C00, C01 and R10 bit 3 on; or a frame, control and data, taken by a bridge just created
 pub data Trial : Type 0 where
@@ -38,7 +38,7 @@ shownAs f = frame (controlOf f) (dataOf f)
 
 -- a bridge just created, with margin 1 and the smallest stores
 abbrev taking : ℕ → ℕ → Did
-taking c d = step (loopFrame (made c d)) (world (startState 1 4 3) (0 ∷ 0 ∷ 0 ∷ 0 ∷ []) (0 ∷ 0 ∷ 0 ∷ []))
+taking c d = step (on (loopFrame (made c d))) (world (startState 1 4 3) (0 ∷ 0 ∷ 0 ∷ 0 ∷ []) (0 ∷ 0 ∷ 0 ∷ []))
 
 unfoldable pub given : Trial → Result
 given (held c0 c1 xs) = reads (map shownAs (frames (cut (rule c0 c1)) xs)) (left (cut (rule c0 c1)) xs)

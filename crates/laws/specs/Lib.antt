@@ -1,3 +1,7 @@
+-- Laws of any bridge. `Bridges` says what a bridge and a law are, `Observers` what is seen of a call, `Worlds` what a world holds, and `Laws`
+-- lists every law. `OneResult`, `Order`, `Places` and `Examples` are of our own bridge.
+pub mod Bridges
+pub mod Observers
 pub mod Fitting
 pub mod OneResult
 pub mod Answers
@@ -5,4 +9,26 @@ pub mod Order
 pub mod Places
 pub mod CallPlaces
 pub mod Starting
+pub mod Showing
 pub mod Examples
+pub mod Worlds
+pub mod Spells
+pub mod StatusWay
+pub mod Events
+pub mod StatusTold
+pub mod Cleared
+pub mod Requests
+pub mod SendRule
+pub mod Returns
+pub mod Roles
+pub mod Passing
+pub mod Service
+pub mod Registers
+pub mod Demands
+pub mod LineBytes
+pub mod LastSent
+pub mod Counts
+pub mod Holding
+pub mod NextByte
+pub mod Resuming
+pub mod Laws

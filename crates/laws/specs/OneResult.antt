@@ -1,10 +1,13 @@
--- "For each public call, any two results allowed by its promise are equal: the reply, the state and every byte of both stores, with
--- refusals covered."
+-- What a reader may hold us to, first: two results that a call's promise allows are equal, the reply, the state and every byte of both
+-- stores, refusals included. It is said of `Promised`, which the contracts of all nine calls cite.
 use Prim.Native.Nat.{ℕ}
 use mathlib.Core.Path.{_≡_}
+use mathlib.Core.Bool.{true, false}
 use mathlib.Core.List.{List}
+use Rattle.state.specs.declared.State.{State}
 use Rattle.state.specs.declared.Outcome.{Outcome}
-use Rattle.bridge.specs.Calls.{Call, show, World, did, handed, step, Created}
+use Rattle.state.specs.Answers.{isRefusal}
+use Rattle.bridge.specs.Calls.{Call, create, show, World, Did, world, did, handed, step, Promised, unmade}
 
 -- two results are the same
 pub record Same (o₁ o₂ : Outcome) (rx₁ rx₂ tx₁ tx₂ : List ℕ) : Type 0 where
@@ -13,16 +16,19 @@ pub record Same (o₁ o₂ : Outcome) (rx₁ rx₂ tx₁ tx₂ : List ℕ) : Typ
   pub rx : rx₁ ≡ rx₂
   pub tx : tx₁ ≡ tx₂
 
--- reset, register write, line byte, break, key, next line byte and loop frame promise what `step` says
-abbrev pub CallsHaveOneResult : Type 0
-CallsHaveOneResult =
-    (c : Call) (w : World) (o₁ o₂ : Outcome) (rx₁ rx₂ tx₁ tx₂ : List ℕ) →
-    did o₁ rx₁ tx₁ ≡ step c w → did o₂ rx₂ tx₂ ≡ step c w → Same o₁ o₂ rx₁ rx₂ tx₁ tx₂
+pub record OneResult : Type 0 where
+  -- of create and of every call on a state
+  pub calls : (c : Call) (w : World) (o₁ o₂ : Outcome) (rx₁ rx₂ tx₁ tx₂ : List ℕ) →
+      Promised c w (did o₁ rx₁ tx₁) → Promised c w (did o₂ rx₂ tx₂) → Same o₁ o₂ rx₁ rx₂ tx₁ tx₂
+  -- showing returns a part and changes nothing
+  pub shown : (side : ℕ) (w : World) (x₁ x₂ : List ℕ) → Promised (show side) w (handed x₁ w) → Promised (show side) w (handed x₂ w) → x₁ ≡ x₂
 
--- create takes no state and writes no store
-abbrev pub CreateHasOneResult : Type 0
-CreateHasOneResult = (m : ℕ) (rx tx : List ℕ) (o₁ o₂ : Outcome) → Created m rx tx o₁ → Created m rx tx o₂ → Same o₁ o₂ rx rx tx tx
+-- what create promises does not rest on the state that stands where it makes one: called where any other state s stands, it answers the
+-- same, and leaves the same state where it is done and s where it refuses
+pub record CreatedAnywhere (m : ℕ) (rx tx : List ℕ) (s : State) (d : Did) : Type 0 where
+  pub answer : step (create m) (world s rx tx) .said ≡ d .said
+  pub made : isRefusal (d .said) ≡ false → step (create m) (world s rx tx) .world ≡ d .world
+  pub kept : isRefusal (d .said) ≡ true → step (create m) (world s rx tx) .world ≡ world s rx tx
 
--- showing returns a part and changes nothing
-abbrev pub ShowHasOneResult : Type 0
-ShowHasOneResult = (side : ℕ) (w : World) (x₁ x₂ : List ℕ) → handed x₁ w ≡ step (show side) w → handed x₂ w ≡ step (show side) w → x₁ ≡ x₂
+abbrev pub CreateTakesNoState : Type 0
+CreateTakesNoState = (m : ℕ) (rx tx : List ℕ) (s : State) (d : Did) → Promised (create m) (unmade m rx tx) d → CreatedAnywhere m rx tx s d

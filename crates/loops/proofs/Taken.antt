@@ -8,7 +8,7 @@ use lib.Dec.{eqb}
 use lib.ListN.{length}
 use borrow.Author.Tests.{eq-eqb, ne-eqb, le-leb, lt-leb, ltb-true}
 use Rattle.cases.proofs.Cases.{cond-true, cond-false}
-use Rattle.frame.specs.Frame.{controlOf, isData}
+use Rattle.frame.specs.Frame.{controlOf, dataOf, isData}
 use Rattle.store.specs.declared.Ring.{Ring}
 use Rattle.store.specs.Ring.{putsRing, putsBytes}
 use Rattle.store.proofs.Several.{Puts}
@@ -16,6 +16,7 @@ use Rattle.state.specs.declared.State.{State}
 use Rattle.state.specs.declared.Outcome.{Outcome}
 use Rattle.state.specs.declared.Answer.the-variants.{Frame}
 use Rattle.state.specs.State.{withTx}
+use Rattle.loops.proofs.Clears.{clear-order}
 use Rattle.loops.specs.LoopToLine.{adds, leftState, leftBytes, Left}
 use Rattle.state.specs.Status.{settled, serviced}
 use Rattle.loops.specs.Frames.{isClear, orderIn, cleared, obeyed, commandState, command, commandSettled, ready, returned, dataPassed, Passed, identify, outcomeSettled, frameTaken, passed, deviceClear, frameSettled, addsBytes, frameBytes, Framed}
@@ -71,14 +72,14 @@ module _ (s : State) (rx tx : List ℕ) (f : ℕ) (o : Outcome) where
   module _ (e : isData f ≡ false) where
     pub taken-command : controlOf f ≡ 4 → o ≡ commandSettled s f → Framed s rx tx f tx o
     unfolding frameSettled frameTaken deviceClear frameBytes addsBytes command commandSettled commandState
-    taken-command h q = record { outcome = rw (q, e, eq-eqb (controlOf f) 4 h) (by-clear (isClear (orderIn s f))); bytes = rw e; size = refl }
+    taken-command h q = record { outcome = rw (q, e, eq-eqb (controlOf f) 4 h) (by-clear _ _ (clear-order (s .role) (dataOf f))); bytes = rw e; size = refl }
       where
         t : State
         t = obeyed s (orderIn s f)
 
-        by-clear : (b : Bool) → passed (cond b (cleared t) (settled s t)) f ≡ passed (cond b (cond b (cleared t) t) (settled s (cond b (cleared t) t))) f
-        by-clear true = refl
-        by-clear false = refl
+        by-clear : (b c : Bool) → b ≡ c → passed (cond b (cleared t) (settled s t)) f ≡ passed (cond c (cond b (cleared t) t) (settled s (cond b (cleared t) t))) f
+        by-clear true c e = rw (← e)
+        by-clear false c e = rw (← e)
 
     module _ (h : controlOf f ≡ 4 → ⊥) where
       pub taken-ready : (p : Outcome) → controlOf f ≡ 5 → p ≡ ready s rx f → o ≡ outcomeSettled s p → Framed s rx tx f tx o

@@ -1,6 +1,6 @@
 -- "Frames": what each frame taken does, and the one frame out.
 use Prim.Native.Nat.{ℕ, _+_}
-use mathlib.Core.Bool.{Bool, true, false, cond, _&&_, not}
+use mathlib.Core.Bool.{Bool, true, false, cond, _&&_, _||_, not}
 use mathlib.Core.List.{List}
 use lib.Dec.{eqb}
 use lib.ListN.{length}
@@ -138,9 +138,9 @@ frameTaken s rx f =
 abbrev pub outcomeSettled : State → Outcome → Outcome
 outcomeSettled s o = record { state = settled s (o .state); answer = o .answer }
 
--- "A device clear leaves no request."
+-- Frames, commands: 20, or 4 to a listener, is a device clear
 unfoldable pub deviceClear : State → ℕ → Bool
-deviceClear s f = eqb (controlOf f) 4 && isClear (orderIn s f)
+deviceClear s f = eqb (controlOf f) 4 && (eqb (dataOf f) 20 || (eqb (dataOf f) 4 && s .role .listener))
 
 -- a frame taken, with requests settled
 unfoldable pub frameSettled : State → List ℕ → ℕ → Outcome

@@ -19,9 +19,10 @@ use Rattle.state.specs.Sizes.{TxFits}
 use Rattle.state.specs.Status.{settled}
 use Rattle.state.proofs.Fits.{tx-fits}
 use Rattle.line.specs.HoldingOff.{owed, nextOut, goneState, outAnswer}
-use Rattle.bridge.specs.Calls.{nextLineByte, World, Did, checks, outcome, settledBy, notRefused, refusedOr, step}
-use Rattle.laws.specs.Fitting.{AllBytes, Fits}
-use Rattle.laws.proofs.Fitting.{calls-keep-fit, calls-keep-bytes}
+use Rattle.bridge.specs.Calls.{on, nextLineByte, World, Did, checksOn, checks, outcome, settledBy, notRefused, refusedOr, step}
+use Rattle.laws.specs.Fitting.{Fits}
+use Rattle.store.specs.Bytes.{Bytes}
+use Rattle.laws.proofs.Fitting.{keeps-fit, keeps-bytes}
 use Rattle.pass.specs.Passing.{isByte, byteIn, lineOut, asks}
 use Rattle.pass.specs.UntilNone.{lineWorld, Enough}
 
@@ -53,18 +54,18 @@ falls s tx =
     fewer zero h = absurd (h refl)
     fewer (suc k) h = omega arith
 
-step-falls : (w : World) → isByte (step nextLineByte w .said) ≡ true → weight (step nextLineByte w .world .state) < weight (w .state)
+step-falls : (w : World) → isByte (step (on nextLineByte) w .said) ≡ true → weight (step (on nextLineByte) w .world .state) < weight (w .state)
 unfolding step refusedOr notRefused outcome settledBy settled isByte
 step-falls w =
-    by-cond (λ (d : Did). isByte (d .said) ≡ true → weight (d .world .state) < weight (w .state)) (eqb (firstRefusal (checks nextLineByte w)) 0) _ _
+    by-cond (λ (d : Did). isByte (d .said) ≡ true → weight (d .world .state) < weight (w .state)) (eqb (firstRefusal (checks (on nextLineByte) w)) 0) _ _
     (λ e. falls (w .state) (w .tx))
     (λ e h. absurd (false≢true h))
 
 -- ---- no byte left to give
 
 -- a state that fits is not refused, so that an answer which is no byte is none
-no-byte : (w : World) → Fits w → isByte (step nextLineByte w .said) ≡ false → step nextLineByte w .said ≡ none
-unfolding step refusedOr notRefused checks outcome isByte said outAnswer
+no-byte : (w : World) → Fits w → isByte (step (on nextLineByte) w .said) ≡ false → step (on nextLineByte) w .said ≡ none
+unfolding step refusedOr notRefused checksOn checks outcome isByte said outAnswer
 no-byte w e = rw e (go (nextOut (w .state) (w .tx)))
   where
     go : (o : Out) → isByte (said (outAnswer o)) ≡ false → said (outAnswer o) ≡ none
@@ -73,29 +74,29 @@ no-byte w e = rw e (go (nextOut (w .state) (w .tx)))
     go Nothing h = refl
 
 -- more asks than there is to give end with none
-pub until-none : (n : ℕ) (w : World) → AllBytes (w .rx) → Fits w → weight (w .state) < n → step nextLineByte (lineWorld n w) .said ≡ none
+pub until-none : (n : ℕ) (w : World) → Bytes (w .rx) → Fits w → weight (w .state) < n → step (on nextLineByte) (lineWorld n w) .said ≡ none
 unfolding lineWorld
 until-none zero w b e h = absurd (omega arith)
 until-none (suc k) w b e h =
-    by-cond (λ (v : World). step nextLineByte v .said ≡ none) (isByte (step nextLineByte w .said)) _ _
-    (λ t. until-none k (step nextLineByte w .world) (calls-keep-bytes nextLineByte w tt b) (calls-keep-fit nextLineByte w b e) (omega (arith, step-falls w t)))
+    by-cond (λ (v : World). step (on nextLineByte) v .said ≡ none) (isByte (step (on nextLineByte) w .said)) _ _
+    (λ t. until-none k (step (on nextLineByte) w .world) (keeps-bytes (on nextLineByte) w tt b) (keeps-fit (on nextLineByte) w b e) (omega (arith, step-falls w t)))
     (λ t. no-byte w e t)
 
 -- asks after none give nothing more
-pub no-more : (n m : ℕ) (w : World) → n ≤ m → isByte (step nextLineByte (lineWorld n w) .said) ≡ false → lineOut m w ≡ lineOut n w
+pub no-more : (n m : ℕ) (w : World) → n ≤ m → isByte (step (on nextLineByte) (lineWorld n w) .said) ≡ false → lineOut m w ≡ lineOut n w
 unfolding lineOut lineWorld
 no-more zero zero w l h = refl
 no-more zero (suc m) w l h = rw h
 no-more (suc n) zero w l h = absurd (omega arith)
-no-more (suc n) (suc m) w l h = pick (no-more n m (step nextLineByte w .world) (omega arith)) (isByte (step nextLineByte w .said)) refl
+no-more (suc n) (suc m) w l h = pick (no-more n m (step (on nextLineByte) w .world) (omega arith)) (isByte (step (on nextLineByte) w .said)) refl
   where
     next : World
-    next = step nextLineByte w .world
+    next = step (on nextLineByte) w .world
 
-    pick : (isByte (step nextLineByte (lineWorld n next) .said) ≡ false → lineOut m next ≡ lineOut n next) → (t : Bool) → isByte (step nextLineByte w .said) ≡ t →
-        cond (isByte (step nextLineByte w .said)) (byteIn (step nextLineByte w .said) ∷ lineOut m next) []
-        ≡ cond (isByte (step nextLineByte w .said)) (byteIn (step nextLineByte w .said) ∷ lineOut n next) []
-    pick more true e = rw e (ap (λ (bs : List ℕ). byteIn (step nextLineByte w .said) ∷ bs) (more (rw e at h)))
+    pick : (isByte (step (on nextLineByte) (lineWorld n next) .said) ≡ false → lineOut m next ≡ lineOut n next) → (t : Bool) → isByte (step (on nextLineByte) w .said) ≡ t →
+        cond (isByte (step (on nextLineByte) w .said)) (byteIn (step (on nextLineByte) w .said) ∷ lineOut m next) []
+        ≡ cond (isByte (step (on nextLineByte) w .said)) (byteIn (step (on nextLineByte) w .said) ∷ lineOut n next) []
+    pick more true e = rw e (ap (λ (bs : List ℕ). byteIn (step (on nextLineByte) w .said) ∷ bs) (more (rw e at h)))
     pick more false e = rw e
 
 at-most-one : (b : Bool) → cond b 1 0 ≤ 1
@@ -103,9 +104,9 @@ at-most-one true = omega arith
 at-most-one false = omega arith
 
 -- the asks of the program are enough for every state that fits its stores
-pub asks-enough : (w : World) → AllBytes (w .rx) → Fits w → length (w .tx) ≡ 64 → Enough w
+pub asks-enough : (w : World) → Bytes (w .rx) → Fits w → length (w .tx) ≡ 64 → Enough w
 unfolding isByte
 asks-enough w b e h =
     let f : TxFits (w .state) (w .tx) = tx-fits (w .state) (w .rx) (w .tx) e in
-    let last : step nextLineByte (lineWorld asks w) .said ≡ none = until-none asks w b e (omega (arith, f .ring .len, at-most-one (owed (w .state .line)))) in
+    let last : step (on nextLineByte) (lineWorld asks w) .said ≡ none = until-none asks w b e (omega (arith, f .ring .len, at-most-one (owed (w .state .line)))) in
     record { answer = last; same = λ n k. no-more asks n w k (ap isByte last) }

@@ -10,7 +10,7 @@ use borrow.Author.Tests.{eq-eqb, ne-eqb, not-true, not-false}
 use Rattle.state.specs.declared.State.{State}
 use Rattle.state.specs.declared.Outcome.{Outcome}
 use Rattle.state.specs.Answers.{said}
-use Rattle.bridge.specs.Calls.{write, lineByte, nextLineByte, loopFrame, World, world, Did, did, step}
+use Rattle.bridge.specs.Calls.{on, write, lineByte, nextLineByte, loopFrame, World, world, Did, did, step}
 use Rattle.pass.specs.declared.Set.{Set}
 use Rattle.pass.specs.Text.{decimal, answerText, bytesText, over, Wrote}
 use Rattle.pass.specs.Input.{high}
@@ -27,27 +27,27 @@ one-left n h = omega arith
 
 module _ (x : List ℕ) (rx tx : List ℕ) where
   set-step : (n i : ℕ) (w : World) → 0 < n → setRegisters n x i w ≡
-      cond (eqb (faultOf (step (write (getD x i 0) (getD x (i + 1) 0)) w .said)) 0)
-      (setRegisters (n - 1) x (i + 2) (step (write (getD x i 0) (getD x (i + 1) 0)) w .world))
-      (record { state = w .state; fault = faultOf (step (write (getD x i 0) (getD x (i + 1) 0)) w .said) })
+      cond (eqb (faultOf (step (on (write (getD x i 0) (getD x (i + 1) 0))) w .said)) 0)
+      (setRegisters (n - 1) x (i + 2) (step (on (write (getD x i 0) (getD x (i + 1) 0))) w .world))
+      (record { state = w .state; fault = faultOf (step (on (write (getD x i 0) (getD x (i + 1) 0))) w .said) })
   unfolding setRegisters
   set-step n i w h = ap (λ (k : ℕ). setRegisters k x i w) (one-left n h)
 
   module _ (t : State) (i n a b : ℕ) (o : Outcome) (p : a ≡ getD x i 0) (q : b ≡ getD x (i + 1) 0)
-      (e : did o rx tx ≡ step (write a b) (world t rx tx)) where
-    there : did o rx tx ≡ step (write (getD x i 0) (getD x (i + 1) 0)) (world t rx tx)
-    there = e ∙ (λ j. step (write (p j) (q j)) (world t rx tx))
+      (e : did o rx tx ≡ step (on (write a b)) (world t rx tx)) where
+    there : did o rx tx ≡ step (on (write (getD x i 0) (getD x (i + 1) 0))) (world t rx tx)
+    there = e ∙ (λ j. step (on (write (p j) (q j))) (world t rx tx))
 
     pub set-again : (k : ℕ) {total : Set} → 0 < n → k ≡ faultOf (said (o .answer)) → k ≡ 0 → setRegisters n x i (world t rx tx) ≡ total →
         setRegisters (n - 1) x (i + 2) (world (o .state) rx tx) ≡ total
     set-again k h f z inv =
-        let fine : faultOf (step (write (getD x i 0) (getD x (i + 1) 0)) (world t rx tx) .said) ≡ 0 = ap (λ (d : Did). faultOf (d .said)) (sym there) ∙ sym f ∙ z in
+        let fine : faultOf (step (on (write (getD x i 0) (getD x (i + 1) 0))) (world t rx tx) .said) ≡ 0 = ap (λ (d : Did). faultOf (d .said)) (sym there) ∙ sym f ∙ z in
         ap (λ (d : Did). setRegisters (n - 1) x (i + 2) (d .world)) there ∙ sym (set-step n i (world t rx tx) h ∙ rw (eq-eqb _ 0 fine)) ∙ inv
 
     pub set-stops : (k : ℕ) {total : Set} → 0 < n → k ≡ faultOf (said (o .answer)) → (k ≡ 0 → ⊥) → setRegisters n x i (world t rx tx) ≡ total →
         _≡_ {A = Set} (record { state = t; fault = k }) total
     set-stops k h f z inv =
-        let same : faultOf (step (write (getD x i 0) (getD x (i + 1) 0)) (world t rx tx) .said) ≡ k = ap (λ (d : Did). faultOf (d .said)) (sym there) ∙ sym f in
+        let same : faultOf (step (on (write (getD x i 0) (getD x (i + 1) 0))) (world t rx tx) .said) ≡ k = ap (λ (d : Did). faultOf (d .said)) (sym there) ∙ sym f in
         sym (set-step n i (world t rx tx) h ∙ rw (same, ne-eqb k 0 z)) ∙ inv
 
   pub set-ends : (t : State) (i n : ℕ) {total : Set} → n ≤ 0 → setRegisters n x i (world t rx tx) ≡ total → _≡_ {A = Set} (record { state = t; fault = 0 }) total
@@ -56,11 +56,11 @@ module _ (x : List ℕ) (rx tx : List ℕ) where
 
 -- ---- line bytes in
 
-take-step : (x : List ℕ) (n i : ℕ) (w : World) → 0 < n → takeBytes n x i w ≡ takeBytes (n - 1) x (i + 1) (step (lineByte (getD x i 0)) w .world)
+take-step : (x : List ℕ) (n i : ℕ) (w : World) → 0 < n → takeBytes n x i w ≡ takeBytes (n - 1) x (i + 1) (step (on (lineByte (getD x i 0))) w .world)
 unfolding takeBytes
 take-step x n i w h = ap (λ (k : ℕ). takeBytes k x i w) (one-left n h)
 
-pub take-again : (x rx rx′ tx : List ℕ) (t : State) (i n : ℕ) (o : Outcome) {total : World} → 0 < n → did o rx′ tx ≡ step (lineByte (getD x i 0)) (world t rx tx) →
+pub take-again : (x rx rx′ tx : List ℕ) (t : State) (i n : ℕ) (o : Outcome) {total : World} → 0 < n → did o rx′ tx ≡ step (on (lineByte (getD x i 0))) (world t rx tx) →
     takeBytes n x i (world t rx tx) ≡ total → takeBytes (n - 1) x (i + 1) (world (o .state) rx′ tx) ≡ total
 take-again x rx rx′ tx t i n o h e inv =
     ap (λ (d : Did). takeBytes (n - 1) x (i + 1) (d .world)) e ∙ sym (take-step x n i (world t rx tx) h) ∙ inv
@@ -72,11 +72,11 @@ take-ends x w i n h inv = ap (λ (k : ℕ). takeBytes k x i w) (sym (none-left n
 -- ---- frames
 
 frames-step : (x : List ℕ) (n i : ℕ) (w : World) → 0 < n →
-    framesText n x i w ≡ answerText (step (loopFrame (high x i)) w .said) ++ framesText (n - 1) x (i + 2) (step (loopFrame (high x i)) w .world)
+    framesText n x i w ≡ answerText (step (on (loopFrame (high x i))) w .said) ++ framesText (n - 1) x (i + 2) (step (on (loopFrame (high x i))) w .world)
 unfolding framesText
 frames-step x n i w h = ap (λ (k : ℕ). framesText k x i w) (one-left n h)
 
-world-step : (x : List ℕ) (n i : ℕ) (w : World) → 0 < n → framesWorld n x i w ≡ framesWorld (n - 1) x (i + 2) (step (loopFrame (high x i)) w .world)
+world-step : (x : List ℕ) (n i : ℕ) (w : World) → 0 < n → framesWorld n x i w ≡ framesWorld (n - 1) x (i + 2) (step (on (loopFrame (high x i))) w .world)
 unfolding framesWorld
 world-step x n i w h = ap (λ (k : ℕ). framesWorld k x i w) (one-left n h)
 
@@ -112,10 +112,10 @@ pub record Offering (x rx tx₀ : List ℕ) (i n : ℕ) (out₀ : List ℕ) (to 
 
 pub offer-again : {x rx tx₀ : List ℕ} {i n : ℕ} {out₀ : List ℕ} {to : ℕ} {t₀ : State} {tx out : List ℕ} {t : State} {at left k : ℕ}
     (o : Outcome) (f r : ℕ) (tx′ out′ : List ℕ) → 0 < left → Offering x rx tx₀ i n out₀ to t₀ tx out t at left k → f ≡ high x at →
-    did o rx tx′ ≡ step (loopFrame f) (world t rx tx) → (Wrote out k (answerText (said (o .answer))) out′ r) × (r ≤ k + 12) →
+    did o rx tx′ ≡ step (on (loopFrame f)) (world t rx tx) → (Wrote out k (answerText (said (o .answer))) out′ r) × (r ≤ k + 12) →
     Offering x rx tx₀ i n out₀ to t₀ tx′ out′ (o .state) (at + 2) (left - 1) r
 offer-again {x} {rx} {tx₀} {i} {n} {out₀} {to} {t₀} {tx} {out} {t} {at} {left} {k} o f r tx′ out′ h p q e w =
-    let d : did o rx tx′ ≡ step (loopFrame (high x at)) (world t rx tx) = e ∙ ap (λ (g : ℕ). step (loopFrame g) (world t rx tx)) q in
+    let d : did o rx tx′ ≡ step (on (loopFrame (high x at))) (world t rx tx) = e ∙ ap (λ (g : ℕ). step (on (loopFrame g)) (world t rx tx)) q in
     let next : framesText left x at (world t rx tx) ≡ answerText (said (o .answer)) ++ framesText (left - 1) x (at + 2) (world (o .state) rx tx′) =
     frames-step x left at (world t rx tx) h ∙ ap (λ (g : Did). answerText (g .said) ++ framesText (left - 1) x (at + 2) (g .world)) (sym d) in
     let there : Rest out₀ to (framesText n x i (world t₀ rx tx₀)) out k (answerText (said (o .answer)) ++ framesText (left - 1) x (at + 2) (world (o .state) rx tx′)) = rw next at (p .text) in
@@ -141,11 +141,11 @@ offer-ends {x} {rx} {tx₀} {i} {n} {out₀} {to} {t₀} {tx} {out} {t} {at} {le
 
 -- ---- line bytes out
 
-line-step : (n : ℕ) (w : World) → 0 < n → lineOut n w ≡ cond (isByte (step nextLineByte w .said)) (byteIn (step nextLineByte w .said) ∷ lineOut (n - 1) (step nextLineByte w .world)) []
+line-step : (n : ℕ) (w : World) → 0 < n → lineOut n w ≡ cond (isByte (step (on nextLineByte) w .said)) (byteIn (step (on nextLineByte) w .said) ∷ lineOut (n - 1) (step (on nextLineByte) w .world)) []
 unfolding lineOut
 line-step n w h = ap (λ (k : ℕ). lineOut k w) (one-left n h)
 
-module _ (rx tx : List ℕ) (t : State) (n : ℕ) (o : Outcome) (r : Bool) (h : 0 < n) (e : did o rx tx ≡ step nextLineByte (world t rx tx)) (b : r ≡ isByte (said (o .answer))) where
+module _ (rx tx : List ℕ) (t : State) (n : ℕ) (o : Outcome) (r : Bool) (h : 0 < n) (e : did o rx tx ≡ step (on nextLineByte) (world t rx tx)) (b : r ≡ isByte (said (o .answer))) where
   line-is : lineOut n (world t rx tx) ≡ cond (isByte (said (o .answer))) (byteIn (said (o .answer)) ∷ lineOut (n - 1) (world (o .state) rx tx)) []
   line-is = line-step n (world t rx tx) h ∙ ap (λ (d : Did). cond (isByte (d .said)) (byteIn (d .said) ∷ lineOut (n - 1) (d .world)) []) (sym e)
 

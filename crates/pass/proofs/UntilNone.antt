@@ -9,10 +9,12 @@ use Rattle.cases.specs.Refusals.{firstRefusal}
 use Rattle.cases.proofs.Cases.{by-cond}
 use Rattle.state.specs.declared.State.{State}
 use Rattle.state.specs.Sizes.{sizesObeyed, startState}
-use Rattle.bridge.specs.Calls.{Call, write, lineByte, loopFrame, World, world, Did, checks, rxAfter, txAfter, notRefused, refusedOr, step}
-use Rattle.laws.specs.Fitting.{AllBytes, ByteCall, Fits}
+use Rattle.bridge.specs.Calls.{Call, on, write, lineByte, loopFrame, World, world, Did, checks, rxAfter, txAfter, notRefused, refusedOr, step}
+use Rattle.laws.specs.Fitting.{Fits}
+use Rattle.laws.specs.Bridges.{ByteCall}
+use Rattle.store.specs.Bytes.{Bytes}
 use Rattle.laws.proofs.States.{start-fits}
-use Rattle.laws.proofs.Fitting.{calls-keep-fit, calls-keep-bytes, calls-keep-stores}
+use Rattle.laws.proofs.Fitting.{keeps-fit, keeps-bytes, stores-stay}
 use Rattle.pass.specs.declared.Set.{Set}
 use Rattle.pass.specs.Input.{high, sectionsOf}
 use Rattle.pass.specs.Passing.{faultOf, setRegisters, takeBytes, framesWorld, store}
@@ -21,15 +23,15 @@ use Rattle.pass.proofs.Asks.{asks-enough}
 
 -- a world of the program
 record Right (w : World) : Type 0 where
-  bytes : AllBytes (w .rx)
+  bytes : Bytes (w .rx)
   fits : Fits w
   size : length (w .tx) ≡ 64
 
 step-right : (c : Call) (w : World) → ByteCall c → Right w → Right (step c w .world)
 step-right c w b r =
-    record { bytes = calls-keep-bytes c w b (r .bytes); fits = calls-keep-fit c w (r .bytes) (r .fits); size = calls-keep-stores c w .tx ∙ r .size }
+    record { bytes = keeps-bytes c w b (r .bytes); fits = keeps-fit c w (r .bytes) (r .fits); size = stores-stay c w .tx ∙ r .size }
 
-zeros-bytes : (n : ℕ) → AllBytes (replicate n 0)
+zeros-bytes : (n : ℕ) → Bytes (replicate n 0)
 zeros-bytes zero k = omega arith
 zeros-bytes (suc n) zero = omega arith
 zeros-bytes (suc n) (suc k) = zeros-bytes n k
@@ -39,10 +41,10 @@ unfolding sizesObeyed
 start-right = record { bytes = zeros-bytes 64; fits = start-fits 8 64 64 refl; size = refl }
 
 -- a register write leaves both stores
-write-stores : (n v : ℕ) (w : World) → (step (write n v) w .world .rx ≡ w .rx) × (step (write n v) w .world .tx ≡ w .tx)
+write-stores : (n v : ℕ) (w : World) → (step (on (write n v)) w .world .rx ≡ w .rx) × (step (on (write n v)) w .world .tx ≡ w .tx)
 unfolding step refusedOr notRefused rxAfter txAfter
 write-stores n v w =
-    by-cond (λ (d : Did). (d .world .rx ≡ w .rx) × (d .world .tx ≡ w .tx)) (eqb (firstRefusal (checks (write n v) w)) 0) _ _
+    by-cond (λ (d : Did). (d .world .rx ≡ w .rx) × (d .world .tx ≡ w .tx)) (eqb (firstRefusal (checks (on (write n v)) w)) 0) _ _
     (λ _. (refl, refl))
     (λ _. (refl, refl))
 
@@ -53,23 +55,23 @@ set-right : (n : ℕ) (x : List ℕ) (i : ℕ) (w : World) → Right w → Right
 unfolding setRegisters
 set-right zero x i w r = r
 set-right (suc n) x i w r =
-    let c : Call = write (getD x i 0) (getD x (i + 1) 0) in
+    let c : Call = (on (write (getD x i 0) (getD x (i + 1) 0))) in
     by-cond (λ (g : Set). Right (world (g .state) (w .rx) (w .tx))) (eqb (faultOf (step c w .said)) 0) _ _
     (λ _. let kept = write-stores (getD x i 0) (getD x (i + 1) 0) w in
     same-stores _ (kept .0) (kept .1) (set-right n x (i + 2) (step c w .world) (step-right c w tt r)))
     (λ _. r)
 
-take-right : (n : ℕ) (x : List ℕ) (i : ℕ) (w : World) → AllBytes x → Right w → Right (takeBytes n x i w)
+take-right : (n : ℕ) (x : List ℕ) (i : ℕ) (w : World) → Bytes x → Right w → Right (takeBytes n x i w)
 unfolding takeBytes
 take-right zero x i w b r = r
-take-right (suc n) x i w b r = take-right n x (i + 1) (step (lineByte (getD x i 0)) w .world) b (step-right (lineByte (getD x i 0)) w (b i) r)
+take-right (suc n) x i w b r = take-right n x (i + 1) (step (on (lineByte (getD x i 0))) w .world) b (step-right (on (lineByte (getD x i 0))) w (b i) r)
 
 frames-right : (n : ℕ) (x : List ℕ) (i : ℕ) (w : World) → Right w → Right (framesWorld n x i w)
 unfolding framesWorld
 frames-right zero x i w r = r
-frames-right (suc n) x i w r = frames-right n x (i + 2) (step (loopFrame (high x i)) w .world) (step-right (loopFrame (high x i)) w tt r)
+frames-right (suc n) x i w r = frames-right n x (i + 2) (step (on (loopFrame (high x i))) w .world) (step-right (on (loopFrame (high x i))) w tt r)
 
-run-right : (x : List ℕ) → AllBytes x → Right (runWorld x)
+run-right : (x : List ℕ) → Bytes x → Right (runWorld x)
 run-right x b = frames-right _ x _ _ (take-right _ x _ _ b (set-right (sectionsOf x .regs) x 2 (world (startState 8 64 64) store store) start-right))
 
 pub asks-until-none : UntilNone

@@ -8,7 +8,7 @@ use lib.Dec.{eqb}
 use Rattle.state.specs.declared.State.{State}
 use Rattle.state.specs.Answers.{Said, done, none, byte, frame, refused, part}
 use Rattle.state.specs.Sizes.{startState}
-use Rattle.bridge.specs.Calls.{write, lineByte, nextLineByte, loopFrame, World, world, step}
+use Rattle.bridge.specs.Calls.{on, write, lineByte, nextLineByte, loopFrame, World, world, step}
 use Rattle.pass.specs.declared.Sections.{Sections}
 use Rattle.pass.specs.declared.Set.{Set}
 use Rattle.pass.specs.Input.{high, sectionsOf}
@@ -27,23 +27,23 @@ faultOf (part xs) = 0
 unfoldable pub setRegisters : ℕ → List ℕ → ℕ → World → Set
 setRegisters zero x i w = record { state = w .state; fault = 0 }
 setRegisters (suc n) x i w =
-    cond (eqb (faultOf (step (write (getD x i 0) (getD x (i + 1) 0)) w .said)) 0)
-    (setRegisters n x (i + 2) (step (write (getD x i 0) (getD x (i + 1) 0)) w .world))
-    (record { state = w .state; fault = faultOf (step (write (getD x i 0) (getD x (i + 1) 0)) w .said) })
+    cond (eqb (faultOf (step (on (write (getD x i 0) (getD x (i + 1) 0))) w .said)) 0)
+    (setRegisters n x (i + 2) (step (on (write (getD x i 0) (getD x (i + 1) 0))) w .world))
+    (record { state = w .state; fault = faultOf (step (on (write (getD x i 0) (getD x (i + 1) 0))) w .said) })
 
 -- "It then takes the line bytes": n of them from place i
 unfoldable pub takeBytes : ℕ → List ℕ → ℕ → World → World
 takeBytes zero x i w = w
-takeBytes (suc n) x i w = takeBytes n x (i + 1) (step (lineByte (getD x i 0)) w .world)
+takeBytes (suc n) x i w = takeBytes n x (i + 1) (step (on (lineByte (getD x i 0))) w .world)
 
 -- "offers the frames": what n of them from place i print, and the world after them
 unfoldable pub framesText : ℕ → List ℕ → ℕ → World → List ℕ
 framesText zero x i w = []
-framesText (suc n) x i w = answerText (step (loopFrame (high x i)) w .said) ++ framesText n x (i + 2) (step (loopFrame (high x i)) w .world)
+framesText (suc n) x i w = answerText (step (on (loopFrame (high x i))) w .said) ++ framesText n x (i + 2) (step (on (loopFrame (high x i))) w .world)
 
 unfoldable pub framesWorld : ℕ → List ℕ → ℕ → World → World
 framesWorld zero x i w = w
-framesWorld (suc n) x i w = framesWorld n x (i + 2) (step (loopFrame (high x i)) w .world)
+framesWorld (suc n) x i w = framesWorld n x (i + 2) (step (on (loopFrame (high x i))) w .world)
 
 -- the same as a promise: t is the state after them and r the place behind what they print
 pub record Offers (n : ℕ) (x : List ℕ) (i : ℕ) (w : World) (out : List ℕ) (at : ℕ) (t : State) (tx′ out′ : List ℕ) (r : ℕ) : Type 0 where
@@ -71,7 +71,7 @@ byteIn (part xs) = 0
 -- "and asks for line bytes until none", at most n times
 unfoldable pub lineOut : ℕ → World → List ℕ
 lineOut zero w = []
-lineOut (suc n) w = cond (isByte (step nextLineByte w .said)) (byteIn (step nextLineByte w .said) ∷ lineOut n (step nextLineByte w .world)) []
+lineOut (suc n) w = cond (isByte (step (on nextLineByte) w .said)) (byteIn (step (on nextLineByte) w .said) ∷ lineOut n (step (on nextLineByte) w .world)) []
 
 -- one more than the bytes of a full store, our own go or stop, and the none
 abbrev pub asks : ℕ

@@ -2,7 +2,7 @@
 use Prim.Native.Nat.{ℕ, _+_, _-_, _<_, min}
 use native.Mathlib.Omega.{arith}
 use mathlib.Core.Path.{_≡_, refl, sym, ap, _∙_}
-use mathlib.Core.Bool.{Bool, true, false, true≢false, false≢true}
+use mathlib.Core.Bool.{Bool, true, false, cond, true≢false}
 use mathlib.Core.List.{List}
 use lib.ListN.{length, take, drop, length-take, length-drop}
 use lib.Dec.{eqb}
@@ -14,17 +14,18 @@ use Rattle.state.specs.declared.State.{State}
 use Rattle.state.specs.declared.Outcome.{Outcome}
 use Rattle.state.specs.declared.Answer.{Answer}
 use Rattle.state.specs.declared.Answer.the-variants.{Done, Nothing, Byte, Frame, Refused}
-use Rattle.state.specs.Answers.{said, done, refused, part}
+use Rattle.state.specs.Answers.{said, done, refused, part, isRefusal}
 use Rattle.state.specs.Sizes.{sizesObeyed, startState, fits}
 use Rattle.state.proofs.Fits.{rx-fits, tx-fits}
 use Rattle.block.specs.Packed.{blockLen, packed}
 use Rattle.block.specs.States.{isState, noState, meaning}
 use Rattle.block.proofs.Same.{state-length, means-none}
 use Rattle.block.proofs.Laws.{no-state-misfits}
-use Rattle.bridge.specs.Calls.{Call, create, reset, write, lineByte, lineBreak, key, nextLineByte, loopFrame, show, World, Did, world, did, checks, notRefused, outcome, settledBy, rxAfter, txAfter, refusedOr, step, handed, shown, Created}
-use Rattle.laws.specs.Answers.{isRefusal}
+use Rattle.bridge.specs.Calls.{OnState, create, show, on, World, Did, world, did, handed, checks, notRefused, refusedOr, step, shown, Promised, unmade}
+use Rattle.laws.specs.OneResult.{CreatedAnywhere}
+use Rattle.laws.proofs.OneResult.{create-takes-no-state}
 use Rattle.raftershim.specs.Word.{word, kindOf, valueOf, placeWord, startOf, storeOf, shownWord}
-use Rattle.raftershim.specs.Calls.{lent, returned, opened, blockAfter, closed, createdFor, cStep, needsState}
+use Rattle.raftershim.specs.Calls.{lent, returned, opened, blockAfter, closed, createdFor, cStep}
 
 -- ---- a state that does not fit is refused
 
@@ -32,22 +33,14 @@ use Rattle.raftershim.specs.Calls.{lent, returned, opened, blockAfter, c
 abbrev pub refusedDid : ℕ → World → Did
 refusedDid n w = record { said = refused n; world = w }
 
-pub misfit-step : (c : Call) (w : World) → needsState c ≡ true → fits (w .state) (length (w .rx)) (length (w .tx)) ≡ false → step c w ≡ refusedDid 2 w
-unfolding step refusedOr checks needsState
-misfit-step (create m) w n e = absurd (false≢true n)
-misfit-step (show side) w n e = absurd (false≢true n)
-misfit-step reset w n e = rw e
-misfit-step (write k v) w n e = rw e
-misfit-step (lineByte b) w n e = rw e
-misfit-step lineBreak w n e = rw e
-misfit-step key w n e = rw e
-misfit-step nextLineByte w n e = rw e
-misfit-step (loopFrame f) w n e = rw e
+pub misfit-step : (c : OnState) (w : World) → fits (w .state) (length (w .rx)) (length (w .tx)) ≡ false → step (on c) w ≡ refusedDid 2 w
+unfolding step refusedOr checks
+misfit-step c w e = rw e
 
 -- ---- the calls on a state
 
-module _ (c : Call) (n : needsState c ≡ true) (b rx tx rx′ tx′ : List ℕ) (s : State) (o : Outcome)
-    (m : s ≡ meaning b) (e : did o rx′ tx′ ≡ step c (world s rx tx)) where
+module _ (c : OnState) (b rx tx rx′ tx′ : List ℕ) (s : State) (o : Outcome)
+    (m : s ≡ meaning b) (e : did o rx′ tx′ ≡ step (on c) (world s rx tx)) where
   -- what is not refused had a block of the right length
   pub may-write : isRefusal (said (o .answer)) ≡ false → length b ≡ blockLen
   may-write h = pick (isState b) refl
@@ -57,14 +50,14 @@ module _ (c : Call) (n : needsState c ≡ true) (b rx tx rx′ tx′ : List ℕ)
       pick false q =
           let none : s ≡ noState = m ∙ sym (means-none b false (sym q) refl) in
           let misfits : fits s (length rx) (length tx) ≡ false = ap (λ (x : State). fits x (length rx) (length tx)) none ∙ no-state-misfits (length rx) (length tx) in
-          let told : said (o .answer) ≡ refused 2 = ap (λ (d : Did). d .said) (e ∙ misfit-step c (world s rx tx) n misfits) in
+          let told : said (o .answer) ≡ refused 2 = ap (λ (d : Did). d .said) (e ∙ misfit-step c (world s rx tx) misfits) in
           absurd (true≢false (sym (ap isRefusal told) ∙ h))
 
   pub written : (r : ℕ) (b′ : List ℕ) → (r ≡ word (said (o .answer))) × (b′ ≡ blockAfter b (said (o .answer)) (o .state)) →
-      returned r b′ rx′ tx′ ≡ closed (lent b rx tx) (step c (opened (lent b rx tx)))
+      returned r b′ rx′ tx′ ≡ closed (lent b rx tx) (step (on c) (opened (lent b rx tx)))
   unfolding closed
   written r b′ h =
-      (λ i. returned (h .0 i) (h .1 i) rx′ tx′) ∙ ap (closed (lent b rx tx)) (e ∙ ap (λ (x : State). step c (world x rx tx)) m)
+      (λ i. returned (h .0 i) (h .1 i) rx′ tx′) ∙ ap (closed (lent b rx tx)) (e ∙ ap (λ (x : State). step (on c) (world x rx tx)) m)
 
 -- ---- the number of an answer
 
@@ -92,28 +85,29 @@ module _ (a : Answer) (n r : ℕ) (h : r ≡ n) where
 -- ---- create
 
 module _ (m : ℕ) (b rx tx : List ℕ) where
-  pub wrong-length : (r : ℕ) → (length b ≡ blockLen → ⊥) → r ≡ word (refused 1) → returned r b rx tx ≡ cStep (create m) (lent b rx tx)
-  unfolding cStep createdFor
+  pub wrong-length : (r : ℕ) → (length b ≡ blockLen → ⊥) → r ≡ word (said (Refused 1)) → returned r b rx tx ≡ cStep (create m) (lent b rx tx)
+  unfolding cStep createdFor said
   wrong-length r h q = rw (ne-eqb (length b) blockLen h, q)
 
-  pub create-written : (o : Outcome) (r : ℕ) (b′ : List ℕ) → length b ≡ blockLen → Created m rx tx o →
+  pub create-written : (o : Outcome) (r : ℕ) (b′ : List ℕ) → length b ≡ blockLen → Promised (create m) (unmade m rx tx) (did o rx tx) →
       (r ≡ word (said (o .answer))) × (b′ ≡ blockAfter b (said (o .answer)) (o .state)) →
       returned r b′ rx tx ≡ cStep (create m) (lent b rx tx)
-  unfolding cStep createdFor closed step refusedOr checks notRefused outcome settledBy rxAfter txAfter said word
-  create-written o r b′ l q h = rw (eq-eqb (length b) blockLen l) (pick (sizesObeyed m (length rx) (length tx)) refl)
+  unfolding cStep createdFor closed
+  create-written o r b′ l q h =
+      let t = create-takes-no-state m rx tx (meaning b) (did o rx tx) q in
+      rw (eq-eqb (length b) blockLen l)
+      ((λ i. returned (h .0 i) (h .1 i) rx tx) ∙ (λ i. returned (word (sym (t .answer) i)) (blockAfter b (sym (t .answer) i) (o .state)) rx tx) ∙ kept (isRefusal (said (o .answer))) refl t)
     where
-      s : State
-      s = meaning b
+      d : Did
+      d = step (create m) (world (meaning b) rx tx)
 
-      pick : (t : Bool) → sizesObeyed m (length rx) (length tx) ≡ t → returned r b′ rx tx ≡ closed (lent b rx tx) (step (create m) (world s rx tx))
-      pick true e =
-          let told : said (o .answer) ≡ done = q .answer s ∙ rw e in
-          let left : b′ ≡ packed (startState m (length rx) (length tx)) = h .1 ∙ rw (told, q .made) in
-          rw (h .0, told, left, e)
-      pick false e =
-          let told : said (o .answer) ≡ refused 1 = q .answer s ∙ rw e in
-          let left : b′ ≡ b = h .1 ∙ rw told in
-          rw (h .0, told, left, e)
+      -- the state that stands beside a refusal is not written
+      kept : (x : Bool) → isRefusal (said (o .answer)) ≡ x → CreatedAnywhere m rx tx (meaning b) (did o rx tx) →
+          returned (word (d .said)) (blockAfter b (d .said) (o .state)) rx tx ≡ returned (word (d .said)) (blockAfter b (d .said) (d .world .state)) (d .world .rx) (d .world .tx)
+      kept true e t =
+          (λ i. returned (word (d .said)) (cond ((ap isRefusal (t .answer) ∙ e) i) b (packed (o .state))) rx tx)
+          ∙ (λ i. returned (word (d .said)) (cond (sym (ap isRefusal (t .answer) ∙ e) i) b (packed (d .world .state))) (sym (t .kept e) i .rx) (sym (t .kept e) i .tx))
+      kept false e t = ap (λ (w : World). returned (word (d .said)) (blockAfter b (d .said) (w .state)) (w .rx) (w .tx)) (sym (t .made e))
 
 -- ---- showing
 
@@ -123,8 +117,13 @@ run-size xs r =
 
 -- the part that showing returned is the one shown
 pub part-shown : (side : ℕ) (w : World) (p : List ℕ) → handed p w ≡ step (show side) w → p ≡ shown side w
-unfolding step
+unfolding step checks refusedOr notRefused
 part-shown side w p d = let e : part p ≡ part (shown side w) = ap (λ (x : Did). x .said) d in cc
+
+-- the number of a part is its length
+pub part-word : (p : List ℕ) → word (part p) ≡ length p
+unfolding word kindOf valueOf
+part-word p = omega arith
 
 module _ (side : ℕ) (b rx tx p : List ℕ) (s : State) (m : s ≡ meaning b) (e : p ≡ shown side (world s rx tx)) where
   pub show-empty : length p ≡ 0 → returned 0 b rx tx ≡ cStep (show side) (lent b rx tx)
@@ -135,7 +134,7 @@ module _ (side : ℕ) (b rx tx p : List ℕ) (s : State) (m : s ≡ meaning b) (
 
   pub show-part : (k r : ℕ) → (length p ≡ 0 → ⊥) → k ≡ startOf side s → r ≡ placeWord k (length p) → returned r b rx tx ≡ cStep (show side) (lent b rx tx)
   unfolding cStep shownWord
-  show-part k r h hk hr = rw (← m, ← e, ne-eqb (length p) 0 h, hr, hk)
+  show-part k r h hk hr = rw (← m, ← e, ne-eqb (length p) 0 h, part-word p, hr, hk)
 
 -- a part that is shown is short, starts below 32,768, and stands where it starts
 pub record Shown (xs p : List ℕ) (k : ℕ) : Type 0 where

@@ -8,20 +8,19 @@ use lib.ListN.{length}
 use lib.Dec.{eqb}
 use borrow.Author.Tests.{eqb-true}
 use Rattle.cases.proofs.Cases.{and-left, by-cond}
-use Rattle.state.specs.Answers.{said, done, refused}
+use Rattle.state.specs.Answers.{said, done, refused, isRefusal}
 use Rattle.state.specs.Sizes.{sizesObeyed}
 use Rattle.block.specs.Packed.{blockLen}
 use Rattle.block.specs.States.{isState, fittingBlock, Ranged}
 use Rattle.block.proofs.Laws.{packed-length, meaning-fits, obeyed-ranged}
 use Rattle.block.proofs.Same.{state-length}
-use Rattle.bridge.specs.Calls.{Call, create, World, checks, outcome, settledBy, notRefused, refusedOr, step}
-use Rattle.laws.specs.Answers.{isRefusal}
+use Rattle.bridge.specs.Calls.{Call, create, show, on, World, checks, notRefused, refusedOr, step}
 use Rattle.laws.specs.Fitting.{Fits, SameStores}
-use Rattle.laws.proofs.Fitting.{calls-keep-fit, create-makes-fit, calls-keep-stores}
+use Rattle.laws.proofs.Fitting.{keeps-fit, create-fits-so, stores-stay}
 use Rattle.raftershim.specs.Word.{word, kindOf, valueOf}
-use Rattle.raftershim.specs.Calls.{Lent, Returned, opened, closed, cStep, needsState}
+use Rattle.raftershim.specs.Calls.{Lent, Returned, opened, closed, cStep}
 use Rattle.raftershim.specs.Fitting.{FitsStores, BlockKeepsFit, CreateFits, SameLengths, LengthsStay}
-use Rattle.raftershim.proofs.Laws.{by-kind, state-call, refusal-keeps, misfit-refused, wrong-block-refused}
+use Rattle.raftershim.proofs.Laws.{refusal-keeps, misfit-refused, wrong-block-refused}
 use Rattle.raftershim.proofs.Opened.{create-call, closed-world, call-means}
 
 -- a block fits exactly if the state of the world that it stands in does
@@ -38,7 +37,7 @@ fitting-length l e = state-length (l .block) (and-left (isState (l .block)) _ e)
 pub block-keeps-fit : BlockKeepsFit
 block-keeps-fit c l h e =
     to-block (cStep c l .lent)
-    (subst Fits (sym (call-means c l (record { size = fitting-length l e; bytes = h }) .world)) (calls-keep-fit c (opened l) (h .rx) (to-world l e)))
+    (subst Fits (sym (call-means c l (record { size = fitting-length l e; bytes = h }) .world)) (keeps-fit c (opened l) (h .rx) (to-world l e)))
 
 -- ---- create
 
@@ -52,7 +51,7 @@ create-done m w e = pick (sizesObeyed m (length (w .rx)) (length (w .tx))) refl
     pick false q = let z : _≡_ {A = ℕ} (word (refused 1)) (word done) = rw q at e in absurd (omega (arith, z))
 
 pub obeyed-done : (m : ℕ) (w : World) → sizesObeyed m (length (w .rx)) (length (w .tx)) ≡ true → (step (create m) w .said ≡ done) × Ranged (step (create m) w .world .state)
-unfolding step refusedOr checks notRefused outcome settledBy said
+unfolding step refusedOr checks notRefused said
 obeyed-done m w e = rw e (refl, obeyed-ranged m (length (w .rx)) (length (w .tx)) e)
 
 pub create-fits : CreateFits
@@ -65,7 +64,7 @@ create-fits m l e = pick (eqb (length (l .block)) blockLen) refl
         let o : sizesObeyed m (length (l .rx)) (length (l .tx)) ≡ true = create-done m (opened l) (ap (λ (x : Returned). x .word) (sym c) ∙ e) in
         let d = obeyed-done m (opened l) o in
         let w : opened (cStep (create m) l .lent) ≡ step (create m) (opened l) .world = ap (λ (x : Returned). opened (x .lent)) c ∙ closed-world l (step (create m) (opened l)) (refusal-keeps (create m) (opened l)) (d .1) in
-        to-block (cStep (create m) l .lent) (subst Fits (sym w) (create-makes-fit m (opened l) (d .0)))
+        to-block (cStep (create m) l .lent) (subst Fits (sym w) (create-fits-so m (opened l) (d .0)))
     pick false q =
         let z : _≡_ {A = ℕ} (word (refused 1)) (word done) = ap (λ (x : Returned). x .word) (sym (wrong-block-refused m l q)) ∙ e in
         absurd (omega (arith, z))
@@ -81,11 +80,11 @@ other-misfits l e = rw e
 
 pub lengths-stay : LengthsStay
 unfolding cStep closed
-lengths-stay c l = by-kind (λ (c : Call). SameLengths l (cStep c l .lent)) creating (λ side. same-lengths l) calling c
+lengths-stay c l = each c
   where
     closing : (c : Call) → cStep c l ≡ closed l (step c (opened l)) → length (l .block) ≡ blockLen → SameLengths l (cStep c l .lent)
     closing c q e =
-        let s : SameStores (opened l) (step c (opened l) .world) = calls-keep-stores c (opened l) in
+        let s : SameStores (opened l) (step c (opened l) .world) = stores-stay c (opened l) in
         subst (λ (x : Returned). SameLengths l (x .lent)) (sym q)
         (record {
           block =
@@ -96,16 +95,15 @@ lengths-stay c l = by-kind (λ (c : Call). SameLengths l (cStep c l .lent)) crea
           tx = s .tx;
         })
 
-    creating : (m : ℕ) → SameLengths l (cStep (create m) l .lent)
-    creating m = pick (eqb (length (l .block)) blockLen) refl
+    each : (c : Call) → SameLengths l (cStep c l .lent)
+    each (create m) = pick (eqb (length (l .block)) blockLen) refl
       where
         pick : (t : Bool) → eqb (length (l .block)) blockLen ≡ t → SameLengths l (cStep (create m) l .lent)
         pick true q = closing (create m) (create-call m l (eqb-true (length (l .block)) blockLen q)) (eqb-true (length (l .block)) blockLen q)
         pick false q = subst (λ (x : Returned). SameLengths l (x .lent)) (sym (wrong-block-refused m l q)) (same-lengths l)
-
-    calling : (c : Call) → needsState c ≡ true → SameLengths l (cStep c l .lent)
-    calling c n = pick (eqb (length (l .block)) blockLen) refl
+    each (show side) = same-lengths l
+    each (on c) = pick (eqb (length (l .block)) blockLen) refl
       where
-        pick : (t : Bool) → eqb (length (l .block)) blockLen ≡ t → SameLengths l (cStep c l .lent)
-        pick true q = closing c (state-call c l n) (eqb-true (length (l .block)) blockLen q)
-        pick false q = subst (λ (x : Returned). SameLengths l (x .lent)) (sym (misfit-refused c l n (other-misfits l q))) (same-lengths l)
+        pick : (t : Bool) → eqb (length (l .block)) blockLen ≡ t → SameLengths l (cStep (on c) l .lent)
+        pick true q = closing (on c) refl (eqb-true (length (l .block)) blockLen q)
+        pick false q = subst (λ (x : Returned). SameLengths l (x .lent)) (sym (misfit-refused c l (other-misfits l q))) (same-lengths l)

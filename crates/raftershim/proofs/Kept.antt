@@ -6,7 +6,6 @@ use mathlib.Core.Bool.{Bool, true, false, _&&_}
 use mathlib.Core.List.{List}
 use lib.ListN.{length}
 use lib.Dec.{eqb}
-use borrow.Author.Tests.{ltb-true}
 use Rattle.cases.specs.Refusals.{firstRefusal}
 use Rattle.cases.proofs.Cases.{by-cond}
 use Rattle.frame.specs.Frame.{controlOf, dataOf, isData, isEnd, sameApart}
@@ -32,14 +31,16 @@ use Rattle.line.specs.HoldingOff.{isGoOrStop, flowed, storedWith, lostState, li
 use Rattle.loops.specs.LoopToLine.{adds, leftState, leftBytes}
 use Rattle.loops.specs.Sending.{talking, ended, ruleOf, removedState, sendState, sendFrom, sendStatus}
 use Rattle.loops.specs.Frames.{cleared, isClear, obeyed, orderIn, commandState, command, finishing, readied, ready, returned, dataPassed, identify, frameTaken, deviceClear, addsBytes, frameBytes}
-use Rattle.laws.specs.Fitting.{ByteCall}
-use Rattle.laws.proofs.Fitting.{calls-keep-fit, calls-keep-bytes}
+use Rattle.laws.specs.Bridges.{ByteCall}
+use Rattle.laws.proofs.Fitting.{keeps-fit, keeps-bytes}
 use Rattle.laws.proofs.Small.{put-bytes}
-use Rattle.block.specs.States.{Bytes, RegistersRanged, CountsRanged, Ranged}
+use Rattle.block.specs.States.{RegistersRanged, CountsRanged, Ranged}
+use Rattle.store.specs.Bytes.{Bytes}
 use Rattle.block.proofs.Laws.{fits-ranged, obeyed-ranged}
-use Rattle.bridge.specs.Calls.{Call, create, reset, write, lineByte, lineBreak, key, nextLineByte, loopFrame, show, World, Did, checks, outcome, settledBy, rxAfter, txAfter, notRefused, refusedOr, step}
-use Rattle.raftershim.specs.Calls.{needsState}
-use Rattle.raftershim.specs.Runs.{isByteCall, Typed}
+use Rattle.bridge.specs.Calls.{Call, on, create, reset, write, lineByte, lineBreak, key, nextLineByte, loopFrame, show, World, Did, checks, outcome, settledBy, rxAfter, txAfter, notRefused, refusedOr, step}
+use Rattle.laws.proofs.Refusing.{by-refusal}
+use Rattle.runs.proofs.Ways.{Way, isNext, isBack, isLast, isDamaged, isStored, isPassed, isCleared, isObeyed, isAssigned, isSendAsked, isTold, isFinishing, isReady, isIdentified, way}
+use Rattle.raftershim.specs.Runs.{Typed}
 use Rattle.raftershim.proofs.Closing.{misfit-step}
 
 -- ---- counts
@@ -93,84 +94,46 @@ from-counts : (s : State) (rx : List ℕ) → Counted s → Counts (sendFrom s r
 unfolding sendFrom
 from-counts s rx k = send-counts s (removedState s rx) (givenOf (sendHeld (ruleOf (s .regs)) rx (s .rx))) (removed-counts s rx k)
 
-ready-counts : (s : State) (rx : List ℕ) (f : ℕ) (r : Ready) → Counted s → Counts (readied s rx f r)
-unfolding readied sendStatus talking statusSent finishing
-ready-counts s rx f asks.Address k = k
-ready-counts s rx f asks.Data k = from-counts s rx k
-ready-counts s rx f asks.Status k = k
-ready-counts s rx f asks.Finish k = k
-ready-counts s rx f asks.Pass k = k
-
-return-counts : (s : State) (rx : List ℕ) (f : ℕ) → Counted s → Counts (returned s rx f)
-unfolding returned ended talking statusBack
-return-counts s rx f k =
-    by-cond Counts (sameApart f (s .under .frame)) _ _
-    (λ e. by-cond Counts (eqb (s .role .talker) activeStatus) _ _
-    (λ e. k)
-    (λ e. by-cond Counts (s .under .finishing) _ _ (λ e. k) (λ e. from-counts s rx k)))
-    (λ e. k)
-
-command-counts : (s : State) (o : Order) → Counted s → Counted (commandState s o)
-unfolding commandState cleared obeyed
-command-counts s o k = by-cond Counted (isClear o) _ _ (λ e. k) (λ e. k)
-
-passed-counts : (s : State) (f : ℕ) → Counted s → Counts (dataPassed s f)
-unfolding dataPassed leftState
-passed-counts s f k = by-cond Counted (s .role .listener) _ _ (λ e. k) (λ e. k)
-
-frame-counts : (s : State) (rx : List ℕ) (f : ℕ) → Counted s → Counts (frameTaken s rx f)
-unfolding frameTaken command ready identify
-frame-counts s rx f k =
-    by-cond Counts (isData f) _ _
-    (λ e. by-cond Counts (isActive (s .role)) _ _ (λ e. return-counts s rx f k) (λ e. passed-counts s f k))
-    (λ e. by-cond Counts (eqb (controlOf f) 4) _ _
-    (λ e. command-counts s (orderIn s f) k)
-    (λ e. by-cond Counts (eqb (controlOf f) 5) _ _ (λ e. ready-counts s rx f (readyOf (s .role) (dataOf f)) k) (λ e. k)))
+frame-counts : (s : State) (rx : List ℕ) (f : ℕ) (o : Outcome) → Way s rx f o → Counted s → Counts o
+unfolding sendStatus ended talking statusSent statusBack leftState cleared obeyed finishing
+frame-counts s rx f o (isNext r m t e) k = from-counts s rx k
+frame-counts s rx f o (isBack r m t) k = k
+frame-counts s rx f o (isLast r m t e) k = k
+frame-counts s rx f o (isDamaged r m) k = k
+frame-counts s rx f o (isStored r l) k = k
+frame-counts s rx f o (isPassed r l) k = k
+frame-counts s rx f o (isCleared r c) k = k
+frame-counts s rx f o (isObeyed r c) k = k
+frame-counts s rx f o (isAssigned r a) k = k
+frame-counts s rx f o (isSendAsked r a x) k = from-counts s rx k
+frame-counts s rx f o (isTold r a x y) k = k
+frame-counts s rx f o (isFinishing r a x y z) k = k
+frame-counts s rx f o (isReady r a x y z) k = k
+frame-counts s rx f o (isIdentified r) k = k
 
 accepted-counts : (c : Call) (w : World) → Counted (w .state) → CountsRanged (notRefused c w .world .state .counts)
 unfolding notRefused settledBy outcome breakState keyState
 accepted-counts (create m) w k = start-counts m (length (w .rx)) (length (w .tx))
-accepted-counts reset w k = settled-counts (w .state) _ (start-counts (w .state .sizes .margin) (length (w .rx)) (length (w .tx)))
-accepted-counts (write n v) w k = settled-counts (w .state) _ (write-counts (w .state) n v k)
-accepted-counts (lineByte b) w k = settled-counts (w .state) _ (line-counts (w .state) b k)
-accepted-counts lineBreak w k = settled-counts (w .state) (breakState (w .state)) k
-accepted-counts key w k = settled-counts (w .state) (keyState (w .state)) k
-accepted-counts nextLineByte w k = settled-counts (w .state) _ (gone-counts (w .state) (nextOut (w .state) (w .tx)) k)
-accepted-counts (loopFrame f) w k =
+accepted-counts (on reset) w k = settled-counts (w .state) _ (start-counts (w .state .sizes .margin) (length (w .rx)) (length (w .tx)))
+accepted-counts (on (write n v)) w k = settled-counts (w .state) _ (write-counts (w .state) n v k)
+accepted-counts (on (lineByte b)) w k = settled-counts (w .state) _ (line-counts (w .state) b k)
+accepted-counts (on lineBreak) w k = settled-counts (w .state) (breakState (w .state)) k
+accepted-counts (on key) w k = settled-counts (w .state) (keyState (w .state)) k
+accepted-counts (on nextLineByte) w k = settled-counts (w .state) _ (gone-counts (w .state) (nextOut (w .state) (w .tx)) k)
+accepted-counts (on (loopFrame f)) w k =
     by-cond Counted (deviceClear (w .state) f) _ _
-    (λ e. frame-counts (w .state) (w .rx) f k)
-    (λ e. settled-counts (w .state) _ (frame-counts (w .state) (w .rx) f k))
+    (λ e. frame-counts (w .state) (w .rx) f _ (way (w .state) (w .rx) f) k)
+    (λ e. settled-counts (w .state) _ (frame-counts (w .state) (w .rx) f _ (way (w .state) (w .rx) f) k))
 accepted-counts (show side) w k = k
 
 -- what holds of the world before a call and of an accepted call holds after the call
 after : (P : World → Type 0) (c : Call) (w : World) → P w → P (notRefused c w .world) → P (step c w .world)
-unfolding step refusedOr
-after P (create m) w p q = by-cond (λ (d : Did). P (d .world)) (eqb (firstRefusal (checks (create m) w)) 0) _ _ (λ e. q) (λ e. p)
-after P reset w p q = by-cond (λ (d : Did). P (d .world)) (eqb (firstRefusal (checks reset w)) 0) _ _ (λ e. q) (λ e. p)
-after P (write n v) w p q = by-cond (λ (d : Did). P (d .world)) (eqb (firstRefusal (checks (write n v) w)) 0) _ _ (λ e. q) (λ e. p)
-after P (lineByte b) w p q = by-cond (λ (d : Did). P (d .world)) (eqb (firstRefusal (checks (lineByte b) w)) 0) _ _ (λ e. q) (λ e. p)
-after P lineBreak w p q = by-cond (λ (d : Did). P (d .world)) (eqb (firstRefusal (checks lineBreak w)) 0) _ _ (λ e. q) (λ e. p)
-after P key w p q = by-cond (λ (d : Did). P (d .world)) (eqb (firstRefusal (checks key w)) 0) _ _ (λ e. q) (λ e. p)
-after P nextLineByte w p q = by-cond (λ (d : Did). P (d .world)) (eqb (firstRefusal (checks nextLineByte w)) 0) _ _ (λ e. q) (λ e. p)
-after P (loopFrame f) w p q = by-cond (λ (d : Did). P (d .world)) (eqb (firstRefusal (checks (loopFrame f) w)) 0) _ _ (λ e. q) (λ e. p)
-after P (show side) w p q = p
+after P c w p q = by-refusal (λ (d : Did). P (d .world)) c w (λ _. q) (λ _. p)
 
 pub counts-kept : (c : Call) (w : World) → Counted (w .state) → Counted (step c w .world .state)
 counts-kept c w k = after (λ (x : World). Counted (x .state)) c w k (accepted-counts c w k)
 
 -- ---- the stores
-
-byte-call : (c : Call) → isByteCall c ≡ true → ByteCall c
-unfolding isByteCall
-byte-call (lineByte b) h = ltb-true b 256 h
-byte-call (create m) h = tt
-byte-call reset h = tt
-byte-call (write n v) h = tt
-byte-call lineBreak h = tt
-byte-call key h = tt
-byte-call nextLineByte h = tt
-byte-call (loopFrame f) h = tt
-byte-call (show side) h = tt
 
 -- what a data frame adds to the transmit store is bytes
 left-bytes : (s : State) (tx : List ℕ) (f : ℕ) → RegistersRanged (s .regs) → Bytes tx → Bytes (leftBytes s tx f)
@@ -185,14 +148,14 @@ left-bytes s tx f h k =
 
 accepted-tx : (c : Call) (w : World) → Ranged (w .state) → Bytes (w .tx) → Bytes (notRefused c w .world .tx)
 unfolding notRefused txAfter frameBytes
-accepted-tx (loopFrame f) w h k = by-cond Bytes (addsBytes (w .state) f) _ _ (λ e. left-bytes (w .state) (w .tx) f (h .regs) k) (λ e. k)
+accepted-tx (on (loopFrame f)) w h k = by-cond Bytes (addsBytes (w .state) f) _ _ (λ e. left-bytes (w .state) (w .tx) f (h .regs) k) (λ e. k)
 accepted-tx (create m) w h k = k
-accepted-tx reset w h k = k
-accepted-tx (write n v) w h k = k
-accepted-tx (lineByte b) w h k = k
-accepted-tx lineBreak w h k = k
-accepted-tx key w h k = k
-accepted-tx nextLineByte w h k = k
+accepted-tx (on reset) w h k = k
+accepted-tx (on (write n v)) w h k = k
+accepted-tx (on (lineByte b)) w h k = k
+accepted-tx (on lineBreak) w h k = k
+accepted-tx (on key) w h k = k
+accepted-tx (on nextLineByte) w h k = k
 accepted-tx (show side) w h k = k
 
 pub tx-kept : (c : Call) (w : World) → Ranged (w .state) → Bytes (w .tx) → Bytes (step c w .world .tx)
@@ -202,31 +165,25 @@ tx-kept c w h k = after (λ (x : World). Bytes (x .tx)) c w k (accepted-tx c w h
 
 -- a state that does not fit stays, unless create makes another
 misfit-ranged : (c : Call) (w : World) → fits (w .state) (length (w .rx)) (length (w .tx)) ≡ false → Ranged (w .state) → Ranged (step c w .world .state)
-unfolding step refusedOr checks notRefused outcome settledBy rxAfter txAfter needsState
+unfolding step refusedOr checks notRefused
 misfit-ranged (create m) w e h = pick (sizesObeyed m (length (w .rx)) (length (w .tx))) refl
   where
     pick : (t : Bool) → sizesObeyed m (length (w .rx)) (length (w .tx)) ≡ t → Ranged (step (create m) w .world .state)
     pick true q = rw q (obeyed-ranged m (length (w .rx)) (length (w .tx)) q)
     pick false q = rw q h
 misfit-ranged (show side) w e h = h
-misfit-ranged reset w e h = rw (misfit-step reset w refl e) h
-misfit-ranged (write n v) w e h = rw (misfit-step (write n v) w refl e) h
-misfit-ranged (lineByte b) w e h = rw (misfit-step (lineByte b) w refl e) h
-misfit-ranged lineBreak w e h = rw (misfit-step lineBreak w refl e) h
-misfit-ranged key w e h = rw (misfit-step key w refl e) h
-misfit-ranged nextLineByte w e h = rw (misfit-step nextLineByte w refl e) h
-misfit-ranged (loopFrame f) w e h = rw (misfit-step (loopFrame f) w refl e) h
+misfit-ranged (on c) w e h = rw (misfit-step c w e) h
 
 pub ranged-kept : (c : Call) (w : World) → Typed w → Ranged (step c w .world .state)
 ranged-kept c w h = pick (fits (w .state) (length (w .rx)) (length (w .tx))) refl
   where
     pick : (t : Bool) → fits (w .state) (length (w .rx)) (length (w .tx)) ≡ t → Ranged (step c w .world .state)
-    pick true e = fits-ranged (step c w .world .state) (step c w .world .rx) (step c w .world .tx) (calls-keep-fit c w (h .rx) e) (counts-kept c w (h .state .counts))
+    pick true e = fits-ranged (step c w .world .state) (step c w .world .rx) (step c w .world .tx) (keeps-fit c w (h .rx) e) (counts-kept c w (h .state .counts))
     pick false e = misfit-ranged c w e (h .state)
 
-pub typed-kept : (c : Call) (w : World) → isByteCall c ≡ true → Typed w → Typed (step c w .world)
+pub typed-kept : (c : Call) (w : World) → ByteCall c → Typed w → Typed (step c w .world)
 typed-kept c w b h =
     record {
       state = ranged-kept c w h;
-      rx = calls-keep-bytes c w (byte-call c b) (h .rx);
+      rx = keeps-bytes c w b (h .rx);
     }

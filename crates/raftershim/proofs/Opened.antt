@@ -7,20 +7,22 @@ use mathlib.Core.List.{List, [], _∷_}
 use lib.ListN.{length}
 use lib.Dec.{eqb}
 use borrow.Author.Tests.{eq-eqb}
-use Rattle.cases.proofs.Cases.{and-left, and-right, by-cond, cond-true}
+use Rattle.cases.proofs.Cases.{by-cond, cond-true}
 use Rattle.block.specs.Packed.{blockLen, packed}
-use Rattle.block.specs.States.{isState, meaning, Bytes, Ranged}
+use Rattle.block.specs.States.{isState, meaning, Ranged}
+use Rattle.store.specs.Bytes.{Bytes}
 use Rattle.block.proofs.Laws.{packed-length, packed-bytes, packed-means, unpacked-ranged, start-ranged}
 use Rattle.block.proofs.Same.{means, means-none}
-use Rattle.bridge.specs.Calls.{Call, create, World, world, Did, step}
-use Rattle.laws.specs.Answers.{isRefusal}
-use Rattle.runs.specs.Run.{end}
+use Rattle.bridge.specs.Calls.{Call, create, show, on, World, world, Did, checks, notRefused, refusedOr, step}
+use Rattle.state.specs.Answers.{isRefusal}
+use Rattle.machine.specs.Machine.{left}
+use Rattle.laws.specs.Bridges.{bridge, ByteCall}
 use Rattle.raftershim.specs.Word.{word}
-use Rattle.raftershim.specs.Calls.{Lent, Returned, opened, closed, createdFor, cStep, needsState}
-use Rattle.raftershim.specs.Runs.{answerWord, words, cEnd, cWords, isByteCall, allByteCalls, Typed, OfBytes, Whole}
+use Rattle.raftershim.specs.Calls.{Lent, Returned, opened, closed, createdFor, cStep}
+use Rattle.raftershim.specs.Runs.{answerWord, words, cWords, Typed, OfBytes, Whole}
 use Rattle.raftershim.specs.Laws.{Means, CallMeans, RunMeans, RunsMean}
 use Rattle.raftershim.proofs.Kept.{tx-kept, ranged-kept, typed-kept}
-use Rattle.raftershim.proofs.Laws.{by-kind, state-call, state-word, refusal-keeps}
+use Rattle.raftershim.proofs.Laws.{refusal-keeps}
 
 -- what a block of bytes means is ranged, also where it is no state
 meaning-ranged : (b : List ℕ) → Bytes b → Ranged (meaning b)
@@ -61,40 +63,34 @@ module _ (l : Lent) (h : Whole l) where
   typed : Typed (opened l)
   typed = opened-typed l (h .bytes)
 
+  -- a call that is closed
+  closed-means : (c : Call) → cStep c l ≡ closed l (step c (opened l)) → word (step c (opened l) .said) ≡ answerWord c (opened l) → Means c l
+  unfolding closed
+  closed-means c q a =
+      record {
+        world = ap (λ (x : Returned). opened (x .lent)) q ∙ closed-world l (step c (opened l)) (refusal-keeps c (opened l)) (ranged-kept c (opened l) typed);
+        word = ap (λ (x : Returned). x .word) q ∙ a;
+      }
+
   meant : (c : Call) → Means c l
-  unfolding cStep answerWord step closed
-  meant = by-kind (λ (c : Call). Means c l) creating (λ side. record { world = refl; word = refl }) calling
-    where
-      closing : (c : Call) → cStep c l ≡ closed l (step c (opened l)) → word (step c (opened l) .said) ≡ answerWord c (opened l) → Means c l
-      closing c q a =
-          record {
-            world = ap (λ (x : Returned). opened (x .lent)) q ∙ closed-world l (step c (opened l)) (refusal-keeps c (opened l)) (ranged-kept c (opened l) typed);
-            word = ap (λ (x : Returned). x .word) q ∙ a;
-          }
-
-      creating : (m : ℕ) → Means (create m) l
-      creating m = closing (create m) (create-call m l (h .size)) refl
-
-      calling : (c : Call) → needsState c ≡ true → Means c l
-      calling c n = closing c (state-call c l n) (state-word c (opened l) n)
+  unfolding cStep answerWord step checks refusedOr notRefused
+  meant (create m) = closed-means (create m) (create-call m l (h .size)) refl
+  meant (show side) = record { world = refl; word = refl }
+  meant (on c) = closed-means (on c) refl refl
 
   -- the block stays one of the one length, and of bytes
+  closing : (c : Call) → cStep c l ≡ closed l (step c (opened l)) → (length (cStep c l .lent .block) ≡ blockLen) × Bytes (cStep c l .lent .block)
+  closing c q =
+      subst (λ (x : Returned). (length (x .lent .block) ≡ blockLen) × Bytes (x .lent .block)) (sym q)
+      (closed-block l (step c (opened l)) (refusal-keeps c (opened l)) (ranged-kept c (opened l) typed) (h .size) (h .bytes .block))
+
   block-kept : (c : Call) → (length (cStep c l .lent .block) ≡ blockLen) × Bytes (cStep c l .lent .block)
   unfolding cStep
-  block-kept = by-kind (λ (c : Call). (length (cStep c l .lent .block) ≡ blockLen) × Bytes (cStep c l .lent .block)) creating (λ side. (h .size, h .bytes .block)) calling
-    where
-      closing : (c : Call) → cStep c l ≡ closed l (step c (opened l)) → (length (cStep c l .lent .block) ≡ blockLen) × Bytes (cStep c l .lent .block)
-      closing c q =
-          subst (λ (x : Returned). (length (x .lent .block) ≡ blockLen) × Bytes (x .lent .block)) (sym q)
-          (closed-block l (step c (opened l)) (refusal-keeps c (opened l)) (ranged-kept c (opened l) typed) (h .size) (h .bytes .block))
+  block-kept (create m) = closing (create m) (create-call m l (h .size))
+  block-kept (show side) = (h .size, h .bytes .block)
+  block-kept (on c) = closing (on c) refl
 
-      creating : (m : ℕ) → (length (cStep (create m) l .lent .block) ≡ blockLen) × Bytes (cStep (create m) l .lent .block)
-      creating m = closing (create m) (create-call m l (h .size))
-
-      calling : (c : Call) → needsState c ≡ true → (length (cStep c l .lent .block) ≡ blockLen) × Bytes (cStep c l .lent .block)
-      calling c n = closing c (state-call c l n)
-
-  pub whole-kept : (c : Call) → isByteCall c ≡ true → Whole (cStep c l .lent)
+  pub whole-kept : (c : Call) → ByteCall c → Whole (cStep c l .lent)
   whole-kept c b =
       record {
         size = block-kept c .0;
@@ -112,14 +108,14 @@ call-means c l h = meant l h c
 -- ---- runs
 
 pub runs-mean : RunsMean
-unfolding cEnd cWords end words allByteCalls
+unfolding cWords words left
 runs-mean [] l b h = record { world = refl; words = refl; whole = h }
 runs-mean (c ∷ cs) l b h =
-    let k : Whole (cStep c l .lent) = whole-kept l h c (and-left (isByteCall c) (allByteCalls cs) b) in
-    let r : RunMeans cs (cStep c l .lent) = runs-mean cs (cStep c l .lent) (and-right (isByteCall c) (allByteCalls cs) b) k in
+    let k : Whole (cStep c l .lent) = whole-kept l h c (b .0) in
+    let r : RunMeans cs (cStep c l .lent) = runs-mean cs (cStep c l .lent) (b .1) k in
     let m : Means c l = call-means c l h in
     record {
-      world = r .world ∙ ap (end cs) (m .world);
+      world = r .world ∙ ap (left (bridge step) cs) (m .world);
       words = λ i. m .word i ∷ (r .words ∙ ap (words cs) (m .world)) i;
       whole = r .whole;
     }

@@ -9,26 +9,26 @@ use lib.Dec.{eqb}
 use borrow.Author.Tests.{eqb-true}
 use Rattle.cases.specs.Refusals.{check, firstRefusal}
 use Rattle.registers.specs.Writing.{writeChecks}
-use Rattle.state.specs.Answers.{Said, refused}
+use Rattle.state.specs.Answers.{Said, refused, isRefusal}
 use Rattle.state.specs.Sizes.{sizesObeyed, fits}
 use Rattle.block.specs.Packed.{blockLen}
 use Rattle.block.specs.States.{isState, fittingBlock}
 use Rattle.block.proofs.Laws.{meaning-fits}
-use Rattle.bridge.specs.Calls.{Call, create, reset, write, lineByte, lineBreak, key, nextLineByte, loopFrame, show, World, checks, step}
-use Rattle.laws.specs.Answers.{isRefusal, Refuses}
-use Rattle.laws.proofs.Answers.{refused-exactly}
+use Rattle.bridge.specs.Calls.{OnState, Call, create, show, on, World, checks, step}
+use Rattle.laws.specs.Answers.{Refuses}
+use Rattle.laws.proofs.Answers as bridge-answers
 use Rattle.raftershim.specs.Word.{word, kindOf, valueOf}
-use Rattle.raftershim.specs.Calls.{Lent, Returned, opened, cStep, needsState}
+use Rattle.raftershim.specs.Calls.{Lent, Returned, opened, cStep}
 use Rattle.raftershim.specs.Told.{told, saidBy, toldPart, cAnswer}
 use Rattle.raftershim.specs.Laws.{refusedBy}
 use Rattle.raftershim.specs.Refusals.{cChecks, RefusedExactlyInC}
-use Rattle.raftershim.proofs.Laws.{by-kind, misfit-refused, wrong-block-refused}
+use Rattle.raftershim.proofs.Laws.{misfit-refused, wrong-block-refused}
 use Rattle.raftershim.proofs.Told.{answers-told, refusal-keeps-all}
 
 -- ---- a block of the one length: the checks are those of the call
 
 same-first : (c : Call) (l : Lent) → eqb (length (l .block)) blockLen ≡ true → firstRefusal (checks c (opened l)) ≡ firstRefusal (cChecks c l)
-unfolding checks writeChecks cChecks
+unfolding checks cChecks
 same-first c l e = each c
   where
     same : fits (opened l .state) (length (l .rx)) (length (l .tx)) ≡ fittingBlock (l .block) (length (l .rx)) (length (l .tx))
@@ -42,14 +42,8 @@ same-first c l e = each c
     each (create m) =
         let t : Bool = sizesObeyed m (length (l .rx)) (length (l .tx)) in
         either t ∙ ap (λ (b : Bool). firstRefusal (check 1 (not t || not b) ∷ [])) (sym e)
-    each reset = rw same
-    each (write n v) = rw same
-    each (lineByte b) = rw same
-    each lineBreak = rw same
-    each key = rw same
-    each nextLineByte = rw same
-    each (loopFrame f) = rw same
     each (show side) = refl
+    each (on c) = rw same
 
 -- ---- a block of another length: the first check is given
 
@@ -95,37 +89,17 @@ module _ (l : Lent) (e : eqb (length (l .block)) blockLen ≡ false) where
   unfolding cAnswer cStep toldPart cChecks
   showing side = record { when = λ m q. cc; given = λ z. absurd (z refl); accepts = λ z. refl; leaves = λ q. refl }
 
-  calling : (c : Call) → needsState c ≡ true → Right c
-  unfolding cAnswer cChecks needsState
-  calling c n =
-      let r : cStep c l ≡ refusedBy 2 l = misfit-refused c l n misfits in
-      subst (λ (k : ℕ). Refuses (cAnswer c l) (cStep c l .lent) k l) (sym (misfit-first c n))
-      (refuses _ _ 2 l (λ z. omega arith) (by-number c n ∙ ap (λ (x : Returned). told (x .word)) r ∙ told-two) (ap (λ (x : Returned). x .lent) r))
-    where
-      by-number : (c : Call) → needsState c ≡ true → cAnswer c l ≡ told (cStep c l .word)
-      by-number (create m) n = refl
-      by-number (show side) n = absurd (false≢true n)
-      by-number reset n = refl
-      by-number (write k v) n = refl
-      by-number (lineByte b) n = refl
-      by-number lineBreak n = refl
-      by-number key n = refl
-      by-number nextLineByte n = refl
-      by-number (loopFrame f) n = refl
-
-      misfit-first : (c : Call) → needsState c ≡ true → firstRefusal (cChecks c l) ≡ 2
-      misfit-first (create m) n = absurd (false≢true n)
-      misfit-first (show side) n = absurd (false≢true n)
-      misfit-first reset n = rw misfits
-      misfit-first (write k v) n = rw misfits
-      misfit-first (lineByte b) n = rw misfits
-      misfit-first lineBreak n = rw misfits
-      misfit-first key n = rw misfits
-      misfit-first nextLineByte n = rw misfits
-      misfit-first (loopFrame f) n = rw misfits
+  calling : (c : OnState) → Right (on c)
+  unfolding cAnswer cChecks
+  calling c =
+      let r : cStep (on c) l ≡ refusedBy 2 l = misfit-refused c l misfits in
+      subst (λ (k : ℕ). Refuses (cAnswer (on c) l) (cStep (on c) l .lent) k l) (sym (rw misfits))
+      (refuses _ _ 2 l (λ z. omega arith) (ap (λ (x : Returned). told (x .word)) r ∙ told-two) (ap (λ (x : Returned). x .lent) r))
 
   other-length : (c : Call) → Right c
-  other-length = by-kind Right creating showing calling
+  other-length (create m) = creating m
+  other-length (show side) = showing side
+  other-length (on c) = calling c
 
 pub refused-exactly-in-c : RefusedExactlyInC
 refused-exactly-in-c c l h = pick (eqb (length (l .block)) blockLen) refl
@@ -139,8 +113,8 @@ refused-exactly-in-c c l h = pick (eqb (length (l .block)) blockLen) refl
         let a : cAnswer c l ≡ step c w .said = answers-told c l (record { size = eqb-true (length (l .block)) blockLen e; bytes = h }) in
         let n : firstRefusal (checks c w) ≡ firstRefusal (cChecks c l) = same-first c l e in
         record {
-          when = λ m q. sym n ∙ refused-exactly c w .when m (sym a ∙ q);
-          given = λ z. a ∙ refused-exactly c w .given (λ q. z (sym n ∙ q)) ∙ ap refused n;
-          accepts = λ z. ap isRefusal a ∙ refused-exactly c w .accepts (n ∙ z);
+          when = λ m q. sym n ∙ bridge-answers.refuses c w .when m (sym a ∙ q);
+          given = λ z. a ∙ bridge-answers.refuses c w .given (λ q. z (sym n ∙ q)) ∙ ap refused n;
+          accepts = λ z. ap isRefusal a ∙ bridge-answers.refuses c w .accepts (n ∙ z);
           leaves = refusal-keeps-all c l h;
         }

@@ -29,10 +29,13 @@ use Rattle.state.specs.Sizes.{fits}
 use Rattle.state.specs.Status.{shows, serviced, statusOf}
 use Rattle.state.proofs.Fits.{rx-fits, tx-fits}
 use Rattle.line.specs.HoldingOff.{owed, nextOut, outAnswer}
-use Rattle.loops.specs.Sending.{ended, ruleOf, sendState, removedState, sendFrom, sendStatus}
-use Rattle.loops.specs.Frames.{command, readied, ready, returned, dataPassed, identify, frameTaken}
-use Rattle.block.specs.States.{Bytes, Ranged}
-use Rattle.bridge.specs.Calls.{Call, create, reset, write, lineByte, lineBreak, key, nextLineByte, loopFrame, show, World, Did, checks, outcome, notRefused, refusedOr}
+use Rattle.loops.specs.Frames.{frameTaken}
+use Rattle.block.specs.States.{Ranged}
+use Rattle.store.specs.Bytes.{Bytes}
+use Rattle.bridge.specs.Calls.{OnState, reset, write, lineByte, lineBreak, key, nextLineByte, loopFrame, Call, create, show, on, World, Did, checksOn, checks, outcome, notRefused, step}
+use Rattle.laws.proofs.Refusing.{by-refusal, fitting, frame-fitting}
+use Rattle.runs.proofs.Ways.{way}
+use Rattle.runs.proofs.ElevenBits.{SmallFrame, frame-small}
 use Rattle.laws.proofs.Small.{held-bytes, given-small}
 use Rattle.runs.proofs.Answered.{status-small}
 use Rattle.raftershim.specs.Word.{word, kindOf, valueOf}
@@ -65,55 +68,19 @@ small-tells (answer.Frame f) h =
     by-word (frame (controlOf f) (dataOf f)) (omega arith) (ap (λ (x : ℕ). frame (controlOf x) (dataOf x)) e)
 small-tells (answer.Refused n) h = by-word (refused n) h refl
 
+small-refusal : (n : ℕ) → n < 65536 → Tells (refused n)
+unfolding kindOf valueOf saidBy
+small-refusal n h = by-word (refused n) h refl
+
 -- ---- frames
 
-abbrev SmallOut : Outcome → Type 0
-SmallOut o = Small (o .answer)
-
-serviced-small : (s : State) (f : ℕ) → f < 2048 → serviced s f < 65536
-unfolding serviced
-serviced-small s f h = by-cond (λ (n : ℕ). n < 65536) (shows s) _ _ (λ e. omega (arith, service-small f h)) (λ e. omega arith)
-
-ended-small : (s : State) (d : ℕ) → d < 256 → SmallOut (ended s d)
-unfolding ended
-ended-small s d h = omega arith
-
-send-small : (s t : State) (g : Given) → ((f : ℕ) → g ≡ One f → f < 1024) → SmallOut (sendState s t g)
-unfolding sendState
-send-small s t Nothing h = ended-small t 64 (omega arith)
-send-small s t (One f) h = serviced-small s f (omega (arith, h f refl))
-
-module _ (s : State) (rx : List ℕ) (fit : Fit rx (s .rx)) (b : Bytes rx) where
-  from-small : SmallOut (sendFrom s rx)
-  unfolding sendFrom
-  from-small = send-small s (removedState s rx) (givenOf (sendHeld (ruleOf (s .regs)) rx (s .rx))) (λ f e. given-small (ruleOf (s .regs)) rx (s .rx) f fit b e)
-
-  returned-small : (f : ℕ) → SmallOut (returned s rx f)
-  unfolding returned
-  returned-small f =
-      by-cond SmallOut (sameApart f (s .under .frame)) _ _
-      (λ e. by-cond SmallOut (eqb (s .role .talker) activeStatus) _ _
-      (λ e. ended-small _ 64 (omega arith))
-      (λ e. by-cond SmallOut (s .under .finishing) _ _ (λ e. ended-small s 64 (omega arith)) (λ e. from-small)))
-      (λ e. ended-small s 65 (omega arith))
-
-  module _ (f : ℕ) (h : f < 2048) where
-    ready-small : (r : Ready) → SmallOut (readied s rx f r)
-    unfolding readied sendStatus
-    ready-small asks.Address = omega arith
-    ready-small asks.Data = from-small
-    ready-small asks.Status = serviced-small s (made 0 (statusOf s)) (omega (arith, status-small s))
-    ready-small asks.Finish = omega arith
-    ready-small asks.Pass = omega arith
-
-    frame-small : SmallOut (frameTaken s rx f)
-    unfolding frameTaken command ready identify dataPassed
-    frame-small =
-        by-cond SmallOut (isData f) _ _
-        (λ e. by-cond SmallOut (isActive (s .role)) _ _ (λ e. returned-small f) (λ e. serviced-small s f h))
-        (λ e. by-cond SmallOut (eqb (controlOf f) 4) _ _
-        (λ e. omega arith)
-        (λ e. by-cond SmallOut (eqb (controlOf f) 5) _ _ (λ e. ready-small (readyOf (s .role) (dataOf f))) (λ e. serviced-small s f h)))
+-- a frame of 11 bits is one of 16
+frame-told : (a : Answer) → SmallFrame a → Small a
+frame-told (answer.Frame f) h = omega arith
+frame-told answer.Done h = absurd h
+frame-told answer.Nothing h = absurd h
+frame-told (answer.Byte b) h = absurd h
+frame-told (answer.Refused n) h = absurd h
 
 -- ---- line bytes
 
@@ -137,41 +104,43 @@ first-small : (cs : List Check) → Numbers cs → firstRefusal cs < 65536
 first-small [] h = omega arith
 first-small (c ∷ cs) h = by-cond (λ (n : ℕ). n < 65536) (c .given) _ _ (λ e. h .0) (λ e. first-small cs (h .1))
 
-first-none : (t : Bool) (n k : ℕ) → (n ≡ 0 → ⊥) → cond t n k ≡ 0 → (t ≡ false) × (k ≡ 0)
-first-none true n k h e = absurd (h e)
-first-none false n k h e = (refl, e)
-
-fitting : (t : Bool) (k : ℕ) → cond (not t) 2 k ≡ 0 → (t ≡ true) × (k ≡ 0)
-fitting true k e = (refl, e)
-fitting false k e = absurd (omega arith)
+small-on : (c : OnState) (s : State) → Numbers (checksOn c s)
+unfolding checksOn writeChecks
+small-on reset s = tt
+small-on (write n v) s = (omega arith, (omega arith, (omega arith, (omega arith, tt))))
+small-on (lineByte b) s = tt
+small-on lineBreak s = tt
+small-on key s = tt
+small-on nextLineByte s = tt
+small-on (loopFrame f) s = (omega arith, (omega arith, tt))
 
 small-numbers : (c : Call) (w : World) → Numbers (checks c w)
-unfolding checks writeChecks
+unfolding checks
 small-numbers (create m) w = (omega arith, tt)
-small-numbers reset w = (omega arith, tt)
-small-numbers (write n v) w = (omega arith, (omega arith, (omega arith, (omega arith, (omega arith, tt)))))
-small-numbers (lineByte b) w = (omega arith, tt)
-small-numbers lineBreak w = (omega arith, tt)
-small-numbers key w = (omega arith, tt)
-small-numbers nextLineByte w = (omega arith, tt)
-small-numbers (loopFrame f) w = (omega arith, (omega arith, (omega arith, tt)))
 small-numbers (show side) w = tt
+small-numbers (on c) w = (omega arith, small-on c (w .state))
 
-pub told-or : (w : World) (c : Call) → (firstRefusal (checks c w) ≡ 0 → Small (outcome c w .answer)) → Tells (refusedOr (firstRefusal (checks c w)) (notRefused c w) w .said)
-unfolding refusedOr notRefused said
-told-or w c h =
-    by-cond (λ (d : Did). Tells (d .said)) (eqb (firstRefusal (checks c w)) 0) _ _
-    (λ e. small-tells (outcome c w .answer) (h (eqb-true (firstRefusal (checks c w)) 0 e)))
-    (λ e. small-tells (answer.Refused (firstRefusal (checks c w))) (first-small (checks c w) (small-numbers c w)))
+-- a call that has a number tells its answer, where what it answers if it is not refused is small
+pub told-or : (c : Call) (w : World) → (firstRefusal (checks c w) ≡ 0 → Tells (notRefused c w .said)) → Tells (step c w .said)
+told-or c w h =
+    by-refusal (λ (d : Did). Tells (d .said)) c w h (λ _. small-refusal (firstRefusal (checks c w)) (first-small (checks c w) (small-numbers c w)))
 
-pub next-told : (w : World) → Ranged (w .state) → Bytes (w .tx) → firstRefusal (checks nextLineByte w) ≡ 0 → Small (outcome nextLineByte w .answer)
-unfolding checks outcome
-next-told w r k e =
-    next-small (w .state) (w .tx) r (tx-fits (w .state) (w .rx) (w .tx) (fitting (fits (w .state) (length (w .rx)) (length (w .tx))) 0 e .0) .ring) k
+pub create-told : (m : ℕ) (w : World) → Tells (notRefused (create m) w .said)
+unfolding notRefused
+create-told m w = small-tells answer.Done tt
 
-pub frame-told : (w : World) → Bytes (w .rx) → (f : ℕ) → firstRefusal (checks (loopFrame f) w) ≡ 0 → Small (outcome (loopFrame f) w .answer)
-unfolding checks outcome
-frame-told w b f e =
-    let x = fitting (fits (w .state) (length (w .rx)) (length (w .tx))) _ e in
-    let y = first-none (ltb 2047 f) 3 _ (λ h. omega arith) (x .1) in
-    frame-small (w .state) (w .rx) (rx-fits (w .state) (w .rx) (w .tx) (x .0) .ring) b f (omega (arith, ltb-false 2047 f (y .0)))
+-- what a call on a state answers is small
+pub on-told : (c : OnState) (w : World) → Ranged (w .state) → Bytes (w .rx) → Bytes (w .tx) → firstRefusal (checks (on c) w) ≡ 0 → Tells (notRefused (on c) w .said)
+unfolding notRefused outcome
+on-told c w r b k e = small-tells (outcome c w .answer) (small c e)
+  where
+    small : (c : OnState) → firstRefusal (checks (on c) w) ≡ 0 → Small (outcome c w .answer)
+    small reset e = tt
+    small (write n v) e = tt
+    small (lineByte x) e = tt
+    small lineBreak e = tt
+    small key e = tt
+    small nextLineByte e = next-small (w .state) (w .tx) r (tx-fits (w .state) (w .rx) (w .tx) (fitting nextLineByte w e .0) .ring) k
+    small (loopFrame f) e =
+        let x = frame-fitting f w e in
+        frame-told (frameTaken (w .state) (w .rx) f .answer) (frame-small (w .state) (w .rx) (rx-fits (w .state) (w .rx) (w .tx) (x .0) .ring) b f (omega (arith, ltb-false 2047 f (x .1 .0))) (frameTaken (w .state) (w .rx) f) (way (w .state) (w .rx) f))

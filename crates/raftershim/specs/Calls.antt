@@ -1,16 +1,16 @@
 -- "Our app, written in Rust, calls it as ordinary C functions on numbers and byte buffers; there (showing aside) the state travels as a
 -- lent block of bytes of one fixed length, and a block that is not a fitting state gets refusal 2."
 use Prim.Native.Nat.{ℕ}
-use mathlib.Core.Bool.{Bool, true, false, cond}
+use mathlib.Core.Path.{_≡_}
+use mathlib.Core.Bool.{cond}
 use mathlib.Core.List.{List}
 use lib.ListN.{length}
 use lib.Dec.{eqb}
 use Rattle.state.specs.declared.State.{State}
-use Rattle.state.specs.Answers.{Said, refused}
+use Rattle.state.specs.Answers.{Said, refused, isRefusal}
 use Rattle.block.specs.Packed.{blockLen, packed}
 use Rattle.block.specs.States.{meaning}
-use Rattle.bridge.specs.Calls.{Call, create, reset, write, lineByte, lineBreak, key, nextLineByte, loopFrame, show, World, world, Did, step}
-use Rattle.laws.specs.Answers.{isRefusal}
+use Rattle.bridge.specs.Calls.{Call, create, show, on, World, world, Did, step}
 use Rattle.raftershim.specs.Word.{word, shownWord}
 
 -- the buffers lent at every call
@@ -49,23 +49,9 @@ createdFor l d = cond (eqb (length (l .block)) blockLen) (closed l d) (record { 
 -- every C function is the call of its name on the world that the buffers stand for
 unfoldable pub cStep : Call → Lent → Returned
 cStep (create m) l = createdFor l (step (create m) (opened l))
-cStep reset l = closed l (step reset (opened l))
-cStep (write n v) l = closed l (step (write n v) (opened l))
-cStep (lineByte b) l = closed l (step (lineByte b) (opened l))
-cStep lineBreak l = closed l (step lineBreak (opened l))
-cStep key l = closed l (step key (opened l))
-cStep nextLineByte l = closed l (step nextLineByte (opened l))
-cStep (loopFrame f) l = closed l (step (loopFrame f) (opened l))
 cStep (show side) l = record { word = shownWord side (opened l); lent = l }
+cStep (on c) l = closed l (step (on c) (opened l))
 
--- the calls that a block that is no fitting state refuses with 2: "any other call but showing"
-unfoldable pub needsState : Call → Bool
-needsState (create m) = false
-needsState (show side) = false
-needsState reset = true
-needsState (write n v) = true
-needsState (lineByte b) = true
-needsState lineBreak = true
-needsState key = true
-needsState nextLineByte = true
-needsState (loopFrame f) = true
+-- what every C function promises, lent these buffers: it did this
+abbrev pub CPromised : Call → Lent → Returned → Type 0
+CPromised c l x = x ≡ cStep c l

@@ -5,24 +5,26 @@ use mathlib.Core.Bool.{true, false}
 use mathlib.Core.List.{List}
 use lib.ListN.{length, take, drop}
 use lib.Dec.{eqb}
-use Rattle.state.specs.Answers.{Said, refused}
+use Rattle.state.specs.Answers.{Said, refused, isRefusal}
 use Rattle.block.specs.Packed.{blockLen}
 use Rattle.block.specs.States.{fittingBlock, Ranged}
-use Rattle.bridge.specs.Calls.{Call, create, show, World, step, shown}
-use Rattle.laws.specs.Answers.{isRefusal}
-use Rattle.runs.specs.Run.{end}
+use Rattle.bridge.specs.Calls.{OnState, Call, create, show, on, World, step, shown}
+use Rattle.machine.specs.Machine.{AllFair, left}
+use Rattle.laws.specs.Bridges.{bridge}
 use Rattle.raftershim.specs.Word.{word, kindOf, valueOf, storeOf, shownWord}
-use Rattle.raftershim.specs.Calls.{Lent, Returned, returned, opened, cStep, needsState}
-use Rattle.raftershim.specs.Runs.{packedWorld, answerWord, words, cEnd, cWords, allByteCalls, Typed, OfBytes, Whole}
+use Rattle.raftershim.specs.Calls.{Lent, Returned, returned, opened, cStep, CPromised}
+use Rattle.raftershim.specs.Runs.{packedWorld, answerWord, words, cWords, Typed, OfBytes, Whole}
 use Rattle.raftershim.specs.Told.{cAnswer}
+use Rattle.raftershim.specs.Seen.{cFunctions}
 
 -- ---- the answer
 
--- "For each public call, any two results allowed by its promise are equal": the number and every byte of the three buffers
-abbrev pub OneResult : Type 0
-OneResult =
-    (x : Returned) (n m : ℕ) (b c rx ry tx ty : List ℕ) → returned n b rx tx ≡ x → returned m c ry ty ≡ x →
-    (n ≡ m) × ((b ≡ c) × ((rx ≡ ry) × (tx ≡ ty)))
+-- What a reader may hold us to, first: two results that a C function's promise allows are equal, the number and every byte of the three
+-- buffers. It is said of `CPromised`, which the contracts of the C functions cite.
+abbrev pub OneResultInC : Type 0
+OneResultInC =
+    (c : Call) (l : Lent) (n m : ℕ) (b b′ rx rx′ tx tx′ : List ℕ) → CPromised c l (returned n b rx tx) → CPromised c l (returned m b′ rx′ tx′) →
+    (n ≡ m) × ((b ≡ b′) × ((rx ≡ rx′) × (tx ≡ tx′)))
 
 -- the number tells the kind and the value
 abbrev pub WordTells : Type 0
@@ -47,7 +49,7 @@ refusedBy n l = record { word = word (refused n); lent = l }
 -- "a block that is not a fitting state gets refusal 2", and nothing is written; a block of the wrong length is no state
 abbrev pub MisfitRefused : Type 0
 MisfitRefused =
-    (c : Call) (l : Lent) → needsState c ≡ true → fittingBlock (l .block) (length (l .rx)) (length (l .tx)) ≡ false → cStep c l ≡ refusedBy 2 l
+    (c : OnState) (l : Lent) → fittingBlock (l .block) (length (l .rx)) (length (l .tx)) ≡ false → cStep (on c) l ≡ refusedBy 2 l
 
 -- "or the lent block has the wrong length"
 abbrev pub WrongBlockRefused : Type 0
@@ -67,11 +69,11 @@ SameCall = (c : Call) (w : World) → Ranged (w .state) → cStep c (packedWorld
 
 -- "each call given the state as the one before left it": the buffers at the end of a run are the world at its end
 abbrev pub SameEnd : Type 0
-SameEnd = (cs : List Call) (w : World) → allByteCalls cs ≡ true → Typed w → cEnd cs (packedWorld w) ≡ packedWorld (end cs w)
+SameEnd = (cs : List Call) (w : World) → AllFair cFunctions cs → Typed w → left cFunctions cs (packedWorld w) ≡ packedWorld (left (bridge step) cs w)
 
 -- the numbers that a run of C calls answers are those of the bridge's answers
 abbrev pub SameWords : Type 0
-SameWords = (cs : List Call) (w : World) → allByteCalls cs ≡ true → Typed w → cWords cs (packedWorld w) ≡ words cs w
+SameWords = (cs : List Call) (w : World) → AllFair cFunctions cs → Typed w → cWords cs (packedWorld w) ≡ words cs w
 
 -- ---- the same of any block of the one length, a state or not
 
@@ -86,13 +88,13 @@ CallMeans = (c : Call) (l : Lent) → Whole l → Means c l
 
 -- the same of a run
 pub record RunMeans (cs : List Call) (l : Lent) : Type 0 where
-  pub world : opened (cEnd cs l) ≡ end cs (opened l)
+  pub world : opened (left cFunctions cs l) ≡ left (bridge step) cs (opened l)
   pub words : cWords cs l ≡ words cs (opened l)
-  pub whole : Whole (cEnd cs l)
+  pub whole : Whole (left cFunctions cs l)
 
 -- a run of C calls is the run of the bridge's calls
 abbrev pub RunsMean : Type 0
-RunsMean = (cs : List Call) (l : Lent) → allByteCalls cs ≡ true → Whole l → RunMeans cs l
+RunsMean = (cs : List Call) (l : Lent) → AllFair cFunctions cs → Whole l → RunMeans cs l
 
 -- "Where an answer is an enum, a definition gives this paper's number and values": the number of a C call tells its whole answer
 abbrev pub AnswersTold : Type 0

@@ -3,14 +3,12 @@ use Prim.Native.Nat.{ℕ}
 use mathlib.Core.Bool.{_||_, not}
 use mathlib.Core.List.{List, [], _∷_}
 use lib.ListN.{length}
-use lib.Dec.{eqb, ltb}
+use lib.Dec.{eqb}
 use Rattle.cases.specs.Refusals.{Check, check, firstRefusal}
-use Rattle.registers.specs.Writing.{writeChecks}
 use Rattle.state.specs.Sizes.{sizesObeyed}
-use Rattle.loops.specs.LoopToLine.{busy}
 use Rattle.block.specs.Packed.{blockLen}
 use Rattle.block.specs.States.{fittingBlock}
-use Rattle.bridge.specs.Calls.{Call, create, reset, write, lineByte, lineBreak, key, nextLineByte, loopFrame, show}
+use Rattle.bridge.specs.Calls.{Call, create, show, on, checksOn}
 use Rattle.laws.specs.Answers.{Refuses}
 use Rattle.raftershim.specs.Calls.{Lent, opened, cStep}
 use Rattle.raftershim.specs.Runs.{OfBytes}
@@ -24,17 +22,11 @@ cannotCreate m l = check 1 (not (sizesObeyed m (length (l .rx)) (length (l .tx))
 abbrev pub misfitBlock : Lent → Check
 misfitBlock l = check 2 (not (fittingBlock (l .block) (length (l .rx)) (length (l .tx))))
 
--- the table, "Checked in the order of their numbers": after the first check those of the bridge's call; "Showing a store has no number"
+-- the table: after the first check those of the bridge's call, in the order of their numbers; showing has no number
 unfoldable pub cChecks : Call → Lent → List Check
 cChecks (create m) l = cannotCreate m l ∷ []
-cChecks reset l = misfitBlock l ∷ []
-cChecks (write n v) l = misfitBlock l ∷ writeChecks (opened l .state .regs) n v
-cChecks (lineByte b) l = misfitBlock l ∷ []
-cChecks lineBreak l = misfitBlock l ∷ []
-cChecks key l = misfitBlock l ∷ []
-cChecks nextLineByte l = misfitBlock l ∷ []
-cChecks (loopFrame f) l = misfitBlock l ∷ check 3 (ltb 2047 f) ∷ check 4 (busy (opened l .state) f) ∷ []
 cChecks (show side) l = []
+cChecks (on c) l = misfitBlock l ∷ checksOn c (opened l .state)
 
 -- "Given exactly when": every C call, on any buffers of bytes, a block of any length among them, answers by its number the refusal of the
 -- first of its checks that is given, and only then a refusal

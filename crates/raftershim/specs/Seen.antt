@@ -1,49 +1,25 @@
--- What is seen of the C calls is what is seen of the bridge's calls, one call after the other.
-use mathlib.Core.Path.{_≡_}
-use mathlib.Core.Bool.{true}
-use mathlib.Core.List.{List, [], _∷_}
-use Rattle.state.specs.Answers.{Said}
-use Rattle.bridge.specs.Calls.{Call, World, step}
+-- The C functions as a machine beside the bridge: what is seen of them, and that they obey every law that the bridge obeys.
+use Rattle.machine.specs.Machine.{Obeys, ObeysAll}
+use Rattle.machine.specs.Opening.{Opens}
+use Rattle.bridge.specs.Calls.{step}
+use Rattle.laws.specs.Bridges.{Machine, Law, bridge, ByteCall}
+use Rattle.laws.specs.Laws.{laws}
 use Rattle.raftershim.specs.Calls.{Lent, opened, cStep}
-use Rattle.raftershim.specs.Runs.{allByteCalls, Typed, Whole}
+use Rattle.raftershim.specs.Runs.{Whole}
 use Rattle.raftershim.specs.Told.{cAnswer}
 
--- all that is seen of a call: the world before it, its answer and the world after it
-pub record Seen : Type 0 where
-  pub call : Call
-  pub before : World
-  pub answer : Said
-  pub after : World
+-- the buffers stand for a world, and the number tells the answer; the types give a block of the one length, and bytes
+abbrev pub cFunctions : Machine
+cFunctions = record { Own = Lent; stands = opened; answer = cAnswer; after = λ c l. cStep c l .lent; Fine = Whole; Fair = ByteCall }
 
--- of a call of the bridge
-abbrev pub seen : Call → World → Seen
-seen c w = record { call = c; before = w; answer = step c w .said; after = step c w .world }
+-- step by step they do what the bridge does on the world that the buffers stand for, a block that is no state included
+abbrev pub CIsTheBridge : Type 0
+CIsTheBridge = Opens cFunctions (bridge step)
 
--- of a C call: the buffers stand for the worlds, and its number tells the answer
-abbrev pub cSeen : Call → Lent → Seen
-cSeen c l = record { call = c; before = opened l; answer = cAnswer c l; after = opened (cStep c l .lent) }
+-- so whatever law the bridge obeys, they obey
+abbrev pub LawsHoldInC : Type 1
+LawsHoldInC = (L : Law) → Obeys (bridge step) L → Obeys cFunctions L
 
--- of a run, "each call given the state as the one before left it"
-unfoldable pub course : List Call → World → List Seen
-course [] w = []
-course (c ∷ cs) w = seen c w ∷ course cs (step c w .world)
-
-unfoldable pub cCourse : List Call → Lent → List Seen
-cCourse [] l = []
-cCourse (c ∷ cs) l = cSeen c l ∷ cCourse cs (cStep c l .lent)
-
--- ---- the laws
-
--- whatever is said of all that is seen of a call, and is so of every call of the bridge, is so of every C call
-abbrev pub CallsAlike : Type 1
-CallsAlike = (P : Seen → Type 0) → ((c : Call) (w : World) → Typed w → P (seen c w)) → (c : Call) (l : Lent) → Whole l → P (cSeen c l)
-
--- the course of a run of C calls is that of the bridge's calls
-abbrev pub SameCourse : Type 0
-SameCourse = (cs : List Call) (l : Lent) → allByteCalls cs ≡ true → Whole l → cCourse cs l ≡ course cs (opened l)
-
--- whatever is said of the course of a run, and is so of every run of the bridge's calls, is so of every run of C calls
-abbrev pub RunsAlike : Type 1
-RunsAlike =
-    (P : List Seen → Type 0) → ((cs : List Call) (w : World) → allByteCalls cs ≡ true → Typed w → P (course cs w)) →
-    (cs : List Call) (l : Lent) → allByteCalls cs ≡ true → Whole l → P (cCourse cs l)
+-- and they obey all of `laws`: demand 3, and every other rule over calls and runs
+abbrev pub AllLawsInC : Type 0
+AllLawsInC = ObeysAll cFunctions laws

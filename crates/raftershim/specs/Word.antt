@@ -23,7 +23,7 @@ kindOf (refused n) = 4
 kindOf (part xs) = 0
 
 -- the byte, the frame with its control bits above its data bits, or the paper's number of the refusal;
--- of a part that is shown the length, to which `shownWord` adds where it starts
+-- of a part that is shown its length, to which `shownWord` adds where it starts
 unfoldable pub valueOf : Said → ℕ
 valueOf done = 0
 valueOf none = 0
@@ -48,4 +48,4 @@ storeOf side w = cond (eqb side 0) (w .rx) (w .tx)
 
 -- "an empty part if nothing is held, the state misfits or the side is neither": the number 0
 unfoldable pub shownWord : ℕ → World → ℕ
-shownWord side w = cond (eqb (length (shown side w)) 0) 0 (placeWord (startOf side (w .state)) (length (shown side w)))
+shownWord side w = cond (eqb (length (shown side w)) 0) 0 (placeWord (startOf side (w .state)) (word (part (shown side w))))

@@ -13,7 +13,7 @@ use Rattle.state.specs.declared.State.{State}
 use Rattle.state.specs.declared.Answer.the-variants.{Frame}
 use Rattle.state.specs.Answers.{said}
 use Rattle.state.specs.Status.{conditions, shows, serviced, statusOf}
-use Rattle.runs.specs.Observers.{dataFrame}
+use Rattle.laws.specs.Observers.{dataFrame}
 
 -- the service bit leaves the rest of a frame alone
 pub serviced-kind : (s : State) (f : ℕ) → isData (serviced s f) ≡ isData f

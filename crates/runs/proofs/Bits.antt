@@ -7,14 +7,19 @@ use lib.Dec.{eqb}
 use Rattle.status.specs.Status.{statusByte, showed}
 use Rattle.state.specs.declared.State.{State}
 use Rattle.state.specs.Status.{conditions, shows, statusOf}
-use Rattle.runs.specs.Events.{Event, broken, overrun, pressed, worth}
+use Rattle.laws.specs.Events.{Event, broken, overrun, pressed, noted}
 use Rattle.runs.proofs.Answered.{weight}
-use Rattle.runs.proofs.StatusView.{noted}
 
-abbrev digit : Bool → ℕ
+-- what its bit is worth
+abbrev pub worth : Event → ℕ
+worth broken = 16
+worth overrun = 32
+worth pressed = 128
+
+abbrev pub digit : Bool → ℕ
 digit t = cond t 1 0
 
-weighs : (t : Bool) (n : ℕ) → cond t n 0 ≡ n * digit t
+pub weighs : (t : Bool) (n : ℕ) → cond t n 0 ≡ n * digit t
 weighs true n = omega arith
 weighs false n = omega arith
 

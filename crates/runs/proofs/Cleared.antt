@@ -2,7 +2,7 @@
 use Prim.Native.Nat.{ℕ}
 use native.Mathlib.Omega.{arith}
 use mathlib.Core.Path.{_≡_, refl, sym, ap, subst, _∙_}
-use mathlib.Core.Bool.{Bool, true, false, cond, _&&_, _||_, not, false≢true}
+use mathlib.Core.Bool.{Bool, true, false, cond, _&&_, _||_, not, false≢true, and-false}
 use mathlib.Core.List.{List, [], _∷_}
 use lib.Dec.{eqb}
 use borrow.Author.Tests.{eqb-true, ne-eqb, le-leb}
@@ -30,21 +30,23 @@ use Rattle.line.specs.HoldingOff.{isGoOrStop, flowed, lostState, storedWith, st
 use Rattle.loops.specs.LoopToLine.{leftState}
 use Rattle.loops.specs.Sending.{sendStatus, talking, ended}
 use Rattle.loops.specs.Frames.{cleared, returned, frameTaken, deviceClear}
-use Rattle.bridge.specs.Calls.{Call, create, reset, write, lineByte, lineBreak, key, nextLineByte, loopFrame, show, World, Did, checks, outcome, settledBy, refusedOr, step}
+use Rattle.bridge.specs.Calls.{Call, on, create, reset, write, lineByte, lineBreak, key, nextLineByte, loopFrame, show, World, Did, checks, outcome, settledBy, refusedOr, step}
 use Rattle.bridge.specs.Calls as calls
-use Rattle.laws.specs.CallPlaces.{isDeviceClear}
-use Rattle.runs.specs.Observers.{taken, isFrame, dataFrame, equalReturn, isSend, asksStatus, statusSent, restarts, clears, arrived, lost}
-use Rattle.runs.specs.Run.{answer, after, end, Without, empties}
-use Rattle.runs.specs.StatusWay.{endsWay, statusBack}
-use Rattle.runs.specs.Events.{Event, broken, overrun, pressed, worth, any, bitOf, happens}
-use Rattle.runs.specs.Cleared.{NoneInvented, NoneAtStart, EventsClear}
-use Rattle.runs.proofs.StatusView.{noted}
-use Rattle.runs.proofs.Bits.{event-shown}
+use Rattle.laws.specs.Observers.{taken, isFrame, dataFrame, equalReturn, isSend, asksStatus, statusSent, restarts, clears, arrived, lost, empties, any, isFlow}
+use Rattle.laws.specs.StatusWay.{endsWay, statusBack}
+use Rattle.laws.specs.Events.{Event, broken, overrun, pressed, bitOf, happens, noted}
+use Rattle.laws.specs.Cleared.{NotInvented, NotAtStart, Clears}
+use Rattle.runs.proofs.Bits.{worth, event-shown}
 use Rattle.runs.proofs.Answered.{status-small, status-frame}
 use Rattle.runs.proofs.Runs.{first-not}
 use Rattle.runs.proofs.Refused.{frame-answers, frame-taken}
 use Rattle.runs.proofs.FrameKinds.{Kind, isSent, isStatus, isBack, isCleared, isKept, isOther, sends-status, send-notes, kind-of}
 use Rattle.runs.proofs.Refusals.{or-refused, frame-fits}
+use Rattle.runs.proofs.Steps.{answer, after, end, Without, ours, at-left, frame-or, off-frame}
+use Rattle.machine.specs.Machine as machine
+use Rattle.machine.specs.Course as course
+use Rattle.machine.specs.Machine.{Obeys}
+use Rattle.laws.proofs.Fitting.{keeps-bytes}
 
 -- ---- what is noted of an event
 
@@ -116,48 +118,44 @@ or-true : (a b : Bool) → b ≡ true → (a || b) ≡ true
 or-true true b e = refl
 or-true false b e = e
 
-no-and : (t : Bool) → (t && false) ≡ false
-no-and true = refl
-no-and false = refl
-
 -- while a status byte is under way, nothing is asked for
 busy-talking : (s : State) (f : ℕ) → eqb (s .role .talker) 3 ≡ true → (isSend s f ≡ false) × (asksStatus s f ≡ false)
 unfolding isSend asksStatus
 busy-talking s f k =
     let one : eqb (s .role .talker) 1 ≡ false = ne-eqb (s .role .talker) 1 (λ h. omega (arith, eqb-true (s .role .talker) 3 k)) in
     let two : eqb (s .role .talker) 2 ≡ false = ne-eqb (s .role .talker) 2 (λ h. omega (arith, eqb-true (s .role .talker) 3 k)) in (
-      simp (one, two, no-and (eqb (dataOf f) 96), no-and (eqb (controlOf f) 5), no-and (equalReturn s f)),
-      simp (one, no-and (eqb (dataOf f) 97), no-and (eqb (controlOf f) 5)),
+      simp (one, two, and-false (eqb (dataOf f) 96), and-false (eqb (controlOf f) 5), and-false (equalReturn s f)),
+      simp (one, and-false (eqb (dataOf f) 97), and-false (eqb (controlOf f) 5)),
     )
 
 module _ (e : Event) (w : World) (f : ℕ) where
   abbrev FrameNoted : Outcome → Type 0
-  FrameNoted o = Noted e (loopFrame f) w (said (o .answer)) (o .state)
+  FrameNoted o = Noted e (on (loopFrame f)) w (said (o .answer)) (o .state)
 
-  no-empties : (a : Said) → isDeviceClear (w .state) f ≡ false → empties (loopFrame f) w a ≡ false
+  no-empties : (a : Said) → deviceClear (w .state) f ≡ false → empties (on (loopFrame f)) w a ≡ false
   unfolding restarts clears
-  no-empties a n = (λ i. taken a && n i) ∙ no-and (taken a)
+  no-empties a n = (λ i. taken a && n i) ∙ and-false (taken a)
 
-  still-way : (a : Said) → isFrame a ≡ true → endsWay (loopFrame f) a ≡ false → (isData f || eqb (controlOf f) 4) ≡ false
+  still-way : (a : Said) → isFrame a ≡ true → endsWay (on (loopFrame f)) a ≡ false → (isData f || eqb (controlOf f) 4) ≡ false
   unfolding endsWay
   still-way a t n = (λ i. sym (frame-taken a t) i && (isData f || eqb (controlOf f) 4)) ∙ n
 
   frame-noted : (o : Outcome) → Kind (w .state) (w .rx) f o → isFrame (said (o .answer)) ≡ true → FrameNoted o
   unfolding sendStatus ended talking cleared leftState status.statusSent status.statusBack endsWay said
   frame-noted o (isSent m) t =
-      left e (loopFrame f) w _ _ (no-empties _ (m .clear)) (λ h. ap (λ (n : Notes). noted e (n .seen)) (send-notes (w .state) (w .rx) f) ∙ h)
+      left e (on (loopFrame f)) w _ _ (no-empties _ (m .clear)) (λ h. ap (λ (n : Notes). noted e (n .seen)) (send-notes (w .state) (w .rx) f) ∙ h)
       (λ _ k. absurd (false≢true (sym (busy-talking (w .state) f k .0) ∙ m .send)))
   frame-noted o (isStatus m) t =
-      left e (loopFrame f) w _ _ (no-empties _ (m .clear)) (λ h. h)
+      left e (on (loopFrame f)) w _ _ (no-empties _ (m .clear)) (λ h. h)
       (λ _ k. absurd (false≢true (sym (busy-talking (w .state) f k .1) ∙ m .status)))
   frame-noted o (isBack m d) t =
-      left e (loopFrame f) w _ _ (no-empties _ (m .clear)) (never-noted (w .state .notes .seen) (w .state .notes .again) (dataOf (w .state .under .frame)) e)
+      left e (on (loopFrame f)) w _ _ (no-empties _ (m .clear)) (never-noted (w .state .notes .seen) (w .state .notes .again) (dataOf (w .state .under .frame)) e)
       (λ n _. absurd (false≢true (sym n ∙ (λ i. d i || eqb (controlOf f) 4))))
-  frame-noted o (isCleared m c) t = begun e (loopFrame f) w _ _ (or-true (isData f) _ c) (none-noted e)
+  frame-noted o (isCleared m c) t = begun e (on (loopFrame f)) w _ _ (or-true (isData f) _ c) (none-noted e)
   frame-noted o (isKept m d l) t =
-      left e (loopFrame f) w _ _ (no-empties _ (m .clear)) (λ h. h) (λ n _. absurd (false≢true (sym n ∙ (λ i. d i || eqb (controlOf f) 4))))
+      left e (on (loopFrame f)) w _ _ (no-empties _ (m .clear)) (λ h. h) (λ n _. absurd (false≢true (sym n ∙ (λ i. d i || eqb (controlOf f) 4))))
   frame-noted o (isOther u k p m x) t =
-      left e (loopFrame f) w _ _ (no-empties _ (m .clear)) (λ h. ap (λ (n : Notes). noted e (n .seen)) (x .notes) ∙ h)
+      left e (on (loopFrame f)) w _ _ (no-empties _ (m .clear)) (λ h. ap (λ (n : Notes). noted e (n .seen)) (x .notes) ∙ h)
       (λ n _.
       let y = x .way (still-way (said (Frame k)) t n) in
       record {
@@ -169,42 +167,42 @@ module _ (e : Event) (w : World) (f : ℕ) where
 
 -- ---- every call
 
-on : (e : Event) (s : State) → On e s s
-on e s = record { talker = refl; frame = refl; seen = refl; again = refl }
+unmoved : (e : Event) (s : State) → On e s s
+unmoved e s = record { talker = refl; frame = refl; seen = refl; again = refl }
 
-gone-noted : (e : Event) (w : World) (a : Said) (o : Out) → Noted e nextLineByte w a (settled (w .state) (goneState (w .state) o))
+gone-noted : (e : Event) (w : World) (a : Said) (o : Out) → Noted e (on nextLineByte) w a (settled (w .state) (goneState (w .state) o))
 unfolding goneState settled restarts clears
-gone-noted e w a (out.Own b) = kept e nextLineByte w a _ refl (record { talker = refl; frame = refl; seen = refl; again = refl })
-gone-noted e w a (out.Held b) = kept e nextLineByte w a _ refl (record { talker = refl; frame = refl; seen = refl; again = refl })
-gone-noted e w a out.Nothing = kept e nextLineByte w a _ refl (record { talker = refl; frame = refl; seen = refl; again = refl })
+gone-noted e w a (out.Own b) = kept e (on nextLineByte) w a _ refl (record { talker = refl; frame = refl; seen = refl; again = refl })
+gone-noted e w a (out.Held b) = kept e (on nextLineByte) w a _ refl (record { talker = refl; frame = refl; seen = refl; again = refl })
+gone-noted e w a out.Nothing = kept e (on nextLineByte) w a _ refl (record { talker = refl; frame = refl; seen = refl; again = refl })
 
 line-noted : (e : Event) (w : World) (b : ℕ) (t u : Bool) → isGoOrStop (w .state .regs) b ≡ t → full (w .state .sizes .rx) (w .state .rx) ≡ u →
-    Noted e (lineByte b) w done (settled (w .state) (cond t (flowed (w .state) b) (cond u (lostState (w .state)) (storedState (w .state)))))
-unfolding flowed lostState storedWith settled restarts clears lost arrived
-line-noted e w b true u p q = kept e (lineByte b) w done _ refl (record { talker = refl; frame = refl; seen = refl; again = refl })
-line-noted e w b false false p q = kept e (lineByte b) w done _ refl (record { talker = refl; frame = refl; seen = refl; again = refl })
-line-noted broken w b false true p q = kept broken (lineByte b) w done _ refl (record { talker = refl; frame = refl; seen = refl; again = refl })
-line-noted overrun w b false true p q = happened overrun (lineByte b) w done _ refl (λ i. any (cond (q i) (cond (not (p i)) (b ∷ []) []) []))
-line-noted pressed w b false true p q = kept pressed (lineByte b) w done _ refl (record { talker = refl; frame = refl; seen = refl; again = refl })
+    Noted e (on (lineByte b)) w done (settled (w .state) (cond t (flowed (w .state) b) (cond u (lostState (w .state)) (storedState (w .state)))))
+unfolding flowed lostState storedWith settled restarts clears lost arrived isFlow isGoOrStop
+line-noted e w b true u p q = kept e (on (lineByte b)) w done _ refl (record { talker = refl; frame = refl; seen = refl; again = refl })
+line-noted e w b false false p q = kept e (on (lineByte b)) w done _ refl (record { talker = refl; frame = refl; seen = refl; again = refl })
+line-noted broken w b false true p q = kept broken (on (lineByte b)) w done _ refl (record { talker = refl; frame = refl; seen = refl; again = refl })
+line-noted overrun w b false true p q = happened overrun (on (lineByte b)) w done _ refl (λ i. any (cond (q i) (cond (not (p i)) (b ∷ []) []) []))
+line-noted pressed w b false true p q = kept pressed (on (lineByte b)) w done _ refl (record { talker = refl; frame = refl; seen = refl; again = refl })
 
-write-noted : (e : Event) (w : World) (n v : ℕ) → Noted e (write n v) w done (settled (w .state) (afterWrite (w .state) n (written (w .state .regs) n v)))
+write-noted : (e : Event) (w : World) (n v : ℕ) → Noted e (on (write n v)) w done (settled (w .state) (afterWrite (w .state) n (written (w .state .regs) n v)))
 unfolding afterWrite setAfresh settled restarts clears
 write-noted e w n v =
-    by-cond (λ (t : State). Noted e (write n v) w done (settled (w .state) t)) (eqb n 11) _ _
-    (λ _. kept e (write n v) w done _ refl (record { talker = refl; frame = refl; seen = refl; again = refl }))
-    (λ _. kept e (write n v) w done _ refl (record { talker = refl; frame = refl; seen = refl; again = refl }))
+    by-cond (λ (t : State). Noted e (on (write n v)) w done (settled (w .state) t)) (eqb n 11) _ _
+    (λ _. kept e (on (write n v)) w done _ refl (record { talker = refl; frame = refl; seen = refl; again = refl }))
+    (λ _. kept e (on (write n v)) w done _ refl (record { talker = refl; frame = refl; seen = refl; again = refl }))
 
 refused-noted : (e : Event) (c : Call) (w : World) (n : ℕ) → Noted e c w (refused n) (w .state)
 unfolding restarts clears
-refused-noted e (create m) w n = kept e (create m) w (refused n) _ refl (on e (w .state))
-refused-noted e reset w n = kept e reset w (refused n) _ refl (on e (w .state))
-refused-noted e (write k v) w n = kept e (write k v) w (refused n) _ refl (on e (w .state))
-refused-noted e (lineByte b) w n = kept e (lineByte b) w (refused n) _ refl (on e (w .state))
-refused-noted e lineBreak w n = kept e lineBreak w (refused n) _ refl (on e (w .state))
-refused-noted e key w n = kept e key w (refused n) _ refl (on e (w .state))
-refused-noted e nextLineByte w n = kept e nextLineByte w (refused n) _ refl (on e (w .state))
-refused-noted e (loopFrame f) w n = kept e (loopFrame f) w (refused n) _ refl (on e (w .state))
-refused-noted e (show side) w n = kept e (show side) w (refused n) _ refl (on e (w .state))
+refused-noted e (create m) w n = kept e (create m) w (refused n) _ refl (unmoved e (w .state))
+refused-noted e (on reset) w n = kept e (on reset) w (refused n) _ refl (unmoved e (w .state))
+refused-noted e (on (write k v)) w n = kept e (on (write k v)) w (refused n) _ refl (unmoved e (w .state))
+refused-noted e (on (lineByte b)) w n = kept e (on (lineByte b)) w (refused n) _ refl (unmoved e (w .state))
+refused-noted e (on lineBreak) w n = kept e (on lineBreak) w (refused n) _ refl (unmoved e (w .state))
+refused-noted e (on key) w n = kept e (on key) w (refused n) _ refl (unmoved e (w .state))
+refused-noted e (on nextLineByte) w n = kept e (on nextLineByte) w (refused n) _ refl (unmoved e (w .state))
+refused-noted e (on (loopFrame f)) w n = kept e (on (loopFrame f)) w (refused n) _ refl (unmoved e (w .state))
+refused-noted e (show side) w n = kept e (show side) w (refused n) _ refl (unmoved e (w .state))
 
 noted-or : (e : Event) (c : Call) (w : World) (n : ℕ) (d : Did) → (n ≡ 0 → Noted e c w (d .said) (d .world .state)) → Noted e c w (refusedOr n d w .said) (refusedOr n d w .world .state)
 noted-or e c w n d = or-refused (λ (x : Did). Noted e c w (x .said) (x .world .state)) n d w (refused-noted e c w n)
@@ -212,31 +210,30 @@ noted-or e c w n d = or-refused (λ (x : Did). Noted e c w (x .said) (x .world .
 notes : (e : Event) (c : Call) (w : World) → Noted e c w (answer c w) (after c w .state)
 unfolding step calls.notRefused outcome settledBy said lineState breakState keyState startState restarts clears endsWay
 notes e (create m) w = noted-or e (create m) w _ _ (λ _. begun e (create m) w done _ refl (none-noted e))
-notes e reset w = noted-or e reset w _ _ (λ _. settled-noted e reset w done false _ (begun e reset w done _ refl (none-noted e)))
-notes e (write n v) w = noted-or e (write n v) w _ _ (λ _. write-noted e w n v)
-notes e (lineByte b) w = noted-or e (lineByte b) w _ _ (λ _. line-noted e w b (isGoOrStop (w .state .regs) b) (full (w .state .sizes .rx) (w .state .rx)) refl refl)
-notes broken lineBreak w = noted-or broken lineBreak w _ _ (λ _. happened broken lineBreak w done _ refl refl)
-notes overrun lineBreak w = noted-or overrun lineBreak w _ _ (λ _. settled-noted overrun lineBreak w done false _ (kept overrun lineBreak w done _ refl (record { talker = refl; frame = refl; seen = refl; again = refl })))
-notes pressed lineBreak w = noted-or pressed lineBreak w _ _ (λ _. settled-noted pressed lineBreak w done false _ (kept pressed lineBreak w done _ refl (record { talker = refl; frame = refl; seen = refl; again = refl })))
-notes broken key w = noted-or broken key w _ _ (λ _. settled-noted broken key w done false _ (kept broken key w done _ refl (record { talker = refl; frame = refl; seen = refl; again = refl })))
-notes overrun key w = noted-or overrun key w _ _ (λ _. settled-noted overrun key w done false _ (kept overrun key w done _ refl (record { talker = refl; frame = refl; seen = refl; again = refl })))
-notes pressed key w = noted-or pressed key w _ _ (λ _. happened pressed key w done _ refl refl)
-notes e nextLineByte w = noted-or e nextLineByte w _ _ (λ _. gone-noted e w _ (nextOut (w .state) (w .tx)))
-notes e (loopFrame f) w =
-    noted-or e (loopFrame f) w _ _
-    (λ x. settled-noted e (loopFrame f) w _ (deviceClear (w .state) f) _ (frame-noted e w f _ (kind-of f w (frame-fits f w x)) (frame-answers (w .state) (w .rx) f)))
-notes e (show side) w = kept e (show side) w _ _ refl (on e (w .state))
+notes e (on reset) w = noted-or e (on reset) w _ _ (λ _. settled-noted e (on reset) w done false _ (begun e (on reset) w done _ refl (none-noted e)))
+notes e (on (write n v)) w = noted-or e (on (write n v)) w _ _ (λ _. write-noted e w n v)
+notes e (on (lineByte b)) w = noted-or e (on (lineByte b)) w _ _ (λ _. line-noted e w b (isGoOrStop (w .state .regs) b) (full (w .state .sizes .rx) (w .state .rx)) refl refl)
+notes broken (on lineBreak) w = noted-or broken (on lineBreak) w _ _ (λ _. happened broken (on lineBreak) w done _ refl refl)
+notes overrun (on lineBreak) w = noted-or overrun (on lineBreak) w _ _ (λ _. settled-noted overrun (on lineBreak) w done false _ (kept overrun (on lineBreak) w done _ refl (record { talker = refl; frame = refl; seen = refl; again = refl })))
+notes pressed (on lineBreak) w = noted-or pressed (on lineBreak) w _ _ (λ _. settled-noted pressed (on lineBreak) w done false _ (kept pressed (on lineBreak) w done _ refl (record { talker = refl; frame = refl; seen = refl; again = refl })))
+notes broken (on key) w = noted-or broken (on key) w _ _ (λ _. settled-noted broken (on key) w done false _ (kept broken (on key) w done _ refl (record { talker = refl; frame = refl; seen = refl; again = refl })))
+notes overrun (on key) w = noted-or overrun (on key) w _ _ (λ _. settled-noted overrun (on key) w done false _ (kept overrun (on key) w done _ refl (record { talker = refl; frame = refl; seen = refl; again = refl })))
+notes pressed (on key) w = noted-or pressed (on key) w _ _ (λ _. happened pressed (on key) w done _ refl refl)
+notes e (on nextLineByte) w = noted-or e (on nextLineByte) w _ _ (λ _. gone-noted e w _ (nextOut (w .state) (w .tx)))
+notes e (on (loopFrame f)) w =
+    noted-or e (on (loopFrame f)) w _ _
+    (λ x. settled-noted e (on (loopFrame f)) w _ (deviceClear (w .state) f) _ (frame-noted e w f _ (kind-of f w (frame-fits f w x)) (frame-answers (w .state) (w .rx) f)))
+notes e (show side) w = noted-or e (show side) w _ _ (λ _. kept e (show side) w _ _ refl (unmoved e (w .state)))
 
-pub none-at-start : NoneAtStart
-unfolding bitOf
-none-at-start e c w q = event-shown e (after c w .state) ∙ notes e c w .starts q
+pub not-at-start : (e : Event) → Obeys ours (NotAtStart e)
+not-at-start e c w B q = notes e c w .starts q
 
-pub none-invented : NoneInvented
-unfolding end bitOf
-none-invented e [] w h n = h
-none-invented e (c ∷ cs) w h n =
+pub not-invented : (e : Event) → Obeys ours (NotInvented e)
+unfolding course.end machine.course
+not-invented e [] w B k h n = h
+not-invented e (c ∷ cs) w B k h n =
     let m = first-not (happens e) c cs w n in
-    none-invented e cs (after c w) (event-shown e (after c w .state) ∙ notes e c w .fresh (m .0) (sym (event-shown e (w .state)) ∙ h)) (m .1)
+    not-invented e cs (after c w) (keeps-bytes c w (k .0) B) (k .1) (notes e c w .fresh (m .0) h) (m .1)
 
 -- ---- runs
 
@@ -267,7 +264,7 @@ module _ (e : Event) (g : ℕ) where
       }
 
   run-on : (cs : List Call) (w : World) → Way (w .state) → Without (happens e) cs w → Without (λ c w a. endsWay c a) cs w → Way (end cs w .state)
-  unfolding end
+  unfolding course.end machine.course
   run-on [] w y h n = y
   run-on (c ∷ cs) w y h n =
       let k = first-not (happens e) c cs w h in
@@ -282,10 +279,10 @@ returned-clear e s rx f T D m q =
     let a : isActive (s .role) ≡ true = le-leb 2 (s .role .talker) (omega (arith, eqb-true (s .role .talker) 3 T)) in
     rw (D, a, m, T) q
 
-back : (e : Event) (g : ℕ) (w : World) (r : ℕ) → Way e g (w .state) → statusBack (g ∷ []) (loopFrame r) (answer (loopFrame r) w) ≡ true → Clear e (after (loopFrame r) w .state)
+back : (e : Event) (g : ℕ) (w : World) (r : ℕ) → Way e g (w .state) → statusBack (g ∷ []) (on (loopFrame r)) (answer (on (loopFrame r)) w) ≡ true → Clear e (after (on (loopFrame r)) w .state)
 unfolding statusBack step calls.notRefused outcome settledBy settled
 back e g w r y =
-    or-refused (λ (d : Did). (taken (d .said) && (isData r && sameApart r g)) ≡ true → Clear e (d .world .state)) (firstRefusal (checks (loopFrame r) w)) (calls.notRefused (loopFrame r) w) w
+    or-refused (λ (d : Did). (taken (d .said) && (isData r && sameApart r g)) ≡ true → Clear e (d .world .state)) (firstRefusal (checks (on (loopFrame r)) w)) (calls.notRefused (on (loopFrame r)) w) w
     (λ q. absurd (false≢true q))
     (λ _ q. by-cond (Clear e) (deviceClear (w .state) r) _ _ (λ _. come q) (λ _. come q))
   where
@@ -318,10 +315,10 @@ no-head : (g : ℕ) (t : Bool) → _≡_ {A = List ℕ} (cond t [] []) (g ∷ []
 no-head g true q = let z : _≡_ {A = List ℕ} [] (g ∷ []) = q in false≢true (ap any z)
 no-head g false q = let z : _≡_ {A = List ℕ} [] (g ∷ []) = q in false≢true (ap any z)
 
-sent-way : (e : Event) (f g : ℕ) (w : World) → statusSent (loopFrame f) w (answer (loopFrame f) w) ≡ g ∷ [] → Way e g (after (loopFrame f) w .state)
+sent-way : (e : Event) (f g : ℕ) (w : World) → statusSent (on (loopFrame f)) w (answer (on (loopFrame f)) w) ≡ g ∷ [] → Way e g (after (on (loopFrame f)) w .state)
 unfolding statusSent step calls.notRefused outcome settledBy
 sent-way e f g w =
-    or-refused (λ (d : Did). cond (asksStatus (w .state) f) (dataFrame (d .said)) [] ≡ g ∷ [] → Way e g (d .world .state)) (firstRefusal (checks (loopFrame f) w)) (calls.notRefused (loopFrame f) w) w
+    or-refused (λ (d : Did). cond (asksStatus (w .state) f) (dataFrame (d .said)) [] ≡ g ∷ [] → Way e g (d .world .state)) (firstRefusal (checks (on (loopFrame f)) w)) (calls.notRefused (on (loopFrame f)) w) w
     (λ q. absurd (no-head g (asksStatus (w .state) f) q))
     (λ x q. settled-way e g (w .state) (deviceClear (w .state) f) _ (asked (asksStatus (w .state) f) refl (kind-of f w (frame-fits f w x)) q))
   where
@@ -332,8 +329,28 @@ sent-way e f g w =
         subst (λ (o : Outcome). Way e g (o .state)) (sym k) (status-way e g (w .state) (ap (λ (o : Outcome). dataFrame (said (o .answer))) (sym k) ∙ q))
     asked false a x q = absurd (no-head g true q)
 
-pub events-clear : EventsClear
-unfolding bitOf
-events-clear e f g w q cs h n r b =
-    event-shown e (after (loopFrame r) (end cs (after (loopFrame f) w)) .state)
-    ∙ back e g (end cs (after (loopFrame f) w)) r (run-on e g cs (after (loopFrame f) w) (sent-way e f g w q) h n) b
+clear : (e : Event) (g f : ℕ) (w : World) → statusSent (on (loopFrame f)) w (answer (on (loopFrame f)) w) ≡ g ∷ [] → (cs : List Call) →
+    Without (happens e) cs (after (on (loopFrame f)) w) → Without (λ c w a. endsWay c a) cs (after (on (loopFrame f)) w) → (d : Call) →
+    statusBack (g ∷ []) d (answer d (end cs (after (on (loopFrame f)) w))) ≡ true → bitOf e (after d (end cs (after (on (loopFrame f)) w))) ≡ false
+unfolding statusBack
+clear e g f w q cs h n =
+    frame-or (λ d. statusBack (g ∷ []) d (answer d v) ≡ true → bitOf e (after d v) ≡ false)
+    (λ r b. back e g v r (run-on e g cs (after (on (loopFrame f)) w) (sent-way e f g w q) h n) b)
+    (λ d x b. absurd (false≢true (sym (off-frame _ false d x) ∙ b)))
+  where
+    v : World
+    v = end cs (after (on (loopFrame f)) w)
+
+pub events-clear : (e : Event) → Obeys ours (Clears e)
+unfolding statusSent
+events-clear e c cs d w B j k =
+    at-left
+    (λ v. (g : ℕ) → statusSent c w (answer c w) ≡ g ∷ [] → Without (happens e) cs (after c w) → Without (λ c w a. endsWay c a) cs (after c w) →
+    statusBack (g ∷ []) d (answer d v) ≡ true → bitOf e (after d v) ≡ false)
+    cs (after c w)
+    (frame-or
+    (λ c. (g : ℕ) → statusSent c w (answer c w) ≡ g ∷ [] → Without (happens e) cs (after c w) → Without (λ c w a. endsWay c a) cs (after c w) →
+    statusBack (g ∷ []) d (answer d (end cs (after c w))) ≡ true → bitOf e (after d (end cs (after c w))) ≡ false)
+    (λ f g q h n. clear e g f w q cs h n d)
+    (λ c x g q. absurd (no-head g true (sym (off-frame _ [] c x) ∙ q)))
+    c)

@@ -1,29 +1,30 @@
 -- "three counts since create or reset, kept in 32 bits and starting again at 0 after 4,294,967,295". Assumes nothing.
 use Prim.Native.Nat.{ℕ, _+_, _^_, _<_}
 use native.Mathlib.Omega.{arith}
-use mathlib.Core.Path.{_≡_, refl, sym, ap, subst, _∙_}
+use mathlib.Core.Path.{_≡_, refl, sym, ap, _∙_}
 use mathlib.Core.Bool.{true, false, false≢true}
 use mathlib.Core.List.{List, [], _∷_, _++_}
 use lib.ListN.{length, length-append}
-use Rattle.store.specs.Ring.{held}
-use Rattle.store.proofs.Laws.{held-empty}
 use Rattle.sending.specs.Sending.{sendHeld}
 use Rattle.state.specs.declared.Counts.{Counts}
 use Rattle.state.specs.Sizes.{startState}
 use Rattle.line.specs.HoldingOff.{storedWith}
 use Rattle.loops.specs.Sending.{ruleOf}
 use Rattle.bridge.specs.Calls.{Call, World}
-use Rattle.laws.specs.Fitting.{AllBytes}
-use Rattle.runs.specs.Observers.{accepted, lost, sent}
-use Rattle.runs.specs.Run.{answer, after, end, all, startsAnew}
-use Rattle.runs.specs.Worlds.{heldToSend}
-use Rattle.runs.specs.Counts.{wrapped, Small, CountsGo, CountsSince}
+use Rattle.store.specs.Bytes.{Bytes}
+use Rattle.laws.specs.Observers.{accepted, lost, sent, startsAnew}
+use Rattle.laws.specs.Worlds.{heldToSend}
+use Rattle.laws.specs.Counts.{wrapped, Small, CountsGo, CountsSince}
 use Rattle.runs.proofs.Shapes.{Seen, seen, Heart, heart, Shape, isStill, isBegun, isWritten, isCleared, isStored, isLost, isSent, isNone, isLeft, isHanded}
 use Rattle.runs.proofs.View.{view}
-use Rattle.runs.proofs.Bytes.{bytes-first, sent-plain}
+use Rattle.runs.proofs.Bytes.{sent-plain, held-all}
 use Rattle.runs.proofs.Sends.{seen-plain}
 use Rattle.runs.proofs.Runs.{first-not}
-use Rattle.runs.proofs.FramesRead.{bytes-after}
+use Rattle.runs.proofs.Steps.{answer, after, end, all, ours}
+use Rattle.machine.specs.Machine as machine
+use Rattle.machine.specs.Course as course
+use Rattle.machine.specs.Machine.{Obeys}
+use Rattle.laws.proofs.Fitting.{keeps-bytes}
 
 -- the counts after a call of which this was seen
 record Stepped (x : Seen) (n k : Counts) : Type 0 where
@@ -43,7 +44,7 @@ module _ (w : World) (S : Small w) where
         sent = none-more _ (S .sent) ∙ ap (λ k. wrapped (w .state .counts .sent + length k)) (sym s);
       }
 
-  stepped : (x : Seen) (h : Heart) (rx tx : List ℕ) → Shape w x h rx tx → x .startsAnew ≡ false → AllBytes (heldToSend w) → Stepped x (w .state .counts) (h .counts)
+  stepped : (x : Seen) (h : Heart) (rx tx : List ℕ) → Shape w x h rx tx → x .startsAnew ≡ false → Bytes (heldToSend w) → Stepped x (w .state .counts) (h .counts)
   unfolding storedWith sendHeld
   stepped x h rx tx isStill n B = same x refl refl refl
   stepped x h rx tx (isBegun m) n B = absurd (false≢true (sym n))
@@ -61,7 +62,7 @@ module _ (w : World) (S : Small w) where
   stepped x h rx tx (isLeft l F e) n B = same x refl refl refl
   stepped x h rx tx (isHanded F e) n B = same x refl refl refl
 
-step-counts : (c : Call) (w : World) → startsAnew c w (answer c w) ≡ false → AllBytes (heldToSend w) → Small w → Stepped (seen c w (answer c w)) (w .state .counts) (after c w .state .counts)
+step-counts : (c : Call) (w : World) → startsAnew c w (answer c w) ≡ false → Bytes (heldToSend w) → Small w → Stepped (seen c w (answer c w)) (w .state .counts) (after c w .state .counts)
 step-counts c w n B S = stepped w S (seen c w (answer c w)) (heart (after c w .state)) (after c w .rx) (after c w .tx) (view c w) n B
 
 -- one call, and then the rest
@@ -71,14 +72,14 @@ small-wrapped n k e = omega arith
 chained : (n k j : ℕ) (a b : List ℕ) → k ≡ wrapped (n + length a) → j ≡ wrapped (k + length b) → j ≡ wrapped (n + length (a ++ b))
 chained n k j a b e f = rw (length-append a b) (omega arith)
 
-pub counts-go : CountsGo
-unfolding end all
-counts-go [] w n B S = record { stored = none-more _ (S .stored); lost = none-more _ (S .lost); sent = none-more _ (S .sent) }
-counts-go (c ∷ cs) w n B S =
+pub counts-go : Obeys ours CountsGo
+unfolding course.end course.all machine.course
+counts-go [] w B k n S = record { stored = none-more _ (S .stored); lost = none-more _ (S .lost); sent = none-more _ (S .sent) }
+counts-go (c ∷ cs) w B k n S =
     let m = first-not startsAnew c cs w n in
-    let t = step-counts c w (m .0) (bytes-first (heldToSend w) _ B) S in
+    let t = step-counts c w (m .0) (held-all w B) S in
     let r =
-    counts-go cs (after c w) (m .1) (bytes-after c w (all accepted cs (after c w)) B)
+    counts-go cs (after c w) (keeps-bytes c w (k .0) B) (k .1) (m .1)
     (record { stored = small-wrapped _ _ (t .stored); lost = small-wrapped _ _ (t .lost); sent = small-wrapped _ _ (t .sent) }) in
     record {
       stored = chained _ _ _ (accepted c w (answer c w)) (all accepted cs (after c w)) (t .stored) (r .stored);
@@ -88,16 +89,15 @@ counts-go (c ∷ cs) w n B S =
 
 -- ---- from a create or reset
 
-record Zero (h : Heart) (rx : List ℕ) : Type 0 where
+record Zero (h : Heart) : Type 0 where
   stored : h .counts .stored ≡ 0
   lost : h .counts .lost ≡ 0
   sent : h .counts .sent ≡ 0
-  empty : held rx (h .rx) ≡ []
 
-begun-zero : (w : World) (x : Seen) (h : Heart) (rx tx : List ℕ) → Shape w x h rx tx → x .startsAnew ≡ true → Zero h rx
+begun-zero : (w : World) (x : Seen) (h : Heart) (rx tx : List ℕ) → Shape w x h rx tx → x .startsAnew ≡ true → Zero h
 unfolding startState
 begun-zero w x h rx tx isStill n = absurd (false≢true n)
-begun-zero w x h rx tx (isBegun m) n = record { stored = refl; lost = refl; sent = refl; empty = held-empty (w .rx) }
+begun-zero w x h rx tx (isBegun m) n = record { stored = refl; lost = refl; sent = refl }
 begun-zero w x h rx tx (isWritten g t) n = absurd (false≢true n)
 begun-zero w x h rx tx isCleared n = absurd (false≢true n)
 begun-zero w x h rx tx (isStored b F l) n = absurd (false≢true n)
@@ -107,11 +107,11 @@ begun-zero w x h rx tx (isNone r F e) n = absurd (false≢true n)
 begun-zero w x h rx tx (isLeft l F e) n = absurd (false≢true n)
 begun-zero w x h rx tx (isHanded F e) n = absurd (false≢true n)
 
-pub counts-since : CountsSince
-counts-since c w b cs n B =
+pub counts-since : Obeys ours CountsSince
+counts-since c cs w B j q b n =
     let z = begun-zero w (seen c w (answer c w)) (heart (after c w .state)) (after c w .rx) (after c w .tx) (view c w) b in
     let r =
-    counts-go cs (after c w) n (subst (λ l. AllBytes (l ++ all accepted cs (after c w))) (sym (z .empty)) B)
+    counts-go cs (after c w) (keeps-bytes c w j B) q n
     (record { stored = omega (arith, z .stored); lost = omega (arith, z .lost); sent = omega (arith, z .sent) }) in
     record {
       stored = r .stored ∙ ap (λ (k : ℕ). wrapped (k + length (all accepted cs (after c w)))) (z .stored) ∙ ap wrapped (omega arith);

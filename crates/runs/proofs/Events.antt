@@ -13,16 +13,19 @@ use Rattle.state.specs.declared.State.{State}
 use Rattle.state.specs.Answers.{Said, said, refused}
 use Rattle.state.specs.Status.{settled, breakState, keyState}
 use Rattle.line.specs.HoldingOff.{isGoOrStop, flowed, lostState, storedState, lineState}
-use Rattle.bridge.specs.Calls.{Call, create, reset, write, lineByte, lineBreak, key, nextLineByte, loopFrame, show, World, Did, outcome, settledBy, refusedOr, step}
+use Rattle.bridge.specs.Calls.{Call, on, create, reset, write, lineByte, lineBreak, key, nextLineByte, loopFrame, show, World, Did, outcome, settledBy, refusedOr, step}
 use Rattle.bridge.specs.Calls as calls
-use Rattle.runs.specs.Observers.{arrived, lost}
-use Rattle.runs.specs.Run.{answer, after, end, Without, empties}
-use Rattle.runs.specs.StatusWay.{endsWay, newest, underWay, statusBack, comesBack}
-use Rattle.runs.specs.Events.{Event, broken, overrun, pressed, bitOf, any, happens, EventsStay}
-use Rattle.runs.specs.Demands.{OverrunStays}
-use Rattle.runs.proofs.StatusView.{Part, part, noted, Kind, goesOn, idles, sends, returns, begins, kind}
-use Rattle.runs.proofs.Bits.{event-shown}
+use Rattle.laws.specs.Observers.{isFlow, arrived, lost, empties, any}
+use Rattle.laws.specs.StatusWay.{endsWay, newest, underWay, statusBack}
+use Rattle.laws.specs.Events.{Event, broken, overrun, pressed, bitOf, happens, Stays, noted}
+use Rattle.laws.specs.Demands.{OverrunStays}
+use Rattle.runs.proofs.StatusView.{Part, part, Kind, goesOn, idles, sends, returns, begins, kind}
 use Rattle.runs.proofs.Runs.{first-not}
+use Rattle.runs.proofs.Steps.{answer, after, end, Without, comesBack, ours}
+use Rattle.laws.specs.StatusWay as way
+use Rattle.machine.specs.Machine as machine
+use Rattle.machine.specs.Course as course
+use Rattle.machine.specs.Machine.{Obeys}
 
 module _ (e : Event) where
   -- it is noted; and a status byte under way since it happened is the one that was sent
@@ -82,36 +85,36 @@ line-lost s b false true h = (refl, refl)
 line-lost s b false false h = absurd (false≢true h)
 
 happened : (e : Event) (c : Call) (w : World) → happens e c w (answer c w) ≡ true → Noted e (part (after c w .state))
-unfolding step calls.notRefused outcome settledBy settled said arrived lost lineState breakState keyState
+unfolding step calls.notRefused outcome settledBy settled said arrived isFlow isGoOrStop lost lineState breakState keyState
 happened broken (create m) w h = absurd (false≢true h)
-happened broken reset w h = absurd (false≢true h)
-happened broken (write n v) w h = absurd (false≢true h)
-happened broken (lineByte b) w h = absurd (false≢true h)
-happened broken lineBreak w h = unless-refused broken lineBreak w _ _ false≢true (λ _. (refl, refl)) h
-happened broken key w h = absurd (false≢true h)
-happened broken nextLineByte w h = absurd (false≢true h)
-happened broken (loopFrame f) w h = absurd (false≢true h)
+happened broken (on reset) w h = absurd (false≢true h)
+happened broken (on (write n v)) w h = absurd (false≢true h)
+happened broken (on (lineByte b)) w h = absurd (false≢true h)
+happened broken (on lineBreak) w h = unless-refused broken (on lineBreak) w _ _ false≢true (λ _. (refl, refl)) h
+happened broken (on key) w h = absurd (false≢true h)
+happened broken (on nextLineByte) w h = absurd (false≢true h)
+happened broken (on (loopFrame f)) w h = absurd (false≢true h)
 happened broken (show side) w h = absurd (false≢true h)
 happened overrun (create m) w h = absurd (none-lost (full (w .state .sizes .rx) (w .state .rx)) h)
-happened overrun reset w h = absurd (none-lost (full (w .state .sizes .rx) (w .state .rx)) h)
-happened overrun (write n v) w h = absurd (none-lost (full (w .state .sizes .rx) (w .state .rx)) h)
-happened overrun (lineByte b) w h =
-    unless-refused overrun (lineByte b) w _ _ (none-lost (full (w .state .sizes .rx) (w .state .rx)))
+happened overrun (on reset) w h = absurd (none-lost (full (w .state .sizes .rx) (w .state .rx)) h)
+happened overrun (on (write n v)) w h = absurd (none-lost (full (w .state .sizes .rx) (w .state .rx)) h)
+happened overrun (on (lineByte b)) w h =
+    unless-refused overrun (on (lineByte b)) w _ _ (none-lost (full (w .state .sizes .rx) (w .state .rx)))
     (line-lost (w .state) b (isGoOrStop (w .state .regs) b) (full (w .state .sizes .rx) (w .state .rx)))
     h
-happened overrun lineBreak w h = absurd (none-lost (full (w .state .sizes .rx) (w .state .rx)) h)
-happened overrun key w h = absurd (none-lost (full (w .state .sizes .rx) (w .state .rx)) h)
-happened overrun nextLineByte w h = absurd (none-lost (full (w .state .sizes .rx) (w .state .rx)) h)
-happened overrun (loopFrame f) w h = absurd (none-lost (full (w .state .sizes .rx) (w .state .rx)) h)
+happened overrun (on lineBreak) w h = absurd (none-lost (full (w .state .sizes .rx) (w .state .rx)) h)
+happened overrun (on key) w h = absurd (none-lost (full (w .state .sizes .rx) (w .state .rx)) h)
+happened overrun (on nextLineByte) w h = absurd (none-lost (full (w .state .sizes .rx) (w .state .rx)) h)
+happened overrun (on (loopFrame f)) w h = absurd (none-lost (full (w .state .sizes .rx) (w .state .rx)) h)
 happened overrun (show side) w h = absurd (none-lost (full (w .state .sizes .rx) (w .state .rx)) h)
 happened pressed (create m) w h = absurd (false≢true h)
-happened pressed reset w h = absurd (false≢true h)
-happened pressed (write n v) w h = absurd (false≢true h)
-happened pressed (lineByte b) w h = absurd (false≢true h)
-happened pressed lineBreak w h = absurd (false≢true h)
-happened pressed key w h = unless-refused pressed key w _ _ false≢true (λ _. (refl, refl)) h
-happened pressed nextLineByte w h = absurd (false≢true h)
-happened pressed (loopFrame f) w h = absurd (false≢true h)
+happened pressed (on reset) w h = absurd (false≢true h)
+happened pressed (on (write n v)) w h = absurd (false≢true h)
+happened pressed (on (lineByte b)) w h = absurd (false≢true h)
+happened pressed (on lineBreak) w h = absurd (false≢true h)
+happened pressed (on key) w h = unless-refused pressed (on key) w _ _ false≢true (λ _. (refl, refl)) h
+happened pressed (on nextLineByte) w h = absurd (false≢true h)
+happened pressed (on (loopFrame f)) w h = absurd (false≢true h)
 happened pressed (show side) w h = absurd (false≢true h)
 
 -- ---- runs
@@ -119,7 +122,7 @@ happened pressed (show side) w h = absurd (false≢true h)
 module _ (e : Event) where
   until : (cs : List Call) (w : World) (l : List ℕ) → Without empties cs w → Told e (part (w .state)) l →
       (noted e (end cs w .state .notes .seen) ≡ true) ⊎ (comesBack l cs w ≡ true)
-  unfolding end comesBack
+  unfolding course.end way.comesBack machine.course
   until [] w l n t = inl (t .note)
   until (c ∷ cs) w l n t =
       go (until cs (after c w) (underWay l c w (answer c w)) (m .1)) (statusBack l c (answer c w))
@@ -135,13 +138,12 @@ module _ (e : Event) where
       go ih true k = inr refl
       go ih false k = ih (k refl)
 
-pub events-stay : EventsStay
-unfolding bitOf
-events-stay e c w h cs n =
+pub events-stay : (e : Event) → Obeys ours (Stays e)
+events-stay e c cs w B j k h n =
     let x : Noted e (part (after c w .state)) = happened e c w h in
-    ⊎-elim (λ q. inl (event-shown e (end cs (after c w) .state) ∙ q)) inr
+    ⊎-elim inl inr
     (until e cs (after c w) [] n (record { note = x .0; way = λ q _. absurd (false≢true (sym q ∙ x .1)) }))
 
 -- (3b)
-pub overrun-stays : OverrunStays
+pub overrun-stays : Obeys ours OverrunStays
 overrun-stays = events-stay overrun

@@ -2,12 +2,12 @@
 use Prim.Native.Nat.{ℕ, _+_, _-_, _%_, _<_}
 use native.Mathlib.Omega.{arith}
 use mathlib.Core.Path.{_≡_, refl, sym, _∙_}
-use mathlib.Core.Bool.{Bool, true, false, _&&_, _||_, not, false≢true}
+use mathlib.Core.Bool.{Bool, true, false, _&&_, _||_, not, and-false, false≢true}
 use mathlib.Core.List.{List, []}
 use lib.Dec.{eqb, ltb}
 use lib.ListN.{length}
 use borrow.Author.Tests.{eqb-true, eqb-false, eq-eqb, ne-eqb, leb-true, ltb-true, le-ltb}
-use Rattle.cases.proofs.Cases.{by-cond, and-left, cond-false}
+use Rattle.cases.proofs.Cases.{by-cond, and-left, and-right, cond-false}
 use Rattle.frame.specs.Frame.{controlOf, dataOf, made, isData, sameApart}
 use Rattle.role.specs.declared.Role.{Role}
 use Rattle.role.specs.declared.Ready.{Ready}
@@ -27,11 +27,10 @@ use Rattle.state.proofs.Fits.{tests}
 use Rattle.line.specs.HoldingOff.{resumed}
 use Rattle.loops.specs.LoopToLine.{leftState}
 use Rattle.loops.specs.Sending.{ruleOf, removedState, sendState, sendFrom, sendStatus, talking, ended}
-use Rattle.loops.specs.Frames.{passed, isClear, orderIn, obeyed, cleared, commandState, command, finishing, readied, ready, returned, dataPassed, identify, frameTaken}
+use Rattle.loops.specs.Frames.{passed, isClear, orderIn, obeyed, cleared, commandState, command, finishing, readied, ready, returned, dataPassed, identify, frameTaken, deviceClear}
 use Rattle.bridge.specs.Calls.{World}
-use Rattle.laws.specs.CallPlaces.{isDeviceClear}
-use Rattle.laws.proofs.FramePlaces.{clear-order}
-use Rattle.runs.specs.Observers.{dataFrame, equalReturn, isSend, asksStatus, passesOn}
+use Rattle.loops.proofs.Clears.{clear-order}
+use Rattle.laws.specs.Observers.{isAsked, dataFrame, equalReturn, isSend, asksStatus, passesOn}
 use Rattle.runs.proofs.Shapes.{Fits, heart}
 use Rattle.runs.proofs.Answered.{serviced-kind}
 
@@ -40,7 +39,7 @@ pub record Marks (s : State) (f : ℕ) (x y p c l : Bool) : Type 0 where
   pub send : isSend s f ≡ x
   pub status : asksStatus s f ≡ y
   pub passes : passesOn s f ≡ p
-  pub clear : isDeviceClear s f ≡ c
+  pub clear : deviceClear s f ≡ c
   pub adds : (isData f && s .role .listener) ≡ l
 
 -- the state t, where x is answered: the stores, the line and the notes stay; x is a data frame only where one passes, p; what is under way
@@ -101,7 +100,7 @@ module _ (s : State) (rx : List ℕ) (f : ℕ) where
           go false e = refl
 
       return-marks : (m p e : Bool) → sameApart f (s .under .frame) ≡ m → eqb (s .role .talker) 2 ≡ p → s .under .finishing ≡ e → Marks s f (m && (p && not e)) false false false false
-      unfolding isSend equalReturn asksStatus passesOn isDeviceClear
+      unfolding isSend equalReturn asksStatus passesOn deviceClear
       return-marks m p e hm hp he =
           record { send = simp (no-5, D, A, hm, hp, he); status = simp no-5; passes = simp (D, A, no-id); clear = simp no-4; adds = simp (D, no-listener) }
 
@@ -131,13 +130,13 @@ module _ (s : State) (rx : List ℕ) (f : ℕ) where
         (λ l. isOther s (serviced s f) true (marks false l) (record { heart = refl; line = refl; notes = refl; answer = λ e. absurd (false≢true (sym e)); way = no-way }))
       where
         marks : (l : Bool) → s .role .listener ≡ l → Marks s f false false true false l
-        marks l e = unfold isSend equalReturn asksStatus passesOn isDeviceClear in record { send = simp (no-5, D, A); status = simp no-5; passes = simp (D, A); clear = simp no-4; adds = simp (D, e) }
+        marks l e = unfold isSend equalReturn asksStatus passesOn deviceClear in record { send = simp (no-5, D, A); status = simp no-5; passes = simp (D, A); clear = simp no-4; adds = simp (D, e) }
 
   -- ---- other frames
 
   module _ (D : isData f ≡ false) where
     other-marks : (r x y i c : Bool) → eqb (controlOf f) 5 ≡ r → (eqb (dataOf f) 96 && eqb (s .role .talker) 1) ≡ x → (eqb (dataOf f) 97 && eqb (s .role .talker) 1) ≡ y → ltb 5 (controlOf f) ≡ i →
-        isDeviceClear s f ≡ c → Marks s f (r && x) (r && y) i c false
+        deviceClear s f ≡ c → Marks s f (r && x) (r && y) i c false
     unfolding isSend equalReturn asksStatus passesOn
     other-marks r x y i c hr hx hy hi hc =
         record { send = simp (hr, D, hx) (no-more (r && x)); status = simp (hr, hy); passes = simp (D, hi); clear = hc; adds = simp D }
@@ -157,11 +156,11 @@ module _ (s : State) (rx : List ℕ) (f : ℕ) where
         marks : (c : Bool) → isClear (orderIn s f) ≡ c → Marks s f false false false c false
         marks c e =
             other-marks false _ _ false c (ne-eqb (controlOf f) 5 (λ h. omega (arith, eqb-true (controlOf f) 4 C))) refl refl (le-ltb 5 (controlOf f) (omega (arith, eqb-true (controlOf f) 4 C)))
-            (unfold isDeviceClear in (λ i. C i && sym (clear-order (s .role) (dataOf f)) i) ∙ e)
+            (unfold deviceClear in (λ i. C i && sym (clear-order (s .role) (dataOf f)) i) ∙ e)
 
     module _ (C : eqb (controlOf f) 4 ≡ false) where
-      no-clear : isDeviceClear s f ≡ false
-      unfolding isDeviceClear
+      no-clear : deviceClear s f ≡ false
+      unfolding deviceClear
       no-clear = simp C
 
       ready-kind : eqb (controlOf f) 5 ≡ true → K (ready s rx f)
@@ -204,6 +203,28 @@ module _ (s : State) (rx : List ℕ) (f : ℕ) where
       (λ D. by-cond K (eqb (controlOf f) 4) _ _ (command-kind D)
       (λ C. by-cond K (eqb (controlOf f) 5) _ _ (ready-kind D C) (identify-kind D C)))
 
+-- a send passes nothing on and is no asking for status
+pub send-alone : (s : State) (f : ℕ) → isSend s f ≡ true → (passesOn s f || asksStatus s f) ≡ false
+unfolding isSend equalReturn asksStatus passesOn
+send-alone s f e = go (isAsked 96 s f) refl
+  where
+    asked : eqb (controlOf f) 5 ≡ true → eqb (dataOf f) 96 ≡ true → (passesOn s f || asksStatus s f) ≡ false
+    asked c d =
+        (λ i. ((le-ltb (controlOf f) 4 (omega (arith, eqb-true (controlOf f) 5 c)) i && not (isActive (s .role))) || le-ltb 5 (controlOf f) (omega (arith, eqb-true (controlOf f) 5 c)) i)
+        || (eqb (controlOf f) 5 && (ne-eqb (dataOf f) 97 (λ h. omega (arith, eqb-true (dataOf f) 96 d)) i && eqb (s .role .talker) 1)))
+        ∙ and-false (eqb (controlOf f) 5)
+
+    back : isData f ≡ true → isActive (s .role) ≡ true → (passesOn s f || asksStatus s f) ≡ false
+    back D A =
+        λ i. ((D i && not (A i)) || le-ltb 5 (controlOf f) (omega (arith, ltb-true (controlOf f) 4 D)) i)
+        || (ne-eqb (controlOf f) 5 (λ h. omega (arith, ltb-true (controlOf f) 4 D)) i && (eqb (dataOf f) 97 && eqb (s .role .talker) 1))
+
+    go : (t : Bool) → isAsked 96 s f ≡ t → (passesOn s f || asksStatus s f) ≡ false
+    go true h = asked (and-left _ _ h) (and-left _ _ (and-right (eqb (controlOf f) 5) _ h))
+    go false h =
+        let q : (isData f && isActive (s .role)) ≡ true = and-left _ _ (and-left _ _ (sym (λ i. h i || (((isData f && isActive (s .role)) && sameApart f (s .under .frame)) && (eqb (s .role .talker) 2 && not (s .under .finishing)))) ∙ e)) in
+        back (and-left _ _ q) (and-right (isData f) _ q)
+
 pub role-fits : (w : World) → Fits w → role-fit.Fit (w .state .role)
 role-fits w F = role-laws.fit-true (w .state .role) (tests (w .state) (length (w .rx)) (length (w .tx)) F .role)
 
@@ -229,7 +250,7 @@ module _ (s : State) (rx : List ℕ) (f : ℕ) where
   sends-status o (isKept m d l) e = absurd (false≢true (sym (m .status) ∙ e))
   sends-status o (isOther t n p m x) e = absurd (false≢true (sym (m .status) ∙ e))
 
-  pub clears-all : (o : Outcome) → Kind s rx f o → isDeviceClear s f ≡ true → o ≡ passed (cleared (obeyed s (orderIn s f))) f
+  pub clears-all : (o : Outcome) → Kind s rx f o → deviceClear s f ≡ true → o ≡ passed (cleared (obeyed s (orderIn s f))) f
   clears-all o (isSent m) e = absurd (false≢true (sym (m .clear) ∙ e))
   clears-all o (isStatus m) e = absurd (false≢true (sym (m .clear) ∙ e))
   clears-all o (isBack m d) e = absurd (false≢true (sym (m .clear) ∙ e))

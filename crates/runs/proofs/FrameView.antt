@@ -2,18 +2,19 @@
 use Prim.Native.Nat.{ℕ, _+_, _-_, _≤_}
 use native.Mathlib.Omega.{arith}
 use mathlib.Core.Path.{_≡_, refl, sym, subst, _∙_}
-use mathlib.Core.Bool.{Bool, true, false, cond, _&&_, not}
+use mathlib.Core.Bool.{Bool, true, false, cond, _&&_, _||_, not, and-false}
 use mathlib.Core.List.{List, []}
 use lib.Dec.{ltb}
 use lib.ListN.{length}
-use borrow.Author.Tests.{ltb-false, lt-leb}
-use Rattle.frame.specs.Frame.{made, isData}
+use borrow.Author.Tests.{eqb-true, ltb-false, le-ltb, lt-leb}
+use Rattle.frame.specs.Frame.{controlOf, made, isData}
 use Rattle.registers.specs.Meanings.{go}
 use Rattle.role.specs.Parts.{isActive}
 use Rattle.role.specs.Fit as role-fit
 use Rattle.role.proofs.FitLaws as role-laws
 use Rattle.reading.specs.Reading.{Sent, none, one}
 use Rattle.sending.specs.Sending.{givenOf, sendHeld}
+use Rattle.state.specs.declared.State.{State}
 use Rattle.state.specs.declared.Outcome.{Outcome}
 use Rattle.state.specs.declared.Answer.the-variants.{Frame}
 use Rattle.state.specs.Answers.{said}
@@ -24,31 +25,31 @@ use Rattle.line.specs.HoldingOff.{resumed}
 use Rattle.loops.specs.LoopToLine.{adds, busy, leftState, leftBytes}
 use Rattle.loops.specs.Sending.{ruleOf, removedState, sendState, sendFrom, sendStatus, talking, ended}
 use Rattle.loops.specs.Frames.{obeyed, cleared, frameTaken, deviceClear, addsBytes, frameBytes}
-use Rattle.bridge.specs.Calls.{loopFrame, World, outcome, settledBy, rxAfter, txAfter}
+use Rattle.bridge.specs.Calls.{on, loopFrame, World, outcome, settledBy, rxAfter, txAfter}
 use Rattle.bridge.specs.Calls as calls
-use Rattle.runs.specs.Observers.{dataFrame, arrived, sent, left, handedOut, restarts, writes, clears}
+use Rattle.laws.specs.Observers.{dataFrame, arrived, sent, added, handedOut, restarts, writes, clears}
 use Rattle.runs.proofs.Shapes.{seen, Heart, heart, frames, Fits, Shape, isStill, isCleared, isSent, isNone, isLeft}
 use Rattle.runs.proofs.Quiet.{Shaped, quietly}
-use Rattle.runs.proofs.FrameKinds.{Marks, Kind, role-fits, kind-of}
+use Rattle.runs.proofs.FrameKinds.{Marks, Kind, no-data, role-fits, kind-of}
 use Rattle.runs.proofs.FrameKinds as kinds
 
 -- an outcome of a frame has a shape, with these bytes of the transmit store
 abbrev FrameShaped : (w : World) → ℕ → List ℕ → Outcome → Type 0
-FrameShaped w f tx o = Shape w (seen (loopFrame f) w (said (o .answer))) (heart (o .state)) (w .rx) tx
-
-no-and : (t : Bool) → (t && false) ≡ false
-no-and true = refl
-no-and false = refl
+FrameShaped w f tx o = Shape w (seen (on (loopFrame f)) w (said (o .answer))) (heart (o .state)) (w .rx) tx
 
 module _ (w : World) (f : ℕ) where
-  marked : (n : ℕ) (x y p c l : Bool) (h : Heart) (tx : List ℕ) → Marks (w .state) f x y p c l →
+  -- what is seen to be sent, by the marks
+  abbrev SentSo : ℕ → Bool → Bool → Bool → Type 0
+  SentSo n x y p = cond (p || y) [] (dataFrame (said (Frame n))) ≡ cond x (dataFrame (said (Frame n))) []
+
+  marked : (n : ℕ) (x y p c l : Bool) (h : Heart) (tx : List ℕ) → Marks (w .state) f x y p c l → SentSo n x y p →
       Shape w (frames (cond x (dataFrame (said (Frame n))) []) (cond l (adds (w .state .regs) f) []) c) h (w .rx) tx →
-      Shape w (seen (loopFrame f) w (said (Frame n))) h (w .rx) tx
-  unfolding arrived sent left handedOut restarts writes clears said
-  marked n x y p c l h tx m sh =
-      quietly (loopFrame f) w (said (Frame n)) h (w .rx) tx refl
+      Shape w (seen (on (loopFrame f)) w (said (Frame n))) h (w .rx) tx
+  unfolding arrived sent added adds handedOut restarts writes clears said
+  marked n x y p c l h tx m q sh =
+      quietly (on (loopFrame f)) w (said (Frame n)) h (w .rx) tx refl
       (subst (λ z. Shape w z h (w .rx) tx)
-      (λ i. frames (cond (sym (m .send) i) (dataFrame (said (Frame n))) []) (cond (sym (m .adds) i) (adds (w .state .regs) f) []) (sym (m .clear) i))
+      (λ i. frames ((sym q ∙ (λ j. cond (sym (m .passes) j || sym (m .status) j) [] (dataFrame (said (Frame n))))) i) (cond (sym (m .adds) i) (adds (w .state .regs) f) []) (sym (m .clear) i))
       sh)
 
   -- a send
@@ -57,8 +58,8 @@ module _ (w : World) (f : ℕ) where
   send-shape F m = go (sendHeld (ruleOf (w .state .regs)) (w .rx) (w .state .rx)) refl
     where
       go : (x : Sent ℕ ℕ) → sendHeld (ruleOf (w .state .regs)) (w .rx) (w .state .rx) ≡ x → FrameShaped w f (w .tx) (sendState (w .state) (removedState (w .state) (w .rx)) (givenOf x))
-      go (none r) e = marked (made 5 64) _ _ _ _ _ _ (w .tx) m (isNone r F e)
-      go (one g r) e = marked (status.serviced (w .state) g) _ _ _ _ _ _ (w .tx) m (isSent g r F e)
+      go (none r) e = marked (made 5 64) _ _ _ _ _ _ (w .tx) m refl (isNone r F e)
+      go (one g r) e = marked (status.serviced (w .state) g) _ _ _ _ _ _ (w .tx) m refl (isSent g r F e)
 
 -- ---- every frame
 
@@ -80,24 +81,29 @@ module _ (w : World) (F : Fits w) (f : ℕ) (B : busy (w .state) f ≡ false) wh
 
       go : (d l : Bool) → w .state .role .listener ≡ l → ((d && not (isActive (w .state .role))) && l) ≡ (d && l)
       go true true e = λ i. not (idle e i) && true
-      go true false e = λ i. no-and (not (isActive (w .state .role))) i
+      go true false e = and-false (not (isActive (w .state .role)))
       go false l e = refl
 
+  -- a frame that passes is not sent, and no other is a data frame
+  other-sent : (t : State) (n : ℕ) (p : Bool) → kinds.Other (w .state) f p t n → SentSo w f n false false p
+  other-sent t n true x = refl
+  other-sent t n false x = no-data n (x .answer refl)
+
   by-kind : (o : Outcome) → Kind (w .state) (w .rx) f o → FrameShaped w f (cond (isData f && w .state .role .listener) (leftBytes (w .state) (w .tx) f) (w .tx)) o
-  unfolding sendStatus ended talking cleared obeyed leftState leftBytes status.statusSent status.statusBack
+  unfolding sendStatus ended talking cleared obeyed leftState leftBytes status.statusSent status.statusBack said
   by-kind o (kinds.isSent m) = rw (m .adds) (send-shape w f F m)
-  by-kind o (kinds.isStatus m) = rw (m .adds) (marked w f _ _ _ _ _ _ _ _ m isStill)
-  by-kind o (kinds.isBack m d) = rw (m .adds) (marked w f _ _ _ _ _ _ _ _ m isStill)
-  by-kind o (kinds.isCleared m c) = rw (m .adds) (marked w f _ _ _ _ _ _ _ _ m isCleared)
-  by-kind o (kinds.isKept m d l) = rw (m .adds) (marked w f _ _ _ _ _ _ _ _ m (isLeft (adds (w .state .regs) f) F (room d l)))
-  by-kind o (kinds.isOther t n p m x) = rw (m .adds) (subst (λ z. Shape w (seen (loopFrame f) w (said (Frame n))) z (w .rx) (w .tx)) (sym (x .heart)) (marked w f n _ _ _ _ _ _ _ m isStill))
+  by-kind o (kinds.isStatus m) = rw (m .adds) (marked w f _ _ _ _ _ _ _ _ m refl isStill)
+  by-kind o (kinds.isBack m d) = rw (m .adds) (marked w f (made 5 64) _ _ _ _ _ _ _ m refl isStill)
+  by-kind o (kinds.isCleared m c) = rw (m .adds) (marked w f _ _ _ _ _ _ _ _ m (no-data f (le-ltb (controlOf f) 4 (omega (arith, eqb-true (controlOf f) 4 c)))) isCleared)
+  by-kind o (kinds.isKept m d l) = rw (m .adds) (marked w f _ _ _ _ _ _ _ _ m refl (isLeft (adds (w .state .regs) f) F (room d l)))
+  by-kind o (kinds.isOther t n p m x) = rw (m .adds) (subst (λ z. Shape w (seen (on (loopFrame f)) w (said (Frame n))) z (w .rx) (w .tx)) (sym (x .heart)) (marked w f n _ _ p _ _ _ _ m (other-sent t n p x) isStill))
 
   frame-taken : FrameShaped w f (frameBytes (w .state) (w .tx) f) (frameTaken (w .state) (w .rx) f)
   unfolding frameBytes
   frame-taken =
       subst (λ l. FrameShaped w f (cond l (leftBytes (w .state) (w .tx) f) (w .tx)) (frameTaken (w .state) (w .rx) f)) (sym stores) (by-kind _ (kind-of f w F))
 
-  pub frame-shape : Shaped w (loopFrame f) (calls.notRefused (loopFrame f) w)
+  pub frame-shape : Shaped w (on (loopFrame f)) (calls.notRefused (on (loopFrame f)) w)
   unfolding calls.notRefused outcome settledBy rxAfter txAfter settled
   frame-shape = by-clear (deviceClear (w .state) f) frame-taken
     where
@@ -105,6 +111,6 @@ module _ (w : World) (F : Fits w) (f : ℕ) (B : busy (w .state) f ≡ false) wh
       o = frameTaken (w .state) (w .rx) f
 
       by-clear : (t : Bool) → FrameShaped w f (frameBytes (w .state) (w .tx) f) o →
-          Shape w (seen (loopFrame f) w (said (o .answer))) (heart (cond t (o .state) (settled (w .state) (o .state)))) (w .rx) (frameBytes (w .state) (w .tx) f)
+          Shape w (seen (on (loopFrame f)) w (said (o .answer))) (heart (cond t (o .state) (settled (w .state) (o .state)))) (w .rx) (frameBytes (w .state) (w .tx) f)
       by-clear true x = x
       by-clear false x = x

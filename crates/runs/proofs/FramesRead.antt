@@ -1,36 +1,35 @@
 -- "The data frames sent from the receive store, followed by those the reading rule gives for the bytes still held, are those it gives for
 -- the bytes held at the start and then all accepted, the service bit aside." Assumes nothing.
-use Prim.Native.Nat.{ℕ, _-_, _<_}
+use Prim.Native.Nat.{ℕ, _<_}
 use mathlib.Core.Path.{_≡_, refl, sym, ap, subst, _∙_}
 use mathlib.Core.Bool.{false, false≢true}
 use mathlib.Core.List.{List, [], _∷_, _++_, append-assoc}
-use lib.ListN.{length}
 use Rattle.store.specs.Ring.{held, putRing, putBytes}
-use Rattle.store.proofs.Laws.{held-put, held-empty}
-use Rattle.reading.specs.Reading.{Sent, none, one, sentFrames, sentRest, send, frames}
+use Rattle.store.proofs.Laws.{held-put}
+use Rattle.reading.specs.Reading.{Sent, none, one, sentFrames, sentRest, frames}
 use Rattle.reading.specs.Steps.{cut}
-use Rattle.reading.specs.Product.{Allowed, TurnReads, AllRead}
 use Rattle.reading.proofs.Reading.{send-ahead}
-use Rattle.reading.proofs.Kept.{send-suffix}
 use Rattle.reading.proofs.Lawful.{lawful}
-use Rattle.reading.proofs.Product.{all-read}
 use Rattle.sending.specs.Sending.{sendHeld, sentRing}
-use Rattle.state.specs.Sizes.{startState}
 use Rattle.state.proofs.Fits.{rx-fits}
 use Rattle.line.specs.HoldingOff.{storedWith}
 use Rattle.loops.specs.Sending.{ruleOf}
 use Rattle.bridge.specs.Calls.{Call, World}
-use Rattle.laws.specs.Fitting.{AllBytes}
-use Rattle.laws.proofs.Small.{drop-bytes}
-use Rattle.runs.specs.Observers.{accepted, sent}
-use Rattle.runs.specs.Run.{answer, after, all, Without, changes}
-use Rattle.runs.specs.Worlds.{heldToSend, reading}
-use Rattle.runs.specs.Demands.{lineToLoop, FramesRead}
+use Rattle.store.specs.Bytes.{Bytes}
+use Rattle.laws.proofs.Fitting.{keeps-bytes}
+use Rattle.laws.specs.Observers.{accepted, sent, changes}
+use Rattle.laws.specs.Worlds.{heldToSend, reading}
+use Rattle.laws.specs.Demands.{lineToLoop, FramesRead}
 use Rattle.runs.proofs.Shapes.{Seen, seen, Heart, heart, Fits, Shape, isStill, isBegun, isWritten, isCleared, isStored, isLost, isSent, isNone, isLeft, isHanded}
 use Rattle.runs.proofs.View.{view}
-use Rattle.runs.proofs.Bytes.{bytes-first, bytes-second, bytes-both, sent-plain}
+use Rattle.runs.proofs.Bytes.{held-all, sent-plain}
 use Rattle.runs.proofs.Sends.{held-sent, seen-plain}
-use Rattle.runs.proofs.Runs.{first-not, in-plain-words}
+use Rattle.runs.proofs.Runs.{first-not}
+use Rattle.runs.proofs.Steps.{answer, after, Without, ours}
+use Rattle.machine.specs.Course.{Each}
+use Rattle.machine.specs.Machine.{Obeys, AllFair, course}
+use Rattle.machine.specs.Turns.{TurnReads}
+use Rattle.machine.proofs.Turns.{from-turns}
 
 -- what a send leaves
 abbrev afterSend : World → List ℕ
@@ -53,15 +52,15 @@ module _ (w : World) where
   -- one send, whatever is accepted after it
   send-reads : (x : Sent ℕ ℕ) (ys : List ℕ) → Fits w → sendHeld (ruleOf (w .state .regs)) (w .rx) (w .state .rx) ≡ x →
       reading w (heldToSend w ++ ys) ≡ sentFrames x ++ reading w (afterSend w ++ ys)
-  unfolding sendHeld
+  unfolding sendHeld ruleOf
   send-reads x ys F e =
       send-ahead (cut (ruleOf (w .state .regs))) (lawful (ruleOf (w .state .regs))) (heldToSend w) ys
       ∙ (λ i. sentFrames (e i) ++ reading w (sentRest (e i) ++ ys))
       ∙ ap (λ l. sentFrames x ++ reading w (l ++ ys)) (sym (held-after x F e))
 
-  keeps : (x : Seen) (h : Heart) (rx tx : List ℕ) → Shape w x h rx tx → x .changes ≡ false → AllBytes (heldToSend w) → (ys : List ℕ) →
+  keeps : (x : Seen) (h : Heart) (rx tx : List ℕ) → Shape w x h rx tx → x .changes ≡ false → Bytes (heldToSend w) → (ys : List ℕ) →
       reading w (heldToSend w ++ (x .accepted ++ ys)) ≡ x .sent ++ frames (cut (ruleOf (h .regs))) (held rx (h .rx) ++ ys)
-  unfolding storedWith sendHeld
+  unfolding storedWith sendHeld ruleOf
   keeps x h rx tx isStill n B ys = refl
   keeps x h rx tx (isBegun m) n B ys = absurd (false≢true (sym n))
   keeps x h rx tx (isWritten g t) n B ys = absurd (false≢true (sym n))
@@ -76,45 +75,16 @@ module _ (w : World) where
   keeps x h rx tx (isLeft l F e) n B ys = refl
   keeps x h rx tx (isHanded F e) n B ys = refl
 
-  -- bytes stay bytes, whatever is done
-  send-bytes : (x : Sent ℕ ℕ) → Fits w → sendHeld (ruleOf (w .state .regs)) (w .rx) (w .state .rx) ≡ x → AllBytes (heldToSend w) →
-      AllBytes (afterSend w)
-  unfolding sendHeld
-  send-bytes x F e B =
-      subst AllBytes (sym (held-after x F e ∙ ap sentRest (sym e) ∙ send-suffix (cut (ruleOf (w .state .regs))) (lawful (ruleOf (w .state .regs))) (heldToSend w)))
-      (drop-bytes (length (heldToSend w) - length (sentRest (send (cut (ruleOf (w .state .regs))) (heldToSend w)))) (heldToSend w) B)
-
-  pub bytes-kept : (x : Seen) (h : Heart) (rx tx : List ℕ) → Shape w x h rx tx → (ys : List ℕ) → AllBytes (heldToSend w ++ (x .accepted ++ ys)) → AllBytes (held rx (h .rx) ++ ys)
-  unfolding storedWith startState
-  bytes-kept x h rx tx isStill ys B = B
-  bytes-kept x h rx tx (isBegun m) ys B = subst (λ l. AllBytes (l ++ ys)) (sym (held-empty (w .rx))) (bytes-second (heldToSend w) ys B)
-  bytes-kept x h rx tx (isWritten g t) ys B = B
-  bytes-kept x h rx tx isCleared ys B = subst (λ l. AllBytes (l ++ ys)) (sym (held-empty (w .rx))) (bytes-second (heldToSend w) ys B)
-  bytes-kept x h rx tx (isStored b F l) ys B = subst (λ l. AllBytes (l ++ ys)) (sym (held-stored b F l)) (subst AllBytes (sym (append-assoc (heldToSend w) (b ∷ []) ys)) B)
-  bytes-kept x h rx tx (isLost b l) ys B = B
-  bytes-kept x h rx tx (isSent f r F e) ys B = bytes-both (afterSend w) ys (send-bytes (one f r) F e (bytes-first (heldToSend w) ys B)) (bytes-second (heldToSend w) ys B)
-  bytes-kept x h rx tx (isNone r F e) ys B = bytes-both (afterSend w) ys (send-bytes (none r) F e (bytes-first (heldToSend w) ys B)) (bytes-second (heldToSend w) ys B)
-  bytes-kept x h rx tx (isLeft l F e) ys B = B
-  bytes-kept x h rx tx (isHanded F e) ys B = B
-
--- the same of a call
-pub bytes-after : (c : Call) (w : World) (ys : List ℕ) → AllBytes (heldToSend w ++ (accepted c w (answer c w) ++ ys)) → AllBytes (heldToSend (after c w) ++ ys)
-bytes-after c w ys B = bytes-kept w (seen c w (answer c w)) (heart (after c w .state)) (after c w .rx) (after c w .tx) (view c w) ys B
-
-turn-reads : TurnReads lineToLoop
-turn-reads c w a ys = keeps w (seen c w (answer c w)) (heart (after c w .state)) (after c w .rx) (after c w .tx) (view c w) (a .0) (a .1) ys
-
--- (3a) as a product
-pub line-to-loop : AllRead lineToLoop
-line-to-loop = all-read lineToLoop turn-reads
-
-allowed : (cs : List Call) (w : World) → Without changes cs w → AllBytes (heldToSend w ++ all accepted cs w) → Allowed lineToLoop cs w
-unfolding all
-allowed [] w n B = tt
-allowed (c ∷ cs) w n B =
-    let m = first-not changes c cs w n in
-    ((m .0, bytes-first (heldToSend w) _ B), allowed cs (after c w) (m .1) (bytes-after c w (all accepted cs (after c w)) B))
+-- every call of the run
+turns : (cs : List Call) (w : World) → Bytes (w .rx) → AllFair ours cs → Without changes cs w → Each (TurnReads lineToLoop) (course ours cs w)
+unfolding course ruleOf
+turns [] w B k n = tt
+turns (c ∷ cs) w B k n =
+    let m = first-not changes c cs w n in (
+      keeps w (seen c w (answer c w)) (heart (after c w .state)) (after c w .rx) (after c w .tx) (view c w) (m .0) (held-all w B),
+      turns cs (after c w) (keeps-bytes c w (k .0) B) (k .1) (m .1),
+    )
 
 -- (3a)
-pub frames-read : FramesRead
-frames-read cs w n B = in-plain-words accepted sent heldToSend reading _ turn-reads cs w (allowed cs w n B)
+pub frames-read : Obeys ours FramesRead
+frames-read cs w B k n = from-turns lineToLoop ours cs w (turns cs w B k n)

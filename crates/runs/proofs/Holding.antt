@@ -24,18 +24,17 @@ use Rattle.line.specs.HoldingOff.{isGoOrStop, flowed, free, lostState, storedWi
 use Rattle.loops.specs.LoopToLine.{leftState}
 use Rattle.loops.specs.Sending.{ruleOf, removedState, sendState, sendFrom, sendStatus, talking, ended}
 use Rattle.loops.specs.Frames.{cleared, frameTaken, deviceClear}
-use Rattle.bridge.specs.Calls.{Call, create, reset, write, lineByte, lineBreak, key, nextLineByte, loopFrame, show, World, Did, outcome, settledBy, rxAfter, txAfter, refusedOr, step}
+use Rattle.bridge.specs.Calls.{Call, on, create, reset, write, lineByte, lineBreak, key, nextLineByte, loopFrame, show, World, Did, outcome, settledBy, rxAfter, txAfter, refusedOr, step}
 use Rattle.bridge.specs.Calls as calls
-use Rattle.laws.specs.CallPlaces.{isDeviceClear}
-use Rattle.runs.specs.Observers.{taken, isSend, arrived, accepted, restarts, clears}
-use Rattle.runs.specs.Run.{empties}
-use Rattle.runs.specs.Events.{any}
-use Rattle.runs.specs.Holding.{sends, writesR11, holdingAfter, HoldingGoes}
-use Rattle.runs.specs.NextByte.{afterByte, forbiddenAfter, ForbiddenGoes}
+use Rattle.laws.specs.Observers.{taken, isSend, arrived, accepted, restarts, clears, empties, any, isFlow}
+use Rattle.laws.specs.Holding.{sends, writesR11, holdingAfter, HoldingGoes}
+use Rattle.laws.specs.NextByte.{afterByte, forbiddenAfter, ForbiddenGoes}
 use Rattle.runs.proofs.Refused.{frame-answers, frame-taken}
 use Rattle.runs.proofs.Shapes.{Fits}
 use Rattle.runs.proofs.Quiet.{same-either}
 use Rattle.runs.proofs.FrameKinds.{Kind, isSent, isStatus, isBack, isCleared, isKept, isOther, kind-of}
+use Rattle.machine.specs.Machine.{Obeys}
+use Rattle.runs.proofs.Steps.{ours}
 
 none-any : (t : Bool) → any (cond t [] []) ≡ false
 none-any t = ap any (same-either t)
@@ -64,29 +63,29 @@ same c w d u h f =
 refused-unseen : (c : Call) (w : World) (n : ℕ) → Unseen c w (refused n)
 unfolding arrived restarts clears sends afterByte
 refused-unseen (create m) w n = record { empties = refl; arrived = refl; sends = refl; writes = refl; byte = refl }
-refused-unseen reset w n = record { empties = refl; arrived = refl; sends = refl; writes = refl; byte = refl }
-refused-unseen (write k v) w n = record { empties = refl; arrived = refl; sends = refl; writes = refl; byte = refl }
-refused-unseen (lineByte b) w n = record { empties = refl; arrived = refl; sends = refl; writes = refl; byte = refl }
-refused-unseen lineBreak w n = record { empties = refl; arrived = refl; sends = refl; writes = refl; byte = refl }
-refused-unseen key w n = record { empties = refl; arrived = refl; sends = refl; writes = refl; byte = refl }
-refused-unseen nextLineByte w n = record { empties = refl; arrived = refl; sends = refl; writes = refl; byte = refl }
-refused-unseen (loopFrame f) w n = record { empties = refl; arrived = refl; sends = refl; writes = refl; byte = refl }
+refused-unseen (on reset) w n = record { empties = refl; arrived = refl; sends = refl; writes = refl; byte = refl }
+refused-unseen (on (write k v)) w n = record { empties = refl; arrived = refl; sends = refl; writes = refl; byte = refl }
+refused-unseen (on (lineByte b)) w n = record { empties = refl; arrived = refl; sends = refl; writes = refl; byte = refl }
+refused-unseen (on lineBreak) w n = record { empties = refl; arrived = refl; sends = refl; writes = refl; byte = refl }
+refused-unseen (on key) w n = record { empties = refl; arrived = refl; sends = refl; writes = refl; byte = refl }
+refused-unseen (on nextLineByte) w n = record { empties = refl; arrived = refl; sends = refl; writes = refl; byte = refl }
+refused-unseen (on (loopFrame f)) w n = record { empties = refl; arrived = refl; sends = refl; writes = refl; byte = refl }
 refused-unseen (show side) w n = record { empties = refl; arrived = refl; sends = refl; writes = refl; byte = refl }
 
 goes-or : (c : Call) (w : World) (n : ℕ) (d : Did) → (n ≡ 0 → Goes c w d) → Goes c w (refusedOr n d w)
 goes-or c w n d = or-refused (Goes c w) n d w (same c w (record { said = refused n; world = w }) (refused-unseen c w n) refl refl)
 
 -- a byte to the line
-gone-goes : (w : World) (o : Out) → Goes nextLineByte w (record { said = said (outAnswer o); world = record { state = settled (w .state) (goneState (w .state) o); rx = w .rx; tx = w .tx } })
+gone-goes : (w : World) (o : Out) → Goes (on nextLineByte) w (record { said = said (outAnswer o); world = record { state = settled (w .state) (goneState (w .state) o); rx = w .rx; tx = w .tx } })
 unfolding goneState outAnswer said settled arrived restarts clears sends afterByte
-gone-goes w (out.Own b) = same nextLineByte w _ (record { empties = refl; arrived = refl; sends = refl; writes = refl; byte = refl }) refl refl
-gone-goes w (out.Held b) = same nextLineByte w _ (record { empties = refl; arrived = refl; sends = refl; writes = refl; byte = refl }) refl refl
-gone-goes w out.Nothing = same nextLineByte w _ (record { empties = refl; arrived = refl; sends = refl; writes = refl; byte = refl }) refl refl
+gone-goes w (out.Own b) = same (on nextLineByte) w _ (record { empties = refl; arrived = refl; sends = refl; writes = refl; byte = refl }) refl refl
+gone-goes w (out.Held b) = same (on nextLineByte) w _ (record { empties = refl; arrived = refl; sends = refl; writes = refl; byte = refl }) refl refl
+gone-goes w out.Nothing = same (on nextLineByte) w _ (record { empties = refl; arrived = refl; sends = refl; writes = refl; byte = refl }) refl refl
 
 -- ---- line bytes
 
-line-goes : (w : World) (b : ℕ) → Goes (lineByte b) w (record { said = done; world = record { state = settled (w .state) (lineState (w .state) b); rx = lineBytes (w .state) (w .rx) b; tx = w .tx } })
-unfolding holdingAfter forbiddenAfter afterByte accepted arrived restarts clears sends lineState flowed lostState storedWith settled
+line-goes : (w : World) (b : ℕ) → Goes (on (lineByte b)) w (record { said = done; world = record { state = settled (w .state) (lineState (w .state) b); rx = lineBytes (w .state) (w .rx) b; tx = w .tx } })
+unfolding holdingAfter forbiddenAfter afterByte accepted arrived restarts clears isFlow isGoOrStop sends lineState flowed lostState storedWith settled
 line-goes w b =
     record {
       holding = holding-by (isGoOrStop (s .regs) b) (full (s .sizes .rx) (s .rx));
@@ -114,7 +113,7 @@ line-goes w b =
 
 -- ---- register writes
 
-write-goes : (w : World) (n v : ℕ) → Goes (write n v) w (record { said = done; world = record { state = settled (w .state) (afterWrite (w .state) n (written (w .state .regs) n v)); rx = w .rx; tx = w .tx } })
+write-goes : (w : World) (n v : ℕ) → Goes (on (write n v)) w (record { said = done; world = record { state = settled (w .state) (afterWrite (w .state) n (written (w .state .regs) n v)); rx = w .rx; tx = w .tx } })
 unfolding holdingAfter forbiddenAfter afterByte accepted arrived restarts clears sends afterWrite setAfresh settled
 write-goes w n v =
     record {
@@ -149,7 +148,7 @@ module _ (s : State) (rx : List ℕ) (f : ℕ) where
       go (none r) = record { holding = refl; forbidden = refl }
       go (one g r) = record { holding = refl; forbidden = refl }
 
-  by-kind : (o : Outcome) → Kind s rx f o → Framed (isDeviceClear s f) (isSend s f) (o .state)
+  by-kind : (o : Outcome) → Kind s rx f o → Framed (deviceClear s f) (isSend s f) (o .state)
   unfolding sendStatus ended talking cleared leftState state-status.statusSent state-status.statusBack
   by-kind o (isSent m) = rw (m .clear, m .send) send-framed
   by-kind o (isStatus m) = rw (m .clear, m .send) (record { holding = refl; forbidden = refl })
@@ -163,7 +162,7 @@ module _ (s : State) (rx : List ℕ) (f : ℕ) where
   settled-framed x y true u k = k
   settled-framed x y false u k = record { holding = k .holding; forbidden = k .forbidden }
 
-frame-goes : (w : World) (f : ℕ) → Fits w → Goes (loopFrame f) w (calls.notRefused (loopFrame f) w)
+frame-goes : (w : World) (f : ℕ) → Fits w → Goes (on (loopFrame f)) w (calls.notRefused (on (loopFrame f)) w)
 unfolding holdingAfter forbiddenAfter afterByte accepted arrived restarts clears sends calls.notRefused outcome settledBy
 frame-goes w f F =
     let k = settled-framed (w .state) (w .rx) f _ _ (deviceClear (w .state) f) _ (by-kind (w .state) (w .rx) f _ (kind-of f w F)) in
@@ -180,17 +179,17 @@ frame-goes w f F =
 goes : (c : Call) (w : World) → Goes c w (step c w)
 unfolding step calls.notRefused outcome settledBy settled rxAfter txAfter said arrived restarts clears sends afterByte breakState keyState startState holdingAfter forbiddenAfter
 goes (create m) w = goes-or (create m) w _ _ (λ _. record { holding = refl; forbidden = refl })
-goes reset w = goes-or reset w _ _ (λ _. record { holding = refl; forbidden = refl })
-goes (write n v) w = goes-or (write n v) w _ _ (λ _. write-goes w n v)
-goes (lineByte b) w = goes-or (lineByte b) w _ _ (λ _. line-goes w b)
-goes lineBreak w = goes-or lineBreak w _ _ (λ _. same lineBreak w _ (record { empties = refl; arrived = refl; sends = refl; writes = refl; byte = refl }) refl refl)
-goes key w = goes-or key w _ _ (λ _. same key w _ (record { empties = refl; arrived = refl; sends = refl; writes = refl; byte = refl }) refl refl)
-goes nextLineByte w = goes-or nextLineByte w _ _ (λ _. gone-goes w (nextOut (w .state) (w .tx)))
-goes (loopFrame f) w = goes-or (loopFrame f) w _ _ (λ e. frame-goes w f (frame-fits f w e))
-goes (show side) w = same (show side) w _ (record { empties = refl; arrived = refl; sends = refl; writes = refl; byte = refl }) refl refl
+goes (on reset) w = goes-or (on reset) w _ _ (λ _. record { holding = refl; forbidden = refl })
+goes (on (write n v)) w = goes-or (on (write n v)) w _ _ (λ _. write-goes w n v)
+goes (on (lineByte b)) w = goes-or (on (lineByte b)) w _ _ (λ _. line-goes w b)
+goes (on lineBreak) w = goes-or (on lineBreak) w _ _ (λ _. same (on lineBreak) w _ (record { empties = refl; arrived = refl; sends = refl; writes = refl; byte = refl }) refl refl)
+goes (on key) w = goes-or (on key) w _ _ (λ _. same (on key) w _ (record { empties = refl; arrived = refl; sends = refl; writes = refl; byte = refl }) refl refl)
+goes (on nextLineByte) w = goes-or (on nextLineByte) w _ _ (λ _. gone-goes w (nextOut (w .state) (w .tx)))
+goes (on (loopFrame f)) w = goes-or (on (loopFrame f)) w _ _ (λ e. frame-goes w f (frame-fits f w e))
+goes (show side) w = goes-or (show side) w _ _ (λ _. same (show side) w _ (record { empties = refl; arrived = refl; sends = refl; writes = refl; byte = refl }) refl refl)
 
-pub holding-goes : HoldingGoes
-holding-goes c w = goes c w .holding
+pub holding-goes : Obeys ours HoldingGoes
+holding-goes c w B = goes c w .holding
 
-pub forbidden-goes : ForbiddenGoes
-forbidden-goes c w = goes c w .forbidden
+pub forbidden-goes : Obeys ours ForbiddenGoes
+forbidden-goes c w B = goes c w .forbidden

@@ -29,15 +29,20 @@ use Rattle.line.specs.HoldingOff.{isGoOrStop, flowed, lostState, storedWith, li
 use Rattle.loops.specs.LoopToLine.{leftState}
 use Rattle.loops.specs.Sending.{ruleOf, removedState, sendState, sendFrom, sendStatus, talking, ended}
 use Rattle.loops.specs.Frames.{obeyed, cleared, deviceClear}
-use Rattle.bridge.specs.Calls.{Call, create, reset, write, lineByte, lineBreak, key, nextLineByte, loopFrame, show, World, Did, outcome, settledBy, refusedOr, step}
+use Rattle.bridge.specs.Calls.{Call, on, create, reset, write, lineByte, lineBreak, key, nextLineByte, loopFrame, show, World, Did, outcome, settledBy, refusedOr, step}
 use Rattle.bridge.specs.Calls as calls
-use Rattle.runs.specs.Observers.{restarts}
-use Rattle.runs.specs.Run.{answer, after, end, Without, startsAnew}
-use Rattle.runs.specs.LastSent.{afterOwn, lastOf, lastSent, recorded, LastKept, LastSince}
+use Rattle.laws.specs.Observers.{restarts, startsAnew}
+use Rattle.laws.specs.LastSent.{afterOwn, lastOf, recorded, LastKept, LastSince}
 use Rattle.runs.proofs.Shapes.{Fits}
 use Rattle.runs.proofs.FrameKinds.{Kind, isSent, isStatus, isBack, isCleared, isKept, isOther, kind-of}
 use Rattle.runs.proofs.Refusals.{or-refused, next-fits, frame-fits}
 use Rattle.runs.proofs.Runs.{first-not}
+use Rattle.runs.proofs.Steps.{answer, after, end, Without, lastSent, ours}
+use Rattle.machine.specs.Machine as machine
+use Rattle.laws.specs.LastSent as last
+use Rattle.machine.specs.Course as course
+use Rattle.machine.specs.Machine.{Obeys}
+use Rattle.laws.proofs.Fitting.{keeps-bytes}
 
 -- ---- calls that send nothing of our own
 
@@ -85,7 +90,7 @@ own-character false x y d = sym (ne-eqb x y d)
 
 module _ (w : World) where
   abbrev NextKept : Out → Type 0
-  NextKept o = goneState (w .state) o .line .stopped ≡ lastOf (recorded w) nextLineByte w (said (outAnswer o))
+  NextKept o = goneState (w .state) o .line .stopped ≡ lastOf (recorded w) (on nextLineByte) w (said (outAnswer o))
 
   next-same : Fits w → NextKept (nextOut (w .state) (w .tx))
   unfolding nextOut goneState outAnswer said lastOf
@@ -123,30 +128,30 @@ same-either false k = refl
 last-right : (c : Call) (w : World) → LastRight c w (step c w)
 unfolding step calls.notRefused outcome settledBy settled said lastOf restarts startState breakState keyState
 last-right (create m) w = refused-or (create m) w _ _ refl (λ _. refl)
-last-right reset w = refused-or reset w _ _ refl (λ _. refl)
-last-right (write n v) w = refused-or (write n v) w _ _ refl (λ _. write-same (w .state) n v)
-last-right (lineByte b) w = refused-or (lineByte b) w _ _ refl (λ _. line-same (w .state) b)
-last-right lineBreak w = refused-or lineBreak w _ _ refl (λ _. refl)
-last-right key w = refused-or key w _ _ refl (λ _. refl)
-last-right nextLineByte w = refused-or nextLineByte w _ _ (same-either (owed (w .state .line)) (recorded w)) (λ e. next-same w (next-fits w e))
-last-right (loopFrame f) w =
-    refused-or (loopFrame f) w _ _ refl
+last-right (on reset) w = refused-or (on reset) w _ _ refl (λ _. refl)
+last-right (on (write n v)) w = refused-or (on (write n v)) w _ _ refl (λ _. write-same (w .state) n v)
+last-right (on (lineByte b)) w = refused-or (on (lineByte b)) w _ _ refl (λ _. line-same (w .state) b)
+last-right (on lineBreak) w = refused-or (on lineBreak) w _ _ refl (λ _. refl)
+last-right (on key) w = refused-or (on key) w _ _ refl (λ _. refl)
+last-right (on nextLineByte) w = refused-or (on nextLineByte) w _ _ (same-either (owed (w .state .line)) (recorded w)) (λ e. next-same w (next-fits w e))
+last-right (on (loopFrame f)) w =
+    refused-or (on (loopFrame f)) w _ _ refl
     (λ e. settled-same (w .state) (w .rx) f (deviceClear (w .state) f) _ (frame-same (w .state) (w .rx) f _ (kind-of f w (frame-fits f w e))))
-last-right (show side) w = refl
+last-right (show side) w = refused-or (show side) w _ _ refl (λ _. refl)
 
 -- ---- runs
 
-pub last-kept : LastKept
-unfolding end lastSent
-last-kept [] w n = refl
-last-kept (c ∷ cs) w n =
-    last-kept cs (after c w) (m .1)
+pub last-kept : Obeys ours LastKept
+unfolding course.end last.lastSent machine.course
+last-kept [] w B k n = refl
+last-kept (c ∷ cs) w B k n =
+    last-kept cs (after c w) (keeps-bytes c w (k .0) B) (k .1) (m .1)
     ∙ ap (λ k. lastSent k cs (after c w)) (last-right c w ∙ (λ i. cond (m .0 i) false (lastOf (recorded w) c w (answer c w))))
   where
     m : (startsAnew c w (answer c w) ≡ false) × Without startsAnew cs (after c w)
     m = first-not startsAnew c cs w n
 
-pub last-since : LastSince
-last-since c w b cs n =
-    last-kept cs (after c w) n
+pub last-since : Obeys ours LastSince
+last-since c cs w B j k b n =
+    last-kept cs (after c w) (keeps-bytes c w j B) k n
     ∙ ap (λ k. lastSent k cs (after c w)) (last-right c w ∙ (λ i. cond (b i) false (lastOf (recorded w) c w (answer c w))))

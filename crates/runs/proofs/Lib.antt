@@ -2,6 +2,7 @@
 -- parts `Quiet`, `LineView` and `FrameView`; `StatusView` does the same for the status byte. They are all that knows the conditions of a
 -- step. `Refusals` takes what holds of a call that is not refused to the call. Then each statement by the kinds: `FramesRead`, `Events` and
 -- `Margin` are demand 3.
+pub mod Steps
 pub mod Answered
 pub mod Shapes
 pub mod Refusals
@@ -15,6 +16,7 @@ pub mod Sends
 pub mod Runs
 pub mod FramesRead
 pub mod StatusView
+pub mod Conditions
 pub mod Bits
 pub mod Events
 pub mod Margin
@@ -24,7 +26,6 @@ pub mod Counts
 pub mod Service
 pub mod Refused
 pub mod StatusTold
-pub mod Ours
 pub mod SendRule
 pub mod Since
 pub mod Cleared
@@ -32,3 +33,14 @@ pub mod Requests
 pub mod Holding
 pub mod NextByte
 pub mod Resuming
+pub mod Ways
+pub mod Untouched
+pub mod Settings
+pub mod ElevenBits
+pub mod Removed
+pub mod Passing
+pub mod Obeying
+pub mod Roles
+pub mod Alone
+pub mod Laws
+pub mod Returns

@@ -9,19 +9,21 @@ use lib.ListN.{length, getD, drop}
 use Rattle.store.specs.Ring.{held, putsRing, putsBytes, dropRing}
 use Rattle.store.proofs.Laws.{held-drop, held-empty, held-length}
 use Rattle.store.proofs.Several.{held-puts}
-use Rattle.reading.specs.Product.{Allowed, TurnReads, AllRead}
-use Rattle.reading.proofs.Product.{all-read}
 use Rattle.state.specs.Sizes.{startState}
 use Rattle.state.proofs.Fits.{tx-fits}
 use Rattle.line.specs.HoldingOff.{storedWith}
 use Rattle.bridge.specs.Calls.{Call, World}
-use Rattle.runs.specs.Observers.{left, handedOut}
-use Rattle.runs.specs.Run.{answer, after, all, Without, empties}
-use Rattle.runs.specs.Worlds.{heldForLine}
-use Rattle.runs.specs.LineBytes.{loopToLine, LineKept, LineSince}
+use Rattle.laws.specs.Observers.{added, empties}
+use Rattle.laws.specs.Worlds.{heldForLine}
+use Rattle.laws.specs.LineBytes.{loopToLine, LineKept, LineSince}
 use Rattle.runs.proofs.Shapes.{Seen, seen, Heart, heart, Fits, Shape, isStill, isBegun, isWritten, isCleared, isStored, isLost, isSent, isNone, isLeft, isHanded}
 use Rattle.runs.proofs.View.{view}
-use Rattle.runs.proofs.Runs.{first-not, in-plain-words}
+use Rattle.runs.proofs.Runs.{first-not}
+use Rattle.runs.proofs.Steps.{answer, after, all, Without, ours}
+use Rattle.machine.specs.Course.{Each}
+use Rattle.machine.specs.Machine.{Obeys, course}
+use Rattle.machine.specs.Turns.{TurnReads}
+use Rattle.machine.proofs.Turns.{from-turns}
 
 -- a list that is not empty, by its first
 first-rest : (l : List ℕ) → 0 < length l → l ≡ getD l 0 0 ∷ drop 1 l
@@ -57,19 +59,16 @@ keeps w x h rx tx (isNone r F e) n ys = refl
 keeps w x h rx tx (isLeft l F e) n ys = sym (append-assoc (heldForLine w) l ys) ∙ ap (λ k. k ++ ys) (sym (held-left w F l e))
 keeps w x h rx tx (isHanded F e) n ys = ap (λ k. k ++ ys) (held-handed w F e)
 
-turn-reads : TurnReads loopToLine
-turn-reads c w a ys = keeps w (seen c w (answer c w)) (heart (after c w .state)) (after c w .rx) (after c w .tx) (view c w) a ys
+-- every call of the run
+turns : (cs : List Call) (w : World) → Without empties cs w → Each (TurnReads loopToLine) (course ours cs w)
+unfolding course
+turns [] w n = tt
+turns (c ∷ cs) w n =
+    let m = first-not empties c cs w n in
+    (keeps w (seen c w (answer c w)) (heart (after c w .state)) (after c w .rx) (after c w .tx) (view c w) (m .0), turns cs (after c w) (m .1))
 
--- as a product
-pub loop-to-line : AllRead loopToLine
-loop-to-line = all-read loopToLine turn-reads
-
-allowed : (cs : List Call) (w : World) → Without empties cs w → Allowed loopToLine cs w
-allowed [] w n = tt
-allowed (c ∷ cs) w n = let m = first-not empties c cs w n in (m .0, allowed cs (after c w) (m .1))
-
-pub line-kept : LineKept
-line-kept cs w n = in-plain-words left handedOut heldForLine (λ w l. l) _ turn-reads cs w (allowed cs w n)
+pub line-kept : Obeys ours LineKept
+line-kept cs w B k n = from-turns loopToLine ours cs w (turns cs w n)
 
 -- nothing is held after a create, a reset or a device clear
 emptied : (w : World) (x : Seen) (h : Heart) (rx tx : List ℕ) → Shape w x h rx tx → x .empties ≡ true → held tx (h .tx) ≡ []
@@ -85,7 +84,7 @@ emptied w x h rx tx (isNone r F e) n = absurd (false≢true n)
 emptied w x h rx tx (isLeft l F e) n = absurd (false≢true n)
 emptied w x h rx tx (isHanded F e) n = absurd (false≢true n)
 
-pub line-since : LineSince
-line-since c w e cs n =
-    line-kept cs (after c w) n
-    ∙ ap (λ l. l ++ all left cs (after c w)) (emptied w (seen c w (answer c w)) (heart (after c w .state)) (after c w .rx) (after c w .tx) (view c w) e)
+pub line-since : Obeys ours LineSince
+line-since c cs w B j k e n =
+    from-turns loopToLine ours cs (after c w) (turns cs (after c w) n)
+    ∙ ap (λ l. l ++ all added cs (after c w)) (emptied w (seen c w (answer c w)) (heart (after c w .state)) (after c w .rx) (after c w .tx) (view c w) e)

@@ -18,20 +18,20 @@ use Rattle.state.specs.Answers.{said, done}
 use Rattle.state.proofs.Fits.{rx-fits}
 use Rattle.line.specs.HoldingOff.{isGoOrStop, flowed, lostState, storedState, lineState, lineBytes, setAfresh, afterWrite, owed, nextOut, goneState, outAnswer}
 use Rattle.line.proofs.Parts.{some-held}
-use Rattle.bridge.specs.Calls.{write, lineByte, nextLineByte, World}
-use Rattle.runs.specs.Observers.{arrived, accepted, lost, sent, left, handedOut, restarts, writes, clears}
+use Rattle.bridge.specs.Calls.{on, write, lineByte, nextLineByte, World}
+use Rattle.laws.specs.Observers.{isFlow, arrived, accepted, lost, sent, added, handedOut, restarts, writes, clears}
 use Rattle.runs.proofs.Shapes.{seen, heart, Fits, Shape, isStill, isWritten, isStored, isLost, isHanded}
 use Rattle.runs.proofs.Quiet.{quiet, quietly}
 
 -- ---- line bytes in
 
 module _ (w : World) (F : Fits w) (b : ℕ) where
-  pub line-shape : Shape w (seen (lineByte b) w done) (heart (lineState (w .state) b)) (lineBytes (w .state) (w .rx) b) (w .tx)
-  unfolding arrived accepted lost sent left handedOut restarts writes clears lineState lineBytes flowed lostState
+  pub line-shape : Shape w (seen (on (lineByte b)) w done) (heart (lineState (w .state) b)) (lineBytes (w .state) (w .rx) b) (w .tx)
+  unfolding arrived accepted lost sent added isFlow isGoOrStop handedOut restarts writes clears lineState lineBytes flowed lostState
   line-shape = by-tests (isGoOrStop (w .state .regs) b) (full (w .state .sizes .rx) (w .state .rx)) refl refl
     where
       by-tests : (t u : Bool) → isGoOrStop (w .state .regs) b ≡ t → full (w .state .sizes .rx) (w .state .rx) ≡ u →
-          Shape w (seen (lineByte b) w done) (heart (cond t (flowed (w .state) b) (cond u (lostState (w .state)) (storedState (w .state)))))
+          Shape w (seen (on (lineByte b)) w done) (heart (cond t (flowed (w .state) b) (cond u (lostState (w .state)) (storedState (w .state)))))
           (cond t (w .rx) (putBytes (w .rx) (w .state .rx) b)) (w .tx)
       by-tests true true f e = simp (f, e) isStill
       by-tests true false f e = simp (f, e) isStill
@@ -43,10 +43,10 @@ module _ (w : World) (F : Fits w) (b : ℕ) where
 -- ---- line bytes out
 
 module _ (w : World) (F : Fits w) where
-  pub next-shape : Shape w (seen nextLineByte w (said (outAnswer (nextOut (w .state) (w .tx))))) (heart (goneState (w .state) (nextOut (w .state) (w .tx)))) (w .rx) (w .tx)
-  unfolding arrived sent left handedOut restarts writes clears nextOut goneState outAnswer said
+  pub next-shape : Shape w (seen (on nextLineByte) w (said (outAnswer (nextOut (w .state) (w .tx))))) (heart (goneState (w .state) (nextOut (w .state) (w .tx)))) (w .rx) (w .tx)
+  unfolding arrived sent added handedOut restarts writes clears nextOut goneState outAnswer said
   next-shape =
-      quietly nextLineByte w _ _ _ _ refl (by-tests (owed (w .state .line)) (w .state .line .forbidden || eqb (w .state .tx .len) 0) refl refl)
+      quietly (on nextLineByte) w _ _ _ _ refl (by-tests (owed (w .state .line)) (w .state .line .forbidden || eqb (w .state .tx .len) 0) refl refl)
     where
       own : ℕ
       own = cond (w .state .line .holding) (stop (w .state .regs)) (go (w .state .regs))
@@ -55,20 +55,20 @@ module _ (w : World) (F : Fits w) where
       out t u = cond t (Own (cond (w .state .line .holding) (stop (w .state .regs)) (go (w .state .regs)))) (cond u Nothing (Held (getD (held (w .tx) (w .state .tx)) 0 0)))
 
       by-tests : (t u : Bool) → owed (w .state .line) ≡ t → (w .state .line .forbidden || eqb (w .state .tx .len) 0) ≡ u →
-          Shape w (quiet nextLineByte w (said (outAnswer (out t u)))) (heart (goneState (w .state) (out t u))) (w .rx) (w .tx)
+          Shape w (quiet (on nextLineByte) w (said (outAnswer (out t u)))) (heart (goneState (w .state) (out t u))) (w .rx) (w .tx)
       by-tests true u o e = simp (o, eq-eqb own own refl) isStill
       by-tests false true o e = simp o isStill
       by-tests false false o e = simp o (isHanded F (some-held (w .state) (w .tx) e))
 
 -- ---- register writes
 
-pub write-shape : (w : World) (n v : ℕ) → Shape w (seen (write n v) w done) (heart (afterWrite (w .state) n (written (w .state .regs) n v))) (w .rx) (w .tx)
-unfolding arrived sent left handedOut restarts writes clears afterWrite setAfresh
-write-shape w n v = quietly (write n v) w done _ _ _ refl (by-test (eqb n 11))
+pub write-shape : (w : World) (n v : ℕ) → Shape w (seen (on (write n v)) w done) (heart (afterWrite (w .state) n (written (w .state .regs) n v))) (w .rx) (w .tx)
+unfolding arrived sent added handedOut restarts writes clears afterWrite setAfresh
+write-shape w n v = quietly (on (write n v)) w done _ _ _ refl (by-test (eqb n 11))
   where
     g : Registers
     g = written (w .state .regs) n v
 
-    by-test : (t : Bool) → Shape w (quiet (write n v) w done) (heart (cond t (setAfresh (withRegisters (w .state) g)) (withRegisters (w .state) g))) (w .rx) (w .tx)
+    by-test : (t : Bool) → Shape w (quiet (on (write n v)) w done) (heart (cond t (setAfresh (withRegisters (w .state) g)) (withRegisters (w .state) g))) (w .rx) (w .tx)
     by-test true = isWritten g _
     by-test false = isWritten g _

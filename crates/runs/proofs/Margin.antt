@@ -17,13 +17,19 @@ use Rattle.state.proofs.Fits.{tests, rx-fits}
 use Rattle.line.specs.HoldingOff.{storedWith, resumed, free}
 use Rattle.loops.specs.Sending.{ruleOf, removedState}
 use Rattle.bridge.specs.Calls.{Call, World}
-use Rattle.runs.specs.Observers.{arrived, lost}
-use Rattle.runs.specs.Run.{answer, after, all, Without, changes, holdsOff, spells, AtMost}
-use Rattle.runs.specs.Demands.{NoneLost}
+use Rattle.laws.specs.Observers.{arrived, lost, changes}
+use Rattle.laws.specs.Worlds.{holdsOff}
+use Rattle.laws.specs.Spells.{AtMost}
+use Rattle.laws.specs.Demands.{NoneLost}
 use Rattle.runs.proofs.Shapes.{Seen, seen, Heart, heart, Fits, Shape, isStill, isBegun, isWritten, isCleared, isStored, isLost, isSent, isNone, isLeft, isHanded}
 use Rattle.runs.proofs.View.{view}
 use Rattle.runs.proofs.Sends.{sent-less}
 use Rattle.runs.proofs.Runs.{first-not}
+use Rattle.runs.proofs.Steps.{answer, after, all, Without, spells, ours}
+use Rattle.laws.specs.Spells as run
+use Rattle.machine.specs.Machine as machine
+use Rattle.machine.specs.Course as course
+use Rattle.machine.specs.Machine.{Obeys}
 
 -- f places are free, the margin is m, and k data bytes have arrived in this spell of holding off
 abbrev Room : Bool → ℕ → ℕ → ℕ → Type 0
@@ -116,7 +122,7 @@ abbrev more : Call → World → ℕ
 more c w = length (arrived c w (answer c w))
 
 first-spell : (m k : ℕ) (cs : List Call) (w : World) → holdsOff w ≡ true → AtMost m (spells k cs w) → k ≤ m
-unfolding spells
+unfolding run.spells machine.course
 first-spell m k [] w h a = subst (λ t. AtMost m (cond t (k ∷ []) [])) h a .0
 first-spell m k (c ∷ cs) w h a =
     go (first-spell m (k + more c w) cs (after c w)) (holdsOff (after c w)) refl
@@ -129,7 +135,7 @@ first-spell m k (c ∷ cs) w h a =
 
 -- where no spell is under way, what arrived before does not count
 no-spell : (m k : ℕ) (cs : List Call) (w : World) → holdsOff w ≡ false → AtMost m (spells 0 cs w) → AtMost m (spells k cs w)
-unfolding spells
+unfolding run.spells machine.course
 no-spell m k [] w h a = subst (λ t. AtMost m (cond t (k ∷ []) [])) (sym h) tt
 no-spell m k (c ∷ cs) w h a =
     subst (λ t. AtMost m (cond t (cond (holdsOff (after c w)) (spells (k + more c w) cs (after c w)) ((k + more c w) ∷ spells 0 cs (after c w))) (spells 0 cs (after c w)))) (sym h)
@@ -150,7 +156,7 @@ module _ (m k : ℕ) (c : Call) (cs : List Call) (w : World) where
   later true false e a = no-spell m (k + more c w) cs (after c w) e (a .1)
 
 none-lost-from : (cs : List Call) (w : World) (m k : ℕ) → Without changes cs w → Calm m k (heart (w .state)) → AtMost m (spells k cs w) → all lost cs w ≡ []
-unfolding all spells
+unfolding course.all run.spells machine.course
 none-lost-from [] w m k n c a = refl
 none-lost-from (c ∷ cs) w m k n q a =
     let p = first-not changes c cs w n in
@@ -163,7 +169,7 @@ none-lost-from (c ∷ cs) w m k n q a =
     both e f = λ i. e i ++ f i
 
 -- (3c)
-pub none-lost : NoneLost
-none-lost cs w n on off room a =
+pub none-lost : Obeys ours NoneLost
+none-lost cs w B k n on off room a =
     none-lost-from cs w (w .state .sizes .margin) 0 n
     (record { on = on; margin = refl; room = subst (λ t. Room t (w .state .sizes .margin) 0 (free (w .state))) (sym off) room }) a

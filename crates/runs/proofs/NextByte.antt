@@ -16,14 +16,16 @@ use Rattle.state.specs.declared.Out.the-variants.{Own, Held, Nothing}
 use Rattle.state.specs.Answers.{said, none, byte}
 use Rattle.state.proofs.Fits.{tx-fits}
 use Rattle.line.specs.HoldingOff.{owed, nextOut, outAnswer}
-use Rattle.bridge.specs.Calls.{nextLineByte, World, Did, checks, outcome, step}
+use Rattle.bridge.specs.Calls.{on, nextLineByte, World, Did, checks, outcome, step}
 use Rattle.bridge.specs.Calls as calls
-use Rattle.runs.specs.Run.{after, end}
-use Rattle.runs.specs.LastSent.{isOwn, OwnGiven}
-use Rattle.runs.specs.NextByte.{oldestOf, nextGiven, NextGiven}
+use Rattle.laws.specs.LastSent.{OwnGiven}
+use Rattle.laws.specs.NextByte.{oldestOf, nextGiven, NextGiven}
 use Rattle.runs.proofs.Shapes.{Fits}
 use Rattle.runs.proofs.Refusals.{if-taken, next-fits}
 use Rattle.runs.proofs.LastSent.{last-since}
+use Rattle.runs.proofs.Steps.{after, end, ours, answer, lastSent, at-call, at-left}
+use Rattle.machine.specs.Machine.{Obeys, left}
+use Rattle.laws.specs.Observers.{taken, owes, ownCharacter}
 
 module _ (w : World) (F : Fits w) where
   -- by whether our own character is owed and our sending forbidden, and what is held
@@ -41,11 +43,21 @@ module _ (w : World) (F : Fits w) where
       by-tests false false [] e = rw (sym e)
       by-tests false false (b ∷ l) e = rw (ne-eqb (w .state .tx .len) 0 (λ h. omega (arith, e)))
 
-pub next-given : NextGiven
+given : (w : World) → taken (answer (on nextLineByte) w) ≡ true → answer (on nextLineByte) w ≡ nextGiven w
 unfolding step calls.notRefused outcome
-next-given w =
-    if-taken (λ (d : Did). d .said ≡ nextGiven w) (firstRefusal (checks nextLineByte w)) (calls.notRefused nextLineByte w) w (λ e. out-given w (next-fits w e))
+given w =
+    if-taken (λ (d : Did). d .said ≡ nextGiven w) (firstRefusal (checks (on nextLineByte) w)) (calls.notRefused (on nextLineByte) w) w (λ e. out-given w (next-fits w e))
 
-pub own-given : OwnGiven
+pub next-given : Obeys ours NextGiven
+next-given c w B = at-call (λ c. taken (answer c w) ≡ true → answer c w ≡ nextGiven w) (on nextLineByte) (given w) c
+
+pub own-given : Obeys ours OwnGiven
 unfolding nextGiven
-own-given c w b cs m t o = next-given (end cs (after c w)) t ∙ cond-true _ _ _ (ap (λ k. isOwn k (end cs (after c w))) (last-since c w b cs m) ∙ o)
+own-given c cs d w B j k b m =
+    at-call (λ d. taken (answer d v) ≡ true → owes (lastSent false cs (after c w)) v ≡ true → answer d v ≡ byte (ownCharacter v)) (on nextLineByte)
+    (at-left (λ v. taken (answer (on nextLineByte) v) ≡ true → owes (lastSent false cs (after c w)) v ≡ true → answer (on nextLineByte) v ≡ byte (ownCharacter v)) cs (after c w)
+    (λ t o. given (end cs (after c w)) t ∙ cond-true _ _ _ (ap (λ k. owes k (end cs (after c w))) (last-since c cs w B j k b m) ∙ o)))
+    d
+  where
+    v : World
+    v = left ours cs (after c w)

@@ -6,8 +6,7 @@ use mathlib.Core.List.{List, []}
 use Rattle.store.specs.Ring.{full}
 use Rattle.state.specs.Answers.{Said}
 use Rattle.bridge.specs.Calls.{Call, World, Did}
-use Rattle.runs.specs.Observers.{arrived, accepted, lost, sent, left, handedOut}
-use Rattle.runs.specs.Run.{changes, empties, startsAnew}
+use Rattle.laws.specs.Observers.{arrived, accepted, lost, sent, added, handedOut, changes, empties, startsAnew}
 use Rattle.runs.proofs.Shapes.{Seen, seen, Heart, heart, Shape}
 
 -- what a call did has a shape
@@ -28,7 +27,7 @@ quiet c w a =
       accepted = [];
       lost = [];
       sent = sent c w a;
-      left = left c w a;
+      left = added c w a;
       handed = handedOut c w a;
       changes = changes c w a;
       empties = empties c w a;
@@ -54,7 +53,7 @@ quietly c w a h rx tx e = subst (λ x. Shape w x h rx tx) same
           accepted = sym (none-accepted c w a e) i;
           lost = sym (none-lost c w a e) i;
           sent = sent c w a;
-          left = left c w a;
+          left = added c w a;
           handed = handedOut c w a;
           changes = changes c w a;
           empties = empties c w a;

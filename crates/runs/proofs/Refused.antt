@@ -21,12 +21,13 @@ use Rattle.state.specs.Answers.{Said, said, done, none, byte, frame, refused, p
 use Rattle.line.specs.HoldingOff.{nextOut, outAnswer}
 use Rattle.loops.specs.Sending.{sendState, sendFrom, sendStatus, ended}
 use Rattle.loops.specs.Frames.{command, readied, ready, returned, dataPassed, identify, frameTaken}
-use Rattle.bridge.specs.Calls.{create, reset, write, lineByte, lineBreak, key, nextLineByte, loopFrame, show, World, Did, checks, outcome, refusedOr, step}
+use Rattle.bridge.specs.Calls.{on, create, reset, write, lineByte, lineBreak, key, nextLineByte, loopFrame, show, World, Did, checks, outcome, refusedOr, step}
 use Rattle.bridge.specs.Calls as calls
-use Rattle.runs.specs.Observers.{taken, isFrame}
-use Rattle.runs.specs.Run.{after}
-use Rattle.runs.specs.Demands.{RefusedStays, OneFrameOut}
+use Rattle.laws.specs.Observers.{taken, isFrame}
+use Rattle.laws.specs.Demands.{RefusedStays, OneFrameOut}
 use Rattle.runs.proofs.Refusals.{or-refused, if-taken}
+use Rattle.runs.proofs.Steps.{after, ours, answer, at-call}
+use Rattle.machine.specs.Machine.{Obeys}
 
 -- a frame is answered
 abbrev Answers : Outcome → Type 0
@@ -87,19 +88,21 @@ module _ (w : World) where
   stays-or : (n : ℕ) (d : Did) → taken (d .said) ≡ true → Stays (refusedOr n d w)
   stays-or n d e = or-refused Stays n d w (λ _. refl) (λ _. not-refused d e)
 
-pub refused-stays : RefusedStays
+pub refused-stays : Obeys ours RefusedStays
 unfolding step calls.notRefused outcome said
-refused-stays (create m) w = stays-or w _ _ refl
-refused-stays reset w = stays-or w _ _ refl
-refused-stays (write n v) w = stays-or w _ _ refl
-refused-stays (lineByte b) w = stays-or w _ _ refl
-refused-stays lineBreak w = stays-or w _ _ refl
-refused-stays key w = stays-or w _ _ refl
-refused-stays nextLineByte w = stays-or w _ _ (out-taken (nextOut (w .state) (w .tx)))
-refused-stays (loopFrame f) w = stays-or w _ _ (frame-taken (said (frameTaken (w .state) (w .rx) f .answer)) (frame-answers (w .state) (w .rx) f))
-refused-stays (show side) w = λ _. refl
+refused-stays (create m) w B = stays-or w _ _ refl
+refused-stays (on reset) w B = stays-or w _ _ refl
+refused-stays (on (write n v)) w B = stays-or w _ _ refl
+refused-stays (on (lineByte b)) w B = stays-or w _ _ refl
+refused-stays (on lineBreak) w B = stays-or w _ _ refl
+refused-stays (on key) w B = stays-or w _ _ refl
+refused-stays (on nextLineByte) w B = stays-or w _ _ (out-taken (nextOut (w .state) (w .tx)))
+refused-stays (on (loopFrame f)) w B = stays-or w _ _ (frame-taken (said (frameTaken (w .state) (w .rx) f .answer)) (frame-answers (w .state) (w .rx) f))
+refused-stays (show side) w B = stays-or w _ _ refl
 
-pub one-frame-out : OneFrameOut
+pub one-frame-out : Obeys ours OneFrameOut
 unfolding step calls.notRefused outcome
-one-frame-out f w =
-    if-taken (λ (d : Did). isFrame (d .said) ≡ true) (firstRefusal (checks (loopFrame f) w)) (calls.notRefused (loopFrame f) w) w (λ _. frame-answers (w .state) (w .rx) f)
+one-frame-out c w B f =
+    at-call (λ c. taken (answer c w) ≡ true → isFrame (answer c w) ≡ true) (on (loopFrame f))
+    (if-taken (λ (d : Did). isFrame (d .said) ≡ true) (firstRefusal (checks (on (loopFrame f)) w)) (calls.notRefused (on (loopFrame f)) w) w (λ _. frame-answers (w .state) (w .rx) f))
+    c

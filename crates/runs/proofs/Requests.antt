@@ -2,7 +2,7 @@
 use Prim.Native.Nat.{ℕ}
 use mathlib.Core.Path.{_≡_, refl, sym, ap, subst, _∙_}
 use mathlib.Core.Bool.{Bool, true, false, cond, _&&_, _||_, not, false≢true}
-use mathlib.Core.List.{List, []}
+use mathlib.Core.List.{List, [], _∷_}
 use lib.Dec.{eqb}
 use Rattle.cases.proofs.Cases.{by-cond, and-right, cond-true, cond-false}
 use Rattle.cases.specs.Refusals.{firstRefusal}
@@ -25,19 +25,25 @@ use Rattle.line.specs.HoldingOff.{isGoOrStop, flowed, lostState, storedWith, li
 use Rattle.loops.specs.LoopToLine.{leftState}
 use Rattle.loops.specs.Sending.{sendFrom, sendStatus, talking, ended}
 use Rattle.loops.specs.Frames.{passed, cleared, frameTaken, deviceClear}
-use Rattle.bridge.specs.Calls.{Call, create, reset, write, lineByte, lineBreak, key, nextLineByte, loopFrame, show, World, Did, checks, outcome, settledBy, refusedOr, step}
+use Rattle.bridge.specs.Calls.{Call, on, create, reset, write, lineByte, lineBreak, key, nextLineByte, loopFrame, show, World, Did, checks, outcome, settledBy, refusedOr, step}
 use Rattle.bridge.specs.Calls as calls
-use Rattle.laws.specs.CallPlaces.{isDeviceClear}
-use Rattle.runs.specs.Observers.{taken, dataFrame, asksStatus, statusSent, restarts, clears}
-use Rattle.runs.specs.Run.{answer, after, empties}
-use Rattle.runs.specs.Events.{any}
-use Rattle.runs.specs.Requests.{requested, RequestsGo}
+use Rattle.laws.specs.Observers.{taken, dataFrame, asksStatus, statusSent, restarts, clears, empties, any}
+use Rattle.laws.specs.Worlds.{requested}
+use Rattle.registers.specs.Bits.{bit}
+use Rattle.store.specs.Bytes.{Bytes}
+use Rattle.laws.specs.Fitting.{Fits}
+use Rattle.laws.specs.Requests.{comes, RequestsGo}
+use Rattle.laws.specs.Requests as law
+use Rattle.laws.proofs.Refusing.{by-refusal, fitting}
+use Rattle.laws.proofs.Fitting.{state-good}
+use Rattle.runs.proofs.Conditions.{empty-same, room-same, some-same, full-same}
 use Rattle.runs.proofs.Answered.{status-frame}
-use Rattle.laws.proofs.FramePlaces.{clear-same}
 use Rattle.runs.proofs.Refused.{frame-answers, frame-taken}
 use Rattle.runs.proofs.FrameKinds.{Kind, isSent, isStatus, isBack, isCleared, isKept, isOther, clears-all, send-notes, kind-of}
 use Rattle.runs.proofs.Refusals.{or-refused, frame-fits}
 use Rattle.runs.proofs.Quiet.{same-either}
+use Rattle.runs.proofs.Steps.{answer, after, ours}
+use Rattle.machine.specs.Machine.{Obeys}
 
 -- nothing comes to hold where all is as it was
 no-comes : (t : Bool) → status.comes t t ≡ false
@@ -104,7 +110,7 @@ module _ (s : State) (rx : List ℕ) (f : ℕ) where
   stays : (o : Outcome) → asksStatus s f ≡ false → o .state .notes .request ≡ s .notes .request → Request o
   stays o a e = e ∙ and-true (s .notes .request) ∙ (λ i. s .notes .request && not (any (cond (sym a i) (dataFrame (said (o .answer))) [])))
 
-  request-kind : (o : Outcome) → Kind s rx f o → isDeviceClear s f ≡ false → Request o
+  request-kind : (o : Outcome) → Kind s rx f o → deviceClear s f ≡ false → Request o
   unfolding sendStatus talking ended leftState state-status.statusSent state-status.statusBack
   request-kind o (isSent m) n = stays (sendFrom s rx) (m .status) (ap (λ (x : Notes). x .request) (send-notes s rx f))
   request-kind o (isStatus m) n = and-false (s .notes .request) ∙ (λ i. s .notes .request && not (any (cond (sym (m .status) i) (sym (status-frame s) i) [])))
@@ -114,37 +120,37 @@ module _ (s : State) (rx : List ℕ) (f : ℕ) where
   request-kind o (isOther t k p m x) n = stays (passed t k) (m .status) (ap (λ (y : Notes). y .request) (x .notes))
 
 module _ (w : World) (f : ℕ) where
-  frame-goes : empties (loopFrame f) w (answer (loopFrame f) w) ≡ false → Goes (loopFrame f) w (step (loopFrame f) w)
+  frame-goes : empties (on (loopFrame f)) w (answer (on (loopFrame f)) w) ≡ false → Goes (on (loopFrame f)) w (step (on (loopFrame f)) w)
   unfolding step calls.notRefused outcome settledBy statusSent restarts clears
   frame-goes =
-      goes-or (loopFrame f) w (firstRefusal (checks (loopFrame f) w)) (calls.notRefused (loopFrame f) w) (same-either (asksStatus (w .state) f))
+      goes-or (on (loopFrame f)) w (firstRefusal (checks (on (loopFrame f)) w)) (calls.notRefused (on (loopFrame f)) w) (same-either (asksStatus (w .state) f))
       (λ e q. go (kind-of f w (frame-fits f w e)) (not-clear q))
     where
       o : Outcome
       o = frameTaken (w .state) (w .rx) f
 
-      not-clear : (taken (said (frameTaken (w .state) (w .rx) f .answer)) && isDeviceClear (w .state) f) ≡ false → isDeviceClear (w .state) f ≡ false
-      not-clear q = (λ i. sym (frame-taken (said (o .answer)) (frame-answers (w .state) (w .rx) f)) i && isDeviceClear (w .state) f) ∙ q
+      not-clear : (taken (said (frameTaken (w .state) (w .rx) f .answer)) && deviceClear (w .state) f) ≡ false → deviceClear (w .state) f ≡ false
+      not-clear q = (λ i. sym (frame-taken (said (o .answer)) (frame-answers (w .state) (w .rx) f)) i && deviceClear (w .state) f) ∙ q
 
-      go : Kind (w .state) (w .rx) f (frameTaken (w .state) (w .rx) f) → isDeviceClear (w .state) f ≡ false → Goes (loopFrame f) w (calls.notRefused (loopFrame f) w)
+      go : Kind (w .state) (w .rx) f (frameTaken (w .state) (w .rx) f) → deviceClear (w .state) f ≡ false → Goes (on (loopFrame f)) w (calls.notRefused (on (loopFrame f)) w)
       go k n =
-          subst (λ (t : State). t .notes .request ≡ ((w .state .notes .request && not (any (statusSent (loopFrame f) w (said (o .answer))))) || status.begins (asking (w .state)) (asking t)))
-          (sym (cond-false (deviceClear (w .state) f) (o .state) (settled (w .state) (o .state)) (sym (clear-same (w .state) f) ∙ n)))
-          (quiet (loopFrame f) w (said (o .answer)) (o .state) (request-kind (w .state) (w .rx) f o k n))
+          subst (λ (t : State). t .notes .request ≡ ((w .state .notes .request && not (any (statusSent (on (loopFrame f)) w (said (o .answer))))) || status.begins (asking (w .state)) (asking t)))
+          (sym (cond-false (deviceClear (w .state) f) (o .state) (settled (w .state) (o .state)) n))
+          (quiet (on (loopFrame f)) w (said (o .answer)) (o .state) (request-kind (w .state) (w .rx) f o k n))
 
 -- ---- every call
 
 goes : (c : Call) (w : World) → empties c w (answer c w) ≡ false → Goes c w (step c w)
 unfolding step calls.notRefused outcome settledBy said statusSent restarts breakState keyState afterWrite setAfresh clears
 goes (create m) w = goes-or (create m) w _ _ refl (λ _ q. absurd (false≢true (sym q)))
-goes reset w = goes-or reset w _ _ refl (λ _ q. absurd (false≢true (sym q)))
-goes (write n v) w = goes-or (write n v) w _ _ refl (λ _ _. quiet (write n v) w done _ (write-kept (w .state) n _ _ refl refl ∙ and-true (w .state .notes .request)))
-goes (lineByte b) w = goes-or (lineByte b) w _ _ refl (λ _ _. quiet (lineByte b) w done _ (line-kept (w .state) b ∙ and-true (w .state .notes .request)))
-goes lineBreak w = goes-or lineBreak w _ _ refl (λ _ _. quiet lineBreak w done _ (and-true (w .state .notes .request)))
-goes key w = goes-or key w _ _ refl (λ _ _. quiet key w done _ (and-true (w .state .notes .request)))
-goes nextLineByte w = goes-or nextLineByte w _ _ refl (λ _ _. quiet nextLineByte w done _ (gone-kept (w .state) (nextOut (w .state) (w .tx)) ∙ and-true (w .state .notes .request)))
-goes (loopFrame f) w = frame-goes w f
-goes (show side) w = λ _. and-true (w .state .notes .request) ∙ or-false (w .state .notes .request && true) ∙ (λ i. (w .state .notes .request && true) || sym (no-begins (asking (w .state))) i)
+goes (on reset) w = goes-or (on reset) w _ _ refl (λ _ q. absurd (false≢true (sym q)))
+goes (on (write n v)) w = goes-or (on (write n v)) w _ _ refl (λ _ _. quiet (on (write n v)) w done _ (write-kept (w .state) n _ _ refl refl ∙ and-true (w .state .notes .request)))
+goes (on (lineByte b)) w = goes-or (on (lineByte b)) w _ _ refl (λ _ _. quiet (on (lineByte b)) w done _ (line-kept (w .state) b ∙ and-true (w .state .notes .request)))
+goes (on lineBreak) w = goes-or (on lineBreak) w _ _ refl (λ _ _. quiet (on lineBreak) w done _ (and-true (w .state .notes .request)))
+goes (on key) w = goes-or (on key) w _ _ refl (λ _ _. quiet (on key) w done _ (and-true (w .state .notes .request)))
+goes (on nextLineByte) w = goes-or (on nextLineByte) w _ _ refl (λ _ _. quiet (on nextLineByte) w done _ (gone-kept (w .state) (nextOut (w .state) (w .tx)) ∙ and-true (w .state .notes .request)))
+goes (on (loopFrame f)) w = frame-goes w f
+goes (show side) w = goes-or (show side) w _ _ refl (λ _ _. and-true (w .state .notes .request) ∙ or-false (w .state .notes .request && true) ∙ (λ i. (w .state .notes .request && true) || sym (no-begins (asking (w .state))) i))
 
 -- ---- a create, reset or device clear
 
@@ -160,19 +166,72 @@ reset-none s t e q = λ i. q i || status.begins (asking s) (both (enabledBy (e i
 starts : (c : Call) (w : World) → empties c w (answer c w) ≡ true → requested (after c w) ≡ false
 unfolding step calls.notRefused outcome settledBy said restarts clears startState cleared
 starts (create m) w = starts-or (create m) w _ _ refl (λ _ _. refl)
-starts reset w = starts-or reset w _ _ refl (λ _ _. reset-none (w .state) (startState (w .state .sizes .margin) _ _) refl refl)
-starts (write n v) w = λ q. absurd (false≢true q)
-starts (lineByte b) w = λ q. absurd (false≢true q)
-starts lineBreak w = λ q. absurd (false≢true q)
-starts key w = λ q. absurd (false≢true q)
-starts nextLineByte w = λ q. absurd (false≢true q)
-starts (loopFrame f) w =
-    starts-or (loopFrame f) w _ _ refl
+starts (on reset) w = starts-or (on reset) w _ _ refl (λ _ _. reset-none (w .state) (startState (w .state .sizes .margin) _ _) refl refl)
+starts (on (write n v)) w = λ q. absurd (false≢true q)
+starts (on (lineByte b)) w = λ q. absurd (false≢true q)
+starts (on lineBreak) w = λ q. absurd (false≢true q)
+starts (on key) w = λ q. absurd (false≢true q)
+starts (on nextLineByte) w = λ q. absurd (false≢true q)
+starts (on (loopFrame f)) w =
+    starts-or (on (loopFrame f)) w _ _ refl
     (λ e q.
-    let n : isDeviceClear (w .state) f ≡ true = and-right (taken (said (frameTaken (w .state) (w .rx) f .answer))) _ q in
-    ap (λ (t : State). t .notes .request) (cond-true (deviceClear (w .state) f) (frameTaken (w .state) (w .rx) f .state) (settled (w .state) (frameTaken (w .state) (w .rx) f .state)) (sym (clear-same (w .state) f) ∙ n))
+    let n : deviceClear (w .state) f ≡ true = and-right (taken (said (frameTaken (w .state) (w .rx) f .answer))) _ q in
+    ap (λ (t : State). t .notes .request) (cond-true (deviceClear (w .state) f) (frameTaken (w .state) (w .rx) f .state) (settled (w .state) (frameTaken (w .state) (w .rx) f .state)) n)
     ∙ ap (λ (o : Outcome). o .state .notes .request) (clears-all (w .state) (w .rx) f _ (kind-of f w (frame-fits f w e)) n))
 starts (show side) w = λ q. absurd (false≢true q)
 
-pub requests-go : RequestsGo
-requests-go c w = record { starts = starts c w; goes = goes c w }
+-- ---- the conditions as a list
+
+abbrev asks : Conditions → List Bool
+asks c = c .txempty ∷ c .txnotfull ∷ c .rxnotempty ∷ c .rxfull ∷ c .brk ∷ c .overrun ∷ c .key ∷ []
+
+or-seven : (a b c d e f g : Bool) → (a || (b || (c || (d || (e || (f || (g || false))))))) ≡ ((((((a || b) || c) || d) || e) || f) || g)
+or-seven true b c d e f g = refl
+or-seven false true c d e f g = refl
+or-seven false false true d e f g = refl
+or-seven false false false true e f g = refl
+or-seven false false false false true f g = refl
+or-seven false false false false false true g = refl
+or-seven false false false false false false g = sym (or-false g)
+
+comes-so : (b a : Conditions) → comes (asks b) (asks a) ≡ status.begins b a
+unfolding comes
+comes-so b a =
+    or-seven (status.comes (b .txempty) (a .txempty)) (status.comes (b .txnotfull) (a .txnotfull)) (status.comes (b .rxnotempty) (a .rxnotempty)) (status.comes (b .rxfull) (a .rxfull))
+    (status.comes (b .brk) (a .brk)) (status.comes (b .overrun) (a .overrun)) (status.comes (b .key) (a .key))
+
+asks-so : (w : World) → Fits w → law.asking w ≡ asks (asking (w .state))
+unfolding asking enabledBy conditions
+asks-so w F =
+    let g = w .state .regs in
+    λ i. (bit 0 (g .r01) && sym (empty-same w F) i) ∷ (bit 1 (g .r01) && sym (room-same w F) i) ∷ (bit 2 (g .r01) && sym (some-same w F) i) ∷ (bit 3 (g .r01) && sym (full-same w F) i)
+    ∷ (bit 0 (g .r02) && w .state .notes .seen .brk) ∷ (bit 0 (g .r00) && w .state .notes .seen .overrun) ∷ (bit 2 (g .r02) && w .state .notes .seen .key) ∷ []
+
+comes-none : (xs : List Bool) → comes xs xs ≡ false
+unfolding comes
+comes-none [] = refl
+comes-none (x ∷ xs) = λ i. no-comes x i || comes-none xs i
+
+-- what comes to hold is the same by the list, in a call that is no create
+same-comes : (c : Call) (w : World) → Bytes (w .rx) → empties c w (answer c w) ≡ false →
+    comes (law.asking w) (law.asking (after c w)) ≡ status.begins (asking (w .state)) (asking (after c w .state))
+unfolding restarts calls.notRefused said
+same-comes c w B =
+    by-refusal (λ (d : Did). empties c w (d .said) ≡ false → comes (law.asking w) (law.asking (d .world)) ≡ status.begins (asking (w .state)) (asking (d .world .state))) c w
+    (go c) (λ _ _. comes-none (law.asking w) ∙ sym (no-begins (asking (w .state))))
+  where
+    go : (c : Call) → firstRefusal (checks c w) ≡ 0 → empties c w (calls.notRefused c w .said) ≡ false →
+        comes (law.asking w) (law.asking (calls.notRefused c w .world)) ≡ status.begins (asking (w .state)) (asking (calls.notRefused c w .world .state))
+    go (create m) e q = absurd (false≢true (sym q))
+    go (show side) e q = comes-none (law.asking w) ∙ sym (no-begins (asking (w .state)))
+    go (on c) e q =
+        let F : Fits w = fitting c w e .0 in
+        let G : Fits (calls.notRefused (on c) w .world) = state-good w B F c e in
+        (λ i. comes (asks-so w F i) (asks-so (calls.notRefused (on c) w .world) G i)) ∙ comes-so (asking (w .state)) (asking (calls.notRefused (on c) w .world .state))
+
+pub requests-go : Obeys ours RequestsGo
+requests-go c w B =
+    record {
+      starts = starts c w;
+      goes = λ q. goes c w q ∙ ap (λ (t : Bool). (requested w && not (any (statusSent c w (answer c w)))) || t) (sym (same-comes c w B q));
+    }

@@ -25,21 +25,23 @@ use Rattle.state.proofs.Fits.{tests}
 use Rattle.line.specs.HoldingOff.{resumed}
 use Rattle.loops.specs.Sending.{ruleOf, talking, ended, removedState, sendState, sendFrom}
 use Rattle.cases.specs.Refusals.{firstRefusal}
-use Rattle.cases.proofs.Cases.{and-left, and-right, cond-true}
+use Rattle.cases.proofs.Cases.{and-left, and-right, cond-false}
 use Rattle.state.specs.declared.Outcome.{Outcome}
 use Rattle.state.specs.Answers.{said}
 use Rattle.loops.specs.Frames.{deviceClear}
-use Rattle.bridge.specs.Calls.{loopFrame, World, Did, checks, outcome, settledBy, step}
+use Rattle.bridge.specs.Calls.{on, loopFrame, World, Did, checks, outcome, settledBy, step}
 use Rattle.bridge.specs.Calls as calls
-use Rattle.laws.specs.Fitting.{AllBytes}
-use Rattle.runs.specs.Observers.{dataFrame, sent}
-use Rattle.runs.specs.Worlds.{heldToSend}
-use Rattle.runs.specs.Resuming.{EmptySendResumes}
+use Rattle.store.specs.Bytes.{Bytes}
+use Rattle.laws.specs.Observers.{taken, isSend, dataFrame, sent}
+use Rattle.laws.specs.Worlds.{holdsOff, heldToSend}
+use Rattle.laws.specs.Resuming.{EmptySendResumes}
 use Rattle.runs.proofs.Shapes.{Fits}
 use Rattle.runs.proofs.Refusals.{if-taken, frame-fits}
-use Rattle.runs.proofs.Bytes.{sent-plain}
+use Rattle.runs.proofs.Bytes.{sent-plain, held-all}
 use Rattle.runs.proofs.Sends.{seen-plain}
-use Rattle.runs.proofs.FrameKinds.{sends-from, kind-of}
+use Rattle.runs.proofs.FrameKinds.{send-alone, sends-from, kind-of}
+use Rattle.machine.specs.Machine.{Obeys}
+use Rattle.runs.proofs.Steps.{ours, answer, after, at-call}
 
 -- ---- two bytes at most are undecided
 
@@ -128,7 +130,7 @@ none-resumes s rx tx r e h = unfold removedState resumed in off (s .line .holdin
 
 -- ---- every send
 
-module _ (w : World) (B : AllBytes (heldToSend w)) (F : Fits w) where
+module _ (w : World) (B : Bytes (heldToSend w)) (F : Fits w) where
   abbrev Resumes : Outcome → Type 0
   Resumes o = dataFrame (said (o .answer)) ≡ [] → o .state .line .holding ≡ false
 
@@ -145,11 +147,15 @@ unfolding settled
 settled-off s u true h = h
 settled-off s u false h = h
 
-pub empty-send-resumes : EmptySendResumes
+pub empty-send-resumes : Obeys ours EmptySendResumes
 unfolding step calls.notRefused outcome settledBy sent
-empty-send-resumes f w B t S n =
-    if-taken (λ (d : Did). dataFrame (d .said) ≡ [] → d .world .state .line .holding ≡ false) (firstRefusal (checks (loopFrame f) w)) (calls.notRefused (loopFrame f) w) w
+empty-send-resumes c w b f =
+    at-call (λ c. taken (answer c w) ≡ true → isSend (w .state) f ≡ true → sent c w (answer c w) ≡ [] → holdsOff (after c w) ≡ false) (on (loopFrame f))
+    (λ t S n.
+    let B = held-all w b in
+    if-taken (λ (d : Did). dataFrame (d .said) ≡ [] → d .world .state .line .holding ≡ false) (firstRefusal (checks (on (loopFrame f)) w)) (calls.notRefused (on (loopFrame f)) w) w
     (λ e q.
     let F : Fits w = frame-fits f w e in
     settled-off (w .state) _ (deviceClear (w .state) f) (subst (Resumes w B F) (sym (sends-from (w .state) (w .rx) f _ (kind-of f w F) S)) (send-resumes w B F) q))
-    t (sym (cond-true _ _ _ S) ∙ n)
+    t (sym (cond-false _ _ _ (send-alone (w .state) f S)) ∙ n))
+    c

@@ -21,7 +21,7 @@ use Rattle.state.specs.declared.State.{State}
 use Rattle.state.specs.declared.Answer.the-variants.{Frame}
 use Rattle.state.specs.Answers.{said}
 use Rattle.state.specs.Status.{serviced}
-use Rattle.runs.specs.Observers.{dataFrame}
+use Rattle.laws.specs.Observers.{dataFrame}
 use Rattle.runs.proofs.Answered.{serviced-kind, serviced-rest}
 use Rattle.runs.proofs.Bytes.{Plain}
 

@@ -22,14 +22,16 @@ use Rattle.state.specs.Status.{shows, serviced, statusOf, statusBack}
 use Rattle.loops.specs.Sending.{ruleOf, removedState, sendState, sendFrom, sendStatus, ended}
 use Rattle.loops.specs.Frames.{command, readied, ready, returned, dataPassed, identify, frameTaken}
 use Rattle.cases.specs.Refusals.{firstRefusal}
-use Rattle.bridge.specs.Calls.{loopFrame, World, Did, checks, outcome, refusedOr, step}
+use Rattle.bridge.specs.Calls.{on, loopFrame, World, Did, checks, outcome, refusedOr, step}
 use Rattle.bridge.specs.Calls as calls
-use Rattle.laws.specs.Fitting.{AllBytes}
-use Rattle.runs.specs.Observers.{passesOn}
-use Rattle.runs.specs.Worlds.{heldToSend}
-use Rattle.runs.specs.Service.{carriesService, ServiceRight, ServiceBit}
+use Rattle.store.specs.Bytes.{Bytes}
+use Rattle.laws.specs.Observers.{passesOn}
+use Rattle.laws.specs.Worlds.{heldToSend}
+use Rattle.laws.specs.Service.{carriesService, ServiceRight, ServiceBit}
 use Rattle.runs.proofs.Answered.{serviced-kind, serviced-rest, status-small}
-use Rattle.runs.proofs.Bytes.{Plain, plain-data, sent-plain}
+use Rattle.runs.proofs.Bytes.{Plain, plain-data, sent-plain, held-all}
+use Rattle.machine.specs.Machine.{Obeys}
+use Rattle.runs.proofs.Steps.{ours, answer, at-call}
 
 -- the service bit of a frame that gets it if a request shows
 serviced-bit : (s : State) (f : ℕ) → hasService (serviced s f) ≡ (shows s || hasService f)
@@ -61,12 +63,11 @@ module _ (w : World) (f : ℕ) where
   -- a frame of our own, in answer to a frame that does not pass and is no command
   module _ (N : passesOn (w .state) f ≡ false) (C : controlOf f ≡ 4 → ⊥) where
     own : (g : ℕ) → Plain g → Right (said (Frame (serviced (w .state) g)))
+    unfolding shows
     own g p =
         answers (serviced (w .state) g)
         (record {
           bit = λ _. serviced-bit (w .state) g ∙ ap (λ t. shows (w .state) || t) (bare-bit g p ∙ sym (ap (λ t. t && hasService f) N));
-          rest = λ e. absurd (false≢true (sym N ∙ e));
-          command = λ e. absurd (C e);
           other = λ _ _. ap (λ t. t || eqb (controlOf (serviced (w .state) g)) 5) (serviced-kind (w .state) g ∙ p .isdata);
         })
 
@@ -76,12 +77,10 @@ module _ (w : World) (f : ℕ) where
         answers x
         (record {
           bit = λ h. absurd (false≢true (sym (ap carriesService e) ∙ h));
-          rest = λ h. absurd (false≢true (sym N ∙ h));
-          command = λ h. absurd (C h);
           other = λ _ _. ap (λ k. ltb k 4 || eqb k 5) e;
         })
 
-    send-right : AllBytes (heldToSend w) → OutRight (sendFrom (w .state) (w .rx))
+    send-right : Bytes (heldToSend w) → OutRight (sendFrom (w .state) (w .rx))
     unfolding sendFrom sendState ended sendHeld
     send-right B = go (sendHeld (ruleOf (w .state .regs)) (w .rx) (w .state .rx)) refl
       where
@@ -97,7 +96,7 @@ module _ (w : World) (f : ℕ) where
     unfolding ended
     ended-right s d h = plain-ready (made 5 d) (omega arith)
 
-    return-right : AllBytes (heldToSend w) → OutRight (returned (w .state) (w .rx) f)
+    return-right : Bytes (heldToSend w) → OutRight (returned (w .state) (w .rx) f)
     unfolding returned
     return-right B =
         by-cond OutRight (sameApart f (w .state .under .frame)) _ _
@@ -105,7 +104,7 @@ module _ (w : World) (f : ℕ) where
         (λ _. by-cond OutRight (w .state .under .finishing) _ _ (λ _. ended-right (w .state) 64 (omega arith)) (λ _. send-right B)))
         (λ _. ended-right (w .state) 65 (omega arith))
 
-    ready-right : AllBytes (heldToSend w) → controlOf f ≡ 5 → OutRight (ready (w .state) (w .rx) f)
+    ready-right : Bytes (heldToSend w) → controlOf f ≡ 5 → OutRight (ready (w .state) (w .rx) f)
     unfolding ready readied readyOf
     ready-right B R =
         by-cond Readied (givesAddress (w .state .role) (dataOf f)) _ _ (λ e. plain-ready (made 5 (dataOf f + 1)) (next e))
@@ -123,12 +122,11 @@ module _ (w : World) (f : ℕ) where
 
   -- a frame that passes
   passed-right : passesOn (w .state) f ≡ true → (controlOf f ≡ 4 → ⊥) → Right (said (Frame (serviced (w .state) f)))
+  unfolding shows
   passed-right P C =
       answers (serviced (w .state) f)
       (record {
         bit = λ _. serviced-bit (w .state) f ∙ ap (λ t. shows (w .state) || (t && hasService f)) (sym P);
-        rest = λ _. ap stripped (made-parts (serviced (w .state) f)) ∙ serviced-rest (w .state) f;
-        command = λ e. absurd (C e);
         other = λ n _. absurd (false≢true (sym n ∙ P));
       })
 
@@ -138,8 +136,6 @@ module _ (w : World) (f : ℕ) where
       answers f
       (record {
         bit = λ h. absurd (false≢true (sym (ap carriesService C) ∙ h));
-        rest = λ h. absurd (false≢true (sym N ∙ h));
-        command = λ _. made-parts f;
         other = λ _ n. absurd (n C);
       })
 
@@ -148,7 +144,7 @@ module _ (w : World) (f : ℕ) where
   abbrev passing : Bool → Bool → Bool → Bool
   passing x a i = (x && not a) || i
 
-  frame-right : AllBytes (heldToSend w) → OutRight (frameTaken (w .state) (w .rx) f)
+  frame-right : Bytes (heldToSend w) → OutRight (frameTaken (w .state) (w .rx) f)
   unfolding frameTaken passesOn dataPassed identify
   frame-right B =
       by-cond OutRight (isData f) _ _
@@ -170,11 +166,13 @@ module _ (w : World) (f : ℕ) where
   refused-right : (n : ℕ) → Right (refused n)
   refused-right n k d e = let z : _≡_ {A = ℕ} 0 1 = cc in absurd (omega arith)
 
-pub service-bit : ServiceBit
+pub service-bit : Obeys ours ServiceBit
 unfolding step refusedOr calls.notRefused outcome
-service-bit f k d w B =
-    let n = firstRefusal (checks (loopFrame f) w) in
-    by-cond (λ (x : Did). Right w f (x .said)) (eqb n 0) (calls.notRefused (loopFrame f) w) (record { said = refused n; world = w })
-    (λ _. frame-right w f B)
+service-bit c w b f k d =
+    at-call (λ c. answer c w ≡ frame k d → ServiceRight w f k d) (on (loopFrame f))
+    (let n = firstRefusal (checks (on (loopFrame f)) w) in
+    by-cond (λ (x : Did). Right w f (x .said)) (eqb n 0) (calls.notRefused (on (loopFrame f)) w) (record { said = refused n; world = w })
+    (λ _. frame-right w f (held-all w b))
     (λ _. refused-right w f n)
-    k d
+    k d)
+    c

@@ -20,8 +20,7 @@ use Rattle.state.specs.Status.{serviced}
 use Rattle.line.specs.HoldingOff.{storedState}
 use Rattle.loops.specs.Sending.{ruleOf, removedState}
 use Rattle.bridge.specs.Calls.{Call, World}
-use Rattle.runs.specs.Observers.{dataFrame, arrived, accepted, lost, sent, left, handedOut}
-use Rattle.runs.specs.Run.{changes, empties, startsAnew}
+use Rattle.laws.specs.Observers.{dataFrame, arrived, accepted, lost, sent, added, handedOut, changes, empties, startsAnew}
 
 -- all that is seen of a call
 pub record Seen : Type 0 where
@@ -42,7 +41,7 @@ seen c w a =
       accepted = accepted c w a;
       lost = lost c w a;
       sent = sent c w a;
-      left = left c w a;
+      left = added c w a;
       handed = handedOut c w a;
       changes = changes c w a;
       empties = empties c w a;

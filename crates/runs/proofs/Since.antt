@@ -1,20 +1,21 @@
 -- What is read since the receive store was emptied. Assumes nothing.
 use Prim.Native.Nat.{ℕ}
-use mathlib.Core.Path.{_≡_, sym, ap, subst, _∙_}
+use mathlib.Core.Path.{_≡_, ap, _∙_}
 use mathlib.Core.Bool.{true, false≢true}
 use mathlib.Core.List.{List, [], _++_}
 use Rattle.store.specs.Ring.{held}
 use Rattle.store.proofs.Laws.{held-empty}
 use Rattle.state.specs.Sizes.{startState}
 use Rattle.bridge.specs.Calls.{World}
-use Rattle.laws.specs.Fitting.{AllBytes}
-use Rattle.runs.specs.Observers.{accepted}
-use Rattle.runs.specs.Run.{answer, after, all}
-use Rattle.runs.specs.Worlds.{heldToSend, reading}
-use Rattle.runs.specs.SendRule.{FramesSince}
+use Rattle.laws.specs.Observers.{accepted}
+use Rattle.laws.specs.Worlds.{heldToSend, reading}
+use Rattle.laws.specs.SendRule.{FramesSince}
 use Rattle.runs.proofs.Shapes.{Seen, seen, Heart, heart, Shape, isStill, isBegun, isWritten, isCleared, isStored, isLost, isSent, isNone, isLeft, isHanded}
 use Rattle.runs.proofs.View.{view}
 use Rattle.runs.proofs.FramesRead.{frames-read}
+use Rattle.runs.proofs.Steps.{answer, after, all, ours}
+use Rattle.machine.specs.Machine.{Obeys}
+use Rattle.laws.proofs.Fitting.{keeps-bytes}
 
 emptied : (w : World) (x : Seen) (h : Heart) (rx tx : List ℕ) → Shape w x h rx tx → x .empties ≡ true → held rx (h .rx) ≡ []
 unfolding startState
@@ -29,9 +30,9 @@ emptied w x h rx tx (isNone r F e) n = absurd (false≢true n)
 emptied w x h rx tx (isLeft l F e) n = absurd (false≢true n)
 emptied w x h rx tx (isHanded F e) n = absurd (false≢true n)
 
-pub frames-since : FramesSince
-frames-since c w e cs n B =
-    frames-read cs (after c w) n (subst (λ (l : List ℕ). AllBytes (l ++ all accepted cs (after c w))) (sym none) B)
+pub frames-since : Obeys ours FramesSince
+frames-since c cs w B j k e n =
+    frames-read cs (after c w) (keeps-bytes c w j B) k n
     ∙ ap (λ (l : List ℕ). reading (after c w) (l ++ all accepted cs (after c w))) none
   where
     none : heldToSend (after c w) ≡ []

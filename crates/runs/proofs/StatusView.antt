@@ -2,7 +2,7 @@
 use Prim.Native.Nat.{ℕ}
 use native.Mathlib.Omega.{arith}
 use mathlib.Core.Path.{_≡_, refl, sym, ap, _∙_}
-use mathlib.Core.Bool.{Bool, true, false, cond, _&&_}
+use mathlib.Core.Bool.{Bool, true, false, cond, _&&_, and-false}
 use mathlib.Core.List.{[], _∷_}
 use lib.Dec.{eqb}
 use borrow.Author.Tests.{ne-eqb, leb-false}
@@ -35,18 +35,17 @@ use Rattle.line.specs.HoldingOff.{isGoOrStop, flowed, lostState, storedWith, li
 use Rattle.loops.specs.LoopToLine.{leftState}
 use Rattle.loops.specs.Sending.{ruleOf, removedState, sendState, sendFrom, sendStatus, talking, ended}
 use Rattle.loops.specs.Frames.{isClear, orderIn, obeyed, commandState, command, finishing, readied, ready, returned, dataPassed, identify, frameTaken, deviceClear}
-use Rattle.bridge.specs.Calls.{Call, create, reset, write, lineByte, lineBreak, key, nextLineByte, loopFrame, show, World, Did, outcome, settledBy, refusedOr, step}
+use Rattle.bridge.specs.Calls.{Call, on, create, reset, write, lineByte, lineBreak, key, nextLineByte, loopFrame, show, World, Did, outcome, settledBy, refusedOr, step}
 use Rattle.bridge.specs.Calls as calls
-use Rattle.laws.specs.CallPlaces.{isDeviceClear}
-use Rattle.runs.specs.Observers.{taken, dataFrame, asksStatus, statusSent, restarts, clears}
-use Rattle.runs.specs.Run.{answer, after, empties}
-use Rattle.runs.specs.StatusWay.{endsWay, statusBack}
-use Rattle.runs.specs.Events.{Event, broken, overrun, pressed}
+use Rattle.laws.specs.Observers.{taken, dataFrame, asksStatus, statusSent, restarts, clears, empties}
+use Rattle.laws.specs.StatusWay.{endsWay, statusBack}
+use Rattle.laws.specs.Events.{Event, broken, overrun, pressed, noted}
 use Rattle.runs.proofs.Refusals.{or-refused}
 use Rattle.runs.proofs.Quiet.{same-either}
 use Rattle.runs.proofs.Answered.{status-frame}
-use Rattle.laws.proofs.FramePlaces.{clear-order}
+use Rattle.loops.proofs.Clears.{clear-order}
 use Rattle.runs.proofs.FrameKinds.{address-high}
+use Rattle.runs.proofs.Steps.{answer, after}
 
 -- the part of a state that this is about
 pub record Part : Type 0 where
@@ -57,11 +56,6 @@ pub record Part : Type 0 where
 
 abbrev pub part : State → Part
 part s = record { talker = s .role .talker; frame = s .under .frame; seen = s .notes .seen; again = s .notes .again }
-
-abbrev pub noted : Event → Events → Bool
-noted broken x = x .brk
-noted overrun x = x .overrun
-noted pressed x = x .key
 
 -- what is noted there is noted here
 abbrev pub Keeps : Events → Events → Type 0
@@ -149,7 +143,7 @@ obeyed-idle r Nothing = merely r
 
 module _ (w : World) (f : ℕ) where
   abbrev FrameKind : Outcome → Type 0
-  FrameKind o = Kind (loopFrame f) w (said (o .answer)) (part (o .state))
+  FrameKind o = Kind (on (loopFrame f)) w (said (o .answer)) (part (o .state))
 
   send-kind : FrameKind (sendFrom (w .state) (w .rx))
   unfolding sendFrom sendState ended talking removedState resumed
@@ -168,13 +162,13 @@ module _ (w : World) (f : ℕ) where
       (λ _. by-cond FrameKind (w .state .under .finishing) _ _ (λ _. idles refl (keeps _)) (λ _. send-kind)))
       (λ _. idles refl (keeps _))
     where
-      back : sameApart f (w .state .under .frame) ≡ true → statusBack (stripped (w .state .under .frame) ∷ []) (loopFrame f) (said (Frame (made 5 64))) ≡ true
+      back : sameApart f (w .state .under .frame) ≡ true → statusBack (stripped (w .state .under .frame) ∷ []) (on (loopFrame f)) (said (Frame (made 5 64))) ≡ true
       back m = λ i. D i && stripped-same f (stripped (w .state .under .frame)) (same-stripped f _ m ∙ sym (stripped-twice (w .state .under .frame))) i
 
   pass-kind : isActive (w .state .role) ≡ false → FrameKind (dataPassed (w .state) f)
   unfolding dataPassed leftState
   pass-kind A =
-      by-cond (λ (t : State). Kind (loopFrame f) w (said (Frame (serviced (w .state) f))) (part t)) (w .state .role .listener) _ _
+      by-cond (λ (t : State). Kind (on (loopFrame f)) w (said (Frame (serviced (w .state) f))) (part t)) (w .state .role .listener) _ _
       (λ _. idles off (keeps _))
       (λ _. idles off (keeps _))
     where
@@ -182,24 +176,20 @@ module _ (w : World) (f : ℕ) where
       off = ne-eqb (w .state .role .talker) 3 (λ h. omega (arith, leb-false 2 (w .state .role .talker) A))
 
   command-kind : eqb (controlOf f) 4 ≡ true → FrameKind (command (w .state) f)
-  unfolding command commandState obeyed restarts clears isDeviceClear said
+  unfolding command commandState obeyed restarts clears deviceClear said
   command-kind C =
-      by-cond (λ (t : State). Kind (loopFrame f) w (said (Frame f)) (part t)) (isClear (orderIn (w .state) f)) _ _
+      by-cond (λ (t : State). Kind (on (loopFrame f)) w (said (Frame f)) (part t)) (isClear (orderIn (w .state) f)) _ _
       (λ e. begins (clear e))
       (λ _. idles (obeyed-idle (w .state .role) (orderIn (w .state) f)) (keeps _))
     where
-      clear : isClear (orderIn (w .state) f) ≡ true → empties (loopFrame f) w (said (Frame f)) ≡ true
+      clear : isClear (orderIn (w .state) f) ≡ true → empties (on (loopFrame f)) w (said (Frame f)) ≡ true
       clear e = (λ i. C i && sym (clear-order (w .state .role) (dataOf f)) i) ∙ e
 
   -- a frame that is neither data nor a command leaves what is under way
-  on-kind : (o : Outcome) → isData f ≡ false → eqb (controlOf f) 4 ≡ false → statusSent (loopFrame f) w (said (o .answer)) ≡ [] → part (o .state) ≡ part (w .state) →
+  on-kind : (o : Outcome) → isData f ≡ false → eqb (controlOf f) 4 ≡ false → statusSent (on (loopFrame f)) w (said (o .answer)) ≡ [] → part (o .state) ≡ part (w .state) →
       FrameKind o
   unfolding endsWay
-  on-kind o D C e p = goesOn e (simp (D, C) (never (taken (said (o .answer))))) (same (w .state) (part (o .state)) p)
-    where
-      never : (t : Bool) → (t && false) ≡ false
-      never true = refl
-      never false = refl
+  on-kind o D C e p = goesOn e (simp (D, C) (and-false (taken (said (o .answer))))) (same (w .state) (part (o .state)) p)
 
   ready-kind : isData f ≡ false → eqb (controlOf f) 4 ≡ false → eqb (controlOf f) 5 ≡ true → FrameKind (ready (w .state) (w .rx) f)
   unfolding ready readied readyOf finishing sendStatus talking status.statusSent statusSent asksStatus
@@ -237,14 +227,14 @@ module _ (w : World) (f : ℕ) where
       (λ D. by-cond FrameKind (eqb (controlOf f) 4) _ _ command-kind
       (λ C. by-cond FrameKind (eqb (controlOf f) 5) _ _ (ready-kind D C) (identify-kind D C)))
 
-  frame-kind : Kind (loopFrame f) w (calls.notRefused (loopFrame f) w .said) (part (calls.notRefused (loopFrame f) w .world .state))
+  frame-kind : Kind (on (loopFrame f)) w (calls.notRefused (on (loopFrame f)) w .said) (part (calls.notRefused (on (loopFrame f)) w .world .state))
   unfolding calls.notRefused outcome settledBy settled
   frame-kind = by-clear (deviceClear (w .state) f) frame-taken
     where
       o : Outcome
       o = frameTaken (w .state) (w .rx) f
 
-      by-clear : (t : Bool) → FrameKind o → Kind (loopFrame f) w (said (o .answer)) (part (cond t (o .state) (settled (w .state) (o .state))))
+      by-clear : (t : Bool) → FrameKind o → Kind (on (loopFrame f)) w (said (o .answer)) (part (cond t (o .state) (settled (w .state) (o .state))))
       by-clear true x = x
       by-clear false x = x
 
@@ -271,13 +261,13 @@ write-left s n v = by-cond (λ (t : State). Left s (part t)) (eqb n 11) _ _ (λ 
 refused-kind : (c : Call) (w : World) (n : ℕ) → Kind c w (refused n) (part (w .state))
 unfolding statusSent endsWay restarts
 refused-kind (create m) w n = goesOn refl refl (same _ _ refl)
-refused-kind reset w n = goesOn refl refl (same _ _ refl)
-refused-kind (write k v) w n = goesOn refl refl (same _ _ refl)
-refused-kind (lineByte b) w n = goesOn refl refl (same _ _ refl)
-refused-kind lineBreak w n = goesOn refl refl (same _ _ refl)
-refused-kind key w n = goesOn refl refl (same _ _ refl)
-refused-kind nextLineByte w n = goesOn refl refl (same _ _ refl)
-refused-kind (loopFrame f) w n = goesOn (same-either (asksStatus (w .state) f)) refl (same _ _ refl)
+refused-kind (on reset) w n = goesOn refl refl (same _ _ refl)
+refused-kind (on (write k v)) w n = goesOn refl refl (same _ _ refl)
+refused-kind (on (lineByte b)) w n = goesOn refl refl (same _ _ refl)
+refused-kind (on lineBreak) w n = goesOn refl refl (same _ _ refl)
+refused-kind (on key) w n = goesOn refl refl (same _ _ refl)
+refused-kind (on nextLineByte) w n = goesOn refl refl (same _ _ refl)
+refused-kind (on (loopFrame f)) w n = goesOn (same-either (asksStatus (w .state) f)) refl (same _ _ refl)
 refused-kind (show side) w n = goesOn refl refl (same _ _ refl)
 
 abbrev Did-kind : Call → World → Did → Type 0
@@ -289,15 +279,15 @@ refused-or c w n d k = or-refused (Did-kind c w) n d w (refused-kind c w n) (λ 
 pub kind : (c : Call) (w : World) → Kind c w (answer c w) (part (after c w .state))
 unfolding step calls.notRefused outcome settledBy settled said statusSent endsWay restarts breakState keyState
 kind (create m) w = refused-or (create m) w _ _ (begins refl)
-kind reset w = refused-or reset w _ _ (begins refl)
-kind (write n v) w = refused-or (write n v) w _ _ (goesOn refl refl (write-left (w .state) n v))
-kind (lineByte b) w = refused-or (lineByte b) w _ _ (goesOn refl refl (line-left (w .state) b))
-kind lineBreak w =
-    refused-or lineBreak w _ _
+kind (on reset) w = refused-or (on reset) w _ _ (begins refl)
+kind (on (write n v)) w = refused-or (on (write n v)) w _ _ (goesOn refl refl (write-left (w .state) n v))
+kind (on (lineByte b)) w = refused-or (on (lineByte b)) w _ _ (goesOn refl refl (line-left (w .state) b))
+kind (on lineBreak) w =
+    refused-or (on lineBreak) w _ _
     (goesOn refl refl (record { talker = refl; frame = refl; seen = noting broken (w .state .notes .seen); again = noting broken (w .state .notes .again) }))
-kind key w =
-    refused-or key w _ _
+kind (on key) w =
+    refused-or (on key) w _ _
     (goesOn refl refl (record { talker = refl; frame = refl; seen = noting pressed (w .state .notes .seen); again = noting pressed (w .state .notes .again) }))
-kind nextLineByte w = refused-or nextLineByte w _ _ (goesOn refl refl (gone-left (w .state) (nextOut (w .state) (w .tx))))
-kind (loopFrame f) w = refused-or (loopFrame f) w _ _ (frame-kind w f)
-kind (show side) w = goesOn refl refl (same _ _ refl)
+kind (on nextLineByte) w = refused-or (on nextLineByte) w _ _ (goesOn refl refl (gone-left (w .state) (nextOut (w .state) (w .tx))))
+kind (on (loopFrame f)) w = refused-or (on (loopFrame f)) w _ _ (frame-kind w f)
+kind (show side) w = refused-or (show side) w _ _ (goesOn refl refl (same _ _ refl))

@@ -1,5 +1,6 @@
 -- What an answer is in the paper.
 use Prim.Native.Nat.{ℕ}
+use mathlib.Core.Bool.{Bool, true, false}
 use mathlib.Core.List.{List}
 use Rattle.frame.specs.Frame.{controlOf, dataOf}
 use Rattle.state.specs.declared.Answer.{Answer}
@@ -14,6 +15,15 @@ pub data Said : Type 0 where
   frame : ℕ → ℕ → Said
   refused : ℕ → Said
   part : List ℕ → Said
+
+-- the call was refused
+abbrev pub isRefusal : Said → Bool
+isRefusal (refused n) = true
+isRefusal done = false
+isRefusal none = false
+isRefusal (byte b) = false
+isRefusal (frame k d) = false
+isRefusal (part xs) = false
 
 -- the paper's number and values for each case of the answer; showing has no such answer, it returns the part itself
 unfoldable pub said : Answer → Said

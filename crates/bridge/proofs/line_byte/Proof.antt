@@ -2,25 +2,24 @@ use mathlib.Core.Path.{refl, ap}
 use mathlib.Core.List.{[]}
 use denote.Ref.{now}
 use Rattle.state.proofs.Fits.{is-misfit, is-fit, rx-fits}
-use Rattle.bridge.specs.Calls.{step, checks, outcome, settledBy, rxAfter, txAfter, doneWith, lineByte}
+use Rattle.bridge.specs.Calls.{checksOn, doneWith, outcome, settledBy, rxAfter, txAfter, lineByte}
 use Rattle.bridge.proofs.Steps.{misfit-met, done-met}
 use borrow.Author.Needs.{needs}
 use Rattle.bridge.proofs.line_byte.Statement.{statement}
 use Rattle.bridge.proofs.line_byte.Tie as tie
 
 returns : tie.Need-returns
-unfolding step checks
 returns c =
-    misfit-met (c .before .before .before .before .before .args .s) (now (c .before .before .before .before .before .args .rx)) (now (c .before .before .before .before .before .args .tx)) (is-misfit (c .before .before .state-fits .ensures) (c .before .if1 .taken)) (lineByte (c .before .before .before .before .before .args .b)) [] _ refl (c .refused .ensures)
+    misfit-met (c .before .before .before .before .before .args .s) (now (c .before .before .before .before .before .args .rx)) (now (c .before .before .before .before .before .args .tx)) (is-misfit (c .before .before .state-fits .ensures) (c .before .if1 .taken)) (lineByte (c .before .before .before .before .before .args .b)) _ (c .refused .ensures)
 
 taken-requires : tie.Need-taken-requires
 taken-requires c κs =
     rx-fits (c .before .before .before .before .before .args .s) (now (c .before .before .before .before .before .args .rx)) (now (c .before .before .before .before .before .args .tx)) (is-fit (c .before .before .state-fits .ensures) (c .before .if1 .left))
 
 returns-2 : tie.Need-returns-2
-unfolding step checks outcome settledBy rxAfter txAfter
+unfolding checksOn outcome settledBy rxAfter txAfter
 returns-2 c =
-    done-met (c .before .before .before .before .before .before .before .before .before .before .args .s) (now (c .before .before .before .before .before .before .before .before .before .before .args .rx)) (now (c .before .before .before .before .before .before .before .before .before .before .args .tx)) (is-fit (c .before .before .before .before .before .before .before .state-fits .ensures) (c .before .before .before .before .before .before .if1 .left)) (lineByte (c .before .before .before .before .before .before .before .before .before .before .args .b)) [] _ _ _ _ _ refl refl (ap doneWith (c .before .before .before .before .taken .ensures .state)) refl (c .before .before .before .before .taken .ensures .bytes) refl (c .before .settled .ensures) (c .done .ensures)
+    done-met (c .before .before .before .before .before .before .before .before .before .before .args .s) (now (c .before .before .before .before .before .before .before .before .before .before .args .rx)) (now (c .before .before .before .before .before .before .before .before .before .before .args .tx)) (is-fit (c .before .before .before .before .before .before .before .state-fits .ensures) (c .before .before .before .before .before .before .if1 .left)) (lineByte (c .before .before .before .before .before .before .before .before .before .before .args .b)) _ _ _ _ _ refl (ap doneWith (c .before .before .before .before .taken .ensures .state)) refl (c .before .before .before .before .taken .ensures .bytes) refl (c .before .settled .ensures) (c .done .ensures)
 
 pub line-byte-spec : {M : Type 1} → statement M
 line-byte-spec =

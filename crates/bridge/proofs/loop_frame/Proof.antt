@@ -2,30 +2,29 @@ use mathlib.Core.Path.{refl, sym, _∙_}
 use denote.Ref.{now}
 use native.Mathlib.Omega.{arith}
 use Rattle.state.proofs.Fits.{is-misfit, is-fit, rx-fits, tx-fits, tx-room}
-use Rattle.bridge.specs.Calls.{step, checks, outcome, settledBy, rxAfter, txAfter, loopFrame}
-use Rattle.bridge.proofs.Steps.{frameChecks, misfit-met, refused-met, frame-large, frame-busy, frame-done}
+use Rattle.bridge.specs.Calls.{checksOn, outcome, settledBy, rxAfter, txAfter, loopFrame}
+use Rattle.bridge.proofs.Steps.{misfit-met, refused-met, frame-large, frame-busy, frame-done}
 use borrow.Author.Needs.{needs}
 use Rattle.bridge.proofs.loop_frame.Statement.{statement}
 use Rattle.bridge.proofs.loop_frame.Tie as tie
 
 returns : tie.Need-returns
-unfolding step checks
 returns c =
-    misfit-met (c .before .before .before .before .before .args .s) (now (c .before .before .before .before .before .args .rx)) (now (c .before .before .before .before .before .args .tx)) (is-misfit (c .before .before .state-fits .ensures) (c .before .if1 .taken)) (loopFrame (c .before .before .before .before .before .args .frame)) (frameChecks (c .before .before .before .before .before .args .s) (c .before .before .before .before .before .args .frame)) _ refl (c .refused .ensures)
+    misfit-met (c .before .before .before .before .before .args .s) (now (c .before .before .before .before .before .args .rx)) (now (c .before .before .before .before .before .args .tx)) (is-misfit (c .before .before .state-fits .ensures) (c .before .if1 .taken)) (loopFrame (c .before .before .before .before .before .args .frame)) _ (c .refused .ensures)
 
 returns-2 : tie.Need-returns-2
-unfolding step checks outcome settledBy rxAfter txAfter
+unfolding checksOn outcome settledBy rxAfter txAfter
 returns-2 c =
-    refused-met (c .before .before .before .before .before .before .args .s) (now (c .before .before .before .before .before .before .args .rx)) (now (c .before .before .before .before .before .before .args .tx)) (is-fit (c .before .before .before .state-fits .ensures) (c .before .before .if1 .left)) (loopFrame (c .before .before .before .before .before .before .args .frame)) (frameChecks (c .before .before .before .before .before .before .args .s) (c .before .before .before .before .before .before .args .frame)) 3 _ refl (sym (frame-large (c .before .before .before .before .before .before .args .s) (now (c .before .before .before .before .before .before .args .rx)) (now (c .before .before .before .before .before .before .args .tx)) (is-fit (c .before .before .before .state-fits .ensures) (c .before .before .if1 .left)) _ (c .before .if2 .taken))) (λ z. omega arith) (c .refused2 .ensures)
+    refused-met (c .before .before .before .before .before .before .args .s) (now (c .before .before .before .before .before .before .args .rx)) (now (c .before .before .before .before .before .before .args .tx)) (is-fit (c .before .before .before .state-fits .ensures) (c .before .before .if1 .left)) (loopFrame (c .before .before .before .before .before .before .args .frame)) 3 _ (sym (frame-large (c .before .before .before .before .before .before .args .s) (now (c .before .before .before .before .before .before .args .rx)) (now (c .before .before .before .before .before .before .args .tx)) (is-fit (c .before .before .before .state-fits .ensures) (c .before .before .if1 .left)) _ (c .before .if2 .taken))) (λ z. omega arith) (c .refused2 .ensures)
 
 busy-requires : tie.Need-busy-requires
 busy-requires c κs =
     tx-room (c .before .before .before .before .before .args .s) (now (c .before .before .before .before .before .args .rx)) (now (c .before .before .before .before .before .args .tx)) (is-fit (c .before .before .state-fits .ensures) (c .before .if1 .left))
 
 returns-3 : tie.Need-returns-3
-unfolding step checks outcome settledBy rxAfter txAfter
+unfolding checksOn outcome settledBy rxAfter txAfter
 returns-3 c =
-    refused-met (c .before .before .before .before .before .before .before .before .args .s) (now (c .before .before .before .before .before .before .before .before .args .rx)) (now (c .before .before .before .before .before .before .before .before .args .tx)) (is-fit (c .before .before .before .before .before .state-fits .ensures) (c .before .before .before .before .if1 .left)) (loopFrame (c .before .before .before .before .before .before .before .before .args .frame)) (frameChecks (c .before .before .before .before .before .before .before .before .args .s) (c .before .before .before .before .before .before .before .before .args .frame)) 4 _ refl (sym (frame-busy (c .before .before .before .before .before .before .before .before .args .s) (now (c .before .before .before .before .before .before .before .before .args .rx)) (now (c .before .before .before .before .before .before .before .before .args .tx)) (is-fit (c .before .before .before .before .before .state-fits .ensures) (c .before .before .before .before .if1 .left)) _ (c .before .before .before .if2 .left) (sym (c .before .before .busy .ensures) ∙ c .before .if3 .taken))) (λ z. omega arith) (c .refused3 .ensures)
+    refused-met (c .before .before .before .before .before .before .before .before .args .s) (now (c .before .before .before .before .before .before .before .before .args .rx)) (now (c .before .before .before .before .before .before .before .before .args .tx)) (is-fit (c .before .before .before .before .before .state-fits .ensures) (c .before .before .before .before .if1 .left)) (loopFrame (c .before .before .before .before .before .before .before .before .args .frame)) 4 _ (sym (frame-busy (c .before .before .before .before .before .before .before .before .args .s) (now (c .before .before .before .before .before .before .before .before .args .rx)) (now (c .before .before .before .before .before .before .before .before .args .tx)) (is-fit (c .before .before .before .before .before .state-fits .ensures) (c .before .before .before .before .if1 .left)) _ (c .before .before .before .if2 .left) (sym (c .before .before .busy .ensures) ∙ c .before .if3 .taken))) (λ z. omega arith) (c .refused3 .ensures)
 
 frame-taken-requires : tie.Need-frame-taken-requires
 frame-taken-requires c κs =

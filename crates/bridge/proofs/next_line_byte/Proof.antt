@@ -2,16 +2,15 @@ use mathlib.Core.Path.{refl}
 use mathlib.Core.List.{[]}
 use denote.Ref.{now}
 use Rattle.state.proofs.Fits.{is-misfit, is-fit, tx-fits}
-use Rattle.bridge.specs.Calls.{step, checks, nextLineByte}
+use Rattle.bridge.specs.Calls.{nextLineByte}
 use Rattle.bridge.proofs.Steps.{misfit-met, next-done}
 use borrow.Author.Needs.{needs}
 use Rattle.bridge.proofs.next_line_byte.Statement.{statement}
 use Rattle.bridge.proofs.next_line_byte.Tie as tie
 
 returns : tie.Need-returns
-unfolding step checks
 returns c =
-    misfit-met (c .before .before .before .before .before .args .s) (now (c .before .before .before .before .before .args .rx)) (now (c .before .before .before .before .before .args .tx)) (is-misfit (c .before .before .state-fits .ensures) (c .before .if1 .taken)) nextLineByte [] _ refl (c .refused .ensures)
+    misfit-met (c .before .before .before .before .before .args .s) (now (c .before .before .before .before .before .args .rx)) (now (c .before .before .before .before .before .args .tx)) (is-misfit (c .before .before .state-fits .ensures) (c .before .if1 .taken)) nextLineByte _ (c .refused .ensures)
 
 next-out-requires : tie.Need-next-out-requires
 next-out-requires c κs =

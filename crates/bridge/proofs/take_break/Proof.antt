@@ -2,21 +2,20 @@ use mathlib.Core.Path.{refl, ap}
 use mathlib.Core.List.{[]}
 use denote.Ref.{now}
 use Rattle.state.proofs.Fits.{is-misfit, is-fit}
-use Rattle.bridge.specs.Calls.{step, checks, outcome, settledBy, rxAfter, txAfter, doneWith, lineBreak}
+use Rattle.bridge.specs.Calls.{checksOn, doneWith, outcome, settledBy, rxAfter, txAfter, lineBreak}
 use Rattle.bridge.proofs.Steps.{misfit-met, done-met}
 use borrow.Author.Needs.{needs}
 use Rattle.bridge.proofs.take_break.Statement.{statement}
 use Rattle.bridge.proofs.take_break.Tie as tie
 
 returns : tie.Need-returns
-unfolding step checks
 returns c =
-    misfit-met (c .before .before .before .before .before .args .s) (now (c .before .before .before .before .before .args .rx)) (now (c .before .before .before .before .before .args .tx)) (is-misfit (c .before .before .state-fits .ensures) (c .before .if1 .taken)) lineBreak [] _ refl (c .refused .ensures)
+    misfit-met (c .before .before .before .before .before .args .s) (now (c .before .before .before .before .before .args .rx)) (now (c .before .before .before .before .before .args .tx)) (is-misfit (c .before .before .state-fits .ensures) (c .before .if1 .taken)) lineBreak _ (c .refused .ensures)
 
 returns-2 : tie.Need-returns-2
-unfolding step checks outcome settledBy rxAfter txAfter
+unfolding checksOn outcome settledBy rxAfter txAfter
 returns-2 c =
-    done-met (c .before .before .before .before .before .before .before .args .s) (now (c .before .before .before .before .before .before .before .args .rx)) (now (c .before .before .before .before .before .before .before .args .tx)) (is-fit (c .before .before .before .before .state-fits .ensures) (c .before .before .before .if1 .left)) lineBreak [] _ _ _ _ _ refl refl (ap doneWith (c .before .before .broken .ensures)) refl refl refl (c .before .settled .ensures) (c .done .ensures)
+    done-met (c .before .before .before .before .before .before .before .args .s) (now (c .before .before .before .before .before .before .before .args .rx)) (now (c .before .before .before .before .before .before .before .args .tx)) (is-fit (c .before .before .before .before .state-fits .ensures) (c .before .before .before .if1 .left)) lineBreak _ _ _ _ _ refl (ap doneWith (c .before .before .broken .ensures)) refl refl refl (c .before .settled .ensures) (c .done .ensures)
 
 pub take-break-spec : {M : Type 1} → statement M
 take-break-spec =

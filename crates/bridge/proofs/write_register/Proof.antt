@@ -4,31 +4,30 @@ use Rattle.state.proofs.Fits.{is-misfit, is-fit, rx-room}
 use Rattle.line.specs.HoldingOff.{afterWrite}
 use Rattle.registers.specs.Writing.{writeChecks}
 use Rattle.registers.proofs.Refusals.{accepted-written}
-use Rattle.bridge.specs.Calls.{step, checks, outcome, settledBy, rxAfter, txAfter, doneWith, write}
+use Rattle.bridge.specs.Calls.{checksOn, doneWith, outcome, settledBy, rxAfter, txAfter, write}
 use Rattle.bridge.proofs.Steps.{misfit-met, refused-met, done-met}
 use borrow.Author.Needs.{needs}
 use Rattle.bridge.proofs.write_register.Statement.{statement}
 use Rattle.bridge.proofs.write_register.Tie as tie
 
 returns : tie.Need-returns
-unfolding step checks
 returns c =
-    misfit-met (c .before .before .before .before .before .args .s) (now (c .before .before .before .before .before .args .rx)) (now (c .before .before .before .before .before .args .tx)) (is-misfit (c .before .before .state-fits .ensures) (c .before .if1 .taken)) (write (c .before .before .before .before .before .args .number) (c .before .before .before .before .before .args .value)) (writeChecks (c .before .before .before .before .before .args .s .regs) (c .before .before .before .before .before .args .number) (c .before .before .before .before .before .args .value)) _ refl (c .refused .ensures)
+    misfit-met (c .before .before .before .before .before .args .s) (now (c .before .before .before .before .before .args .rx)) (now (c .before .before .before .before .before .args .tx)) (is-misfit (c .before .before .state-fits .ensures) (c .before .if1 .taken)) (write (c .before .before .before .before .before .args .number) (c .before .before .before .before .before .args .value)) _ (c .refused .ensures)
 
 returns-2 : tie.Need-returns-2
-unfolding step checks outcome settledBy rxAfter txAfter
+unfolding checksOn outcome settledBy rxAfter txAfter
 returns-2 c =
-    refused-met (c .before .before .before .before .before .before .before .args .s) (now (c .before .before .before .before .before .before .before .args .rx)) (now (c .before .before .before .before .before .before .before .args .tx)) (is-fit (c .before .before .before .before .state-fits .ensures) (c .before .before .before .if1 .left)) (write (c .before .before .before .before .before .before .before .args .number) (c .before .before .before .before .before .before .before .args .value)) (writeChecks (c .before .before .before .before .before .before .before .args .s .regs) (c .before .before .before .before .before .before .before .args .number) (c .before .before .before .before .before .before .before .args .value)) _ _ refl (c .before .before .refused2 .ensures) (c .before .if2 .taken) (c .refused3 .ensures)
+    refused-met (c .before .before .before .before .before .before .before .args .s) (now (c .before .before .before .before .before .before .before .args .rx)) (now (c .before .before .before .before .before .before .before .args .tx)) (is-fit (c .before .before .before .before .state-fits .ensures) (c .before .before .before .if1 .left)) (write (c .before .before .before .before .before .before .before .args .number) (c .before .before .before .before .before .before .before .args .value)) _ _ (c .before .before .refused2 .ensures) (c .before .if2 .taken) (c .refused3 .ensures)
 
 after-write-requires : tie.Need-after-write-requires
 after-write-requires c κs =
     rx-room (c .before .before .before .before .before .before .before .args .s) (now (c .before .before .before .before .before .before .before .args .rx)) (now (c .before .before .before .before .before .before .before .args .tx)) (is-fit (c .before .before .before .before .state-fits .ensures) (c .before .before .before .if1 .left))
 
 returns-3 : tie.Need-returns-3
-unfolding step checks outcome settledBy rxAfter txAfter
+unfolding checksOn outcome settledBy rxAfter txAfter
 returns-3 c =
     let ok = sym (c .before .before .before .before .before .refused2 .ensures) ∙ c .before .before .before .before .if2 .left in
-    done-met (c .before .before .before .before .before .before .before .before .before .before .args .s) (now (c .before .before .before .before .before .before .before .before .before .before .args .rx)) (now (c .before .before .before .before .before .before .before .before .before .before .args .tx)) (is-fit (c .before .before .before .before .before .before .before .state-fits .ensures) (c .before .before .before .before .before .before .if1 .left)) (write (c .before .before .before .before .before .before .before .before .before .before .args .number) (c .before .before .before .before .before .before .before .before .before .before .args .value)) (writeChecks (c .before .before .before .before .before .before .before .before .before .before .args .s .regs) (c .before .before .before .before .before .before .before .before .before .before .args .number) (c .before .before .before .before .before .before .before .before .before .before .args .value)) _ _ _ _ _ refl ok
+    done-met (c .before .before .before .before .before .before .before .before .before .before .args .s) (now (c .before .before .before .before .before .before .before .before .before .before .args .rx)) (now (c .before .before .before .before .before .before .before .before .before .before .args .tx)) (is-fit (c .before .before .before .before .before .before .before .state-fits .ensures) (c .before .before .before .before .before .before .if1 .left)) (write (c .before .before .before .before .before .before .before .before .before .before .args .number) (c .before .before .before .before .before .before .before .before .before .before .args .value)) _ _ _ _ _ ok
     (ap doneWith (c .before .before .after-write .ensures ∙ ap (afterWrite (c .before .before .before .before .before .before .before .before .before .before .args .s) (c .before .before .before .before .before .before .before .before .before .before .args .number)) (accepted-written _ _ _ _ ok (c .before .before .before .written .ensures))))
     refl refl refl (c .before .settled .ensures) (c .done .ensures)
 

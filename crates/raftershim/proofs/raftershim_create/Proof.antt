@@ -1,11 +1,9 @@
-use Rattle.state.specs.Answers.{said}
 use Rattle.raftershim.proofs.Closing.{wrong-length, create-written}
 use borrow.Author.Needs.{needs}
 use Rattle.raftershim.proofs.raftershim_create.Statement.{statement}
 use Rattle.raftershim.proofs.raftershim_create.Tie as tie
 
 pub raftershim-create-spec : {M : Type 1} → statement M
-unfolding said
 raftershim-create-spec =
     tie.close
     (tie.spec

@@ -1,0 +1,45 @@
+-- Any bridge, right or wrong, and what a law of it is. A law names no bridge: it is a statement of what is seen.
+use Prim.Native.Nat.{_<_}
+use Rattle.machine.specs.Course.{Seen}
+use Rattle.machine.specs.Machine as machine
+use Rattle.store.specs.Bytes.{Bytes}
+use Rattle.state.specs.Answers.{Said}
+use Rattle.bridge.specs.Calls.{OnState, reset, write, lineByte, lineBreak, key, nextLineByte, loopFrame, Call, create, show, on, World, Did}
+
+-- what takes the nine calls and shows worlds and answers, and a law of it
+abbrev pub Machine : Type 1
+Machine = machine.Machine World Call Said
+
+abbrev pub Law : Type 1
+Law = machine.Law World Call Said
+
+-- all that is seen of one of its calls
+abbrev pub Saw : Type 0
+Saw = Seen World Call Said
+
+-- a byte from the line is a byte
+abbrev pub ByteOn : OnState → Type 0
+ByteOn (lineByte b) = b < 256
+ByteOn reset = Unit {0}
+ByteOn (write n v) = Unit {0}
+ByteOn lineBreak = Unit {0}
+ByteOn key = Unit {0}
+ByteOn nextLineByte = Unit {0}
+ByteOn (loopFrame f) = Unit {0}
+
+abbrev pub ByteCall : Call → Type 0
+ByteCall (create m) = Unit {0}
+ByteCall (show side) = Unit {0}
+ByteCall (on c) = ByteOn c
+
+-- a bridge is what every call does in every world; the types of the code give bytes in the receive store and from the line
+abbrev pub bridge : (Call → World → Did) → Machine
+bridge B =
+    record {
+      Own = World;
+      stands = λ w. w;
+      answer = λ c w. B c w .said;
+      after = λ c w. B c w .world;
+      Fine = λ w. Bytes (w .rx);
+      Fair = ByteCall;
+    }

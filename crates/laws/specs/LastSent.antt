@@ -1,0 +1,51 @@
+-- "the last of go and stop we sent (at start: go)", by the line bytes handed out, over a run, register writes included.
+use Prim.Native.Nat.{ℕ}
+use mathlib.Core.Path.{_≡_}
+use mathlib.Core.Bool.{Bool, true, false, cond}
+use mathlib.Core.List.{List, [], _∷_}
+use lib.Dec.{eqb}
+use Rattle.machine.specs.Course.{of, end, Without}
+use Rattle.machine.specs.Machine.{ofRuns, ofSince, ofBetween}
+use Rattle.state.specs.Answers.{Said, byte}
+use Rattle.bridge.specs.Calls.{nextLineByte, Call, on, World}
+use Rattle.laws.specs.Bridges.{Law, Saw}
+use Rattle.laws.specs.Observers.{taken, lineByteOf, onOne, owes, ownCharacter, startsAnew}
+
+-- ---- here k is whether the last of go and stop we sent was stop
+
+-- after our own character, by the registers that it was sent by
+abbrev pub afterOwn : Bool → World → List ℕ → Bool
+afterOwn k w [] = k
+afterOwn k w (b ∷ bs) = eqb b (w .state .regs .c05)
+
+-- after a call: where one is owed by what was handed out, and not by what the bridge recorded, the line byte answered is our own
+unfoldable pub lastOf : Bool → Call → World → Said → Bool
+lastOf k c w a = onOne nextLineByte (cond (owes k w) (afterOwn k w (lineByteOf a)) k) k c
+
+-- after a run
+unfoldable pub lastSent : Bool → List Saw → Bool
+lastSent k [] = k
+lastSent k (s ∷ ss) = lastSent (of (lastOf k) s) ss
+
+-- ---- the law
+
+-- what the bridge recorded
+abbrev pub recorded : World → Bool
+recorded w = w .state .line .stopped
+
+-- from any world: what is recorded at the end is the last of go and stop sent in the run, or what was recorded at its start
+abbrev pub LastKept : Law
+LastKept = ofRuns (λ w ss. Without startsAnew ss → recorded (end w ss) ≡ lastSent (recorded w) ss)
+
+-- "at start: go"
+abbrev pub LastSince : Law
+LastSince = ofSince (λ s ss. of startsAnew s ≡ true → Without startsAnew ss → recorded (end (s .after) ss) ≡ lastSent false ss)
+
+-- ---- our own character
+
+-- "If the last of go and stop we sent (at start: go) differs from what holds, the next line byte is that character, before all else"
+abbrev pub OwnGiven : Law
+OwnGiven =
+    ofBetween
+    (λ s ss t. of startsAnew s ≡ true → Without startsAnew ss → t .call ≡ on nextLineByte → taken (t .answer) ≡ true →
+    owes (lastSent false ss) (t .before) ≡ true → t .answer ≡ byte (ownCharacter (t .before)))

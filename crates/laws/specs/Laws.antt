@@ -1,0 +1,40 @@
+-- Every law of a bridge in one list: a bridge that is right obeys them all, and so does what opens to it.
+use mathlib.Core.List.{List, [], _∷_}
+use Rattle.laws.specs.Bridges.{Law}
+use Rattle.laws.specs.Answers.{AnswersSo, RefusedExactly}
+use Rattle.laws.specs.CallPlaces.{Places}
+use Rattle.laws.specs.Fitting.{KeepsFit, CreateMakesFit, KeepsStores}
+use Rattle.laws.specs.Starting.{StartsSo, MarginRecorded, SizesStay, ResetGivesStart}
+use Rattle.laws.specs.Showing.{ShowsSo}
+use Rattle.laws.specs.Events.{broken, overrun, pressed, Stays, Alone}
+use Rattle.laws.specs.StatusTold.{StatusTold, TellsUntilBack}
+use Rattle.laws.specs.Cleared.{Clears, NotInvented, NotAtStart}
+use Rattle.laws.specs.Demands.{RefusedStays, OneFrameOut, ElevenBits, FramesRead, NoneLost}
+use Rattle.laws.specs.LineBytes.{LineKept, LineSince}
+use Rattle.laws.specs.LastSent.{LastKept, LastSince, OwnGiven}
+use Rattle.laws.specs.Counts.{CountsGo, CountsSince}
+use Rattle.laws.specs.Service.{ServiceBit}
+use Rattle.laws.specs.SendRule.{SendRule, NoneRemoved, FramesSince}
+use Rattle.laws.specs.Returns.{ReturnsJudged}
+use Rattle.laws.specs.Roles.{RoleGoes}
+use Rattle.laws.specs.Passing.{FramesPass}
+use Rattle.laws.specs.Registers.{RegistersGo}
+use Rattle.laws.specs.Requests.{RequestsGo}
+use Rattle.laws.specs.Holding.{HoldingGoes}
+use Rattle.laws.specs.NextByte.{ForbiddenGoes, NextGiven}
+use Rattle.laws.specs.Resuming.{EmptySendResumes}
+
+abbrev pub laws : List Law
+laws =
+    AnswersSo ∷ RefusedExactly ∷ RefusedStays ∷ OneFrameOut ∷ ElevenBits ∷ ShowsSo
+    ∷ Places ∷ KeepsFit ∷ CreateMakesFit ∷ KeepsStores
+    ∷ StartsSo ∷ MarginRecorded ∷ SizesStay ∷ ResetGivesStart ∷ RegistersGo ∷ RoleGoes
+    ∷ FramesRead ∷ NoneLost ∷ FramesSince ∷ SendRule ∷ NoneRemoved ∷ ReturnsJudged ∷ FramesPass ∷ EmptySendResumes
+    ∷ Stays broken ∷ Stays overrun ∷ Stays pressed ∷ Alone broken ∷ Alone pressed
+    ∷ TellsUntilBack broken ∷ TellsUntilBack overrun ∷ TellsUntilBack pressed ∷ StatusTold
+    ∷ Clears broken ∷ Clears overrun ∷ Clears pressed
+    ∷ NotInvented broken ∷ NotInvented overrun ∷ NotInvented pressed
+    ∷ NotAtStart broken ∷ NotAtStart overrun ∷ NotAtStart pressed
+    ∷ LineKept ∷ LineSince ∷ LastKept ∷ LastSince ∷ OwnGiven ∷ NextGiven ∷ ForbiddenGoes ∷ HoldingGoes
+    ∷ CountsGo ∷ CountsSince ∷ ServiceBit ∷ RequestsGo
+    ∷ []

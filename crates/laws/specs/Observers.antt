@@ -1,0 +1,173 @@
+-- What is seen of a call from outside: from the call, the world before it and its answer. Nothing here looks at the world after it, and
+-- registers are read by their bits and characters.
+use Prim.Native.Nat.{ℕ}
+use mathlib.Core.Bool.{Bool, true, false, cond, _&&_, _||_, not}
+use mathlib.Core.List.{List, [], _∷_}
+use lib.Dec.{eqb, ltb}
+use Rattle.frame.specs.Frame.{controlOf, dataOf, made, isData, isEnd, stripped, sameApart}
+use Rattle.registers.specs.Bits.{bit}
+use Rattle.role.specs.Parts.{addressed, activeData, isActive}
+use Rattle.store.specs.Ring.{full}
+use Rattle.state.specs.declared.State.{State}
+use Rattle.state.specs.Answers.{Said, done, none, byte, frame, refused, part, isRefusal}
+use Rattle.loops.specs.Frames.{deviceClear}
+use Rattle.bridge.specs.Calls.{OnState, reset, nextLineByte, Call, create, show, on, onState, ofFrame, ofLineByte, ofWrite, is, World}
+
+-- ---- answers
+
+-- the call was not refused
+abbrev pub taken : Said → Bool
+taken a = not (isRefusal a)
+
+-- the answer is a frame
+abbrev pub isFrame : Said → Bool
+isFrame (frame k d) = true
+isFrame (refused n) = false
+isFrame done = false
+isFrame none = false
+isFrame (byte b) = false
+isFrame (part l) = false
+
+-- the data frame answered, the service bit aside
+abbrev pub dataFrame : Said → List ℕ
+dataFrame (frame k d) = cond (ltb k 4) (stripped (made k d) ∷ []) []
+dataFrame (refused n) = []
+dataFrame done = []
+dataFrame none = []
+dataFrame (byte b) = []
+dataFrame (part l) = []
+
+-- the line byte answered
+abbrev pub lineByteOf : Said → List ℕ
+lineByteOf (byte b) = b ∷ []
+lineByteOf (refused n) = []
+lineByteOf done = []
+lineByteOf none = []
+lineByteOf (frame k d) = []
+lineByteOf (part l) = []
+
+-- there is something
+abbrev pub any : List ℕ → Bool
+any [] = false
+any (b ∷ bs) = true
+
+-- ---- calls by their kind: what is seen of the one kind, and nothing of any other call
+
+abbrev pub onFrame : {X : Type 0} → (ℕ → X) → X → Call → X
+onFrame see nothing = onState (ofFrame see nothing) nothing
+
+abbrev pub onLineByte : {X : Type 0} → (ℕ → X) → X → Call → X
+onLineByte see nothing = onState (ofLineByte see nothing) nothing
+
+abbrev pub onWrite : {X : Type 0} → (ℕ → ℕ → X) → X → Call → X
+onWrite see nothing = onState (ofWrite see nothing) nothing
+
+-- a call on a state that brings no number
+abbrev pub onOne : {X : Type 0} → OnState → X → X → Call → X
+onOne d seen nothing = onState (λ c. cond (is d c) seen nothing) nothing
+
+-- ---- frames, by the role before the call
+
+-- Frames, ready 96 and ready 97: asked of an addressed talker that is not active
+abbrev pub isAsked : ℕ → State → ℕ → Bool
+isAsked d s f = eqb (controlOf f) 5 && (eqb (dataOf f) d && eqb (s .role .talker) addressed)
+
+-- Frames, returns: a data frame taken while ours is under way, equal to it but for the service bit
+unfoldable pub equalReturn : State → ℕ → Bool
+equalReturn s f = (isData f && isActive (s .role)) && sameApart f (s .under .frame)
+
+-- The reading rule, a send: the answer to ready 96, or to an equal return unless finishing or of status
+unfoldable pub isSend : State → ℕ → Bool
+isSend s f =
+    isAsked 96 s f
+    || (equalReturn s f && (eqb (s .role .talker) activeData && not (s .under .finishing)))
+
+-- Frames, ready 97: the status byte is asked for
+unfoldable pub asksStatus : State → ℕ → Bool
+asksStatus s f = isAsked 97 s f
+
+-- Frames, other data frames pass, those that are no return; and so do identify frames
+unfoldable pub passesOn : State → ℕ → Bool
+passesOn s f = (isData f && not (isActive (s .role))) || ltb 5 (controlOf f)
+
+-- ---- line bytes in
+
+-- Holding the line off, first: with R11 bit 3 on, the characters of C04 and C05 are no data
+unfoldable pub isFlow : World → ℕ → Bool
+isFlow w b = bit 3 (w .state .regs .r11) && (eqb b (w .state .regs .c04) || eqb b (w .state .regs .c05))
+
+-- the data byte that arrives
+unfoldable pub arrived : Call → World → Said → List ℕ
+arrived c w a = onLineByte (λ b. cond (taken a && not (isFlow w b)) (b ∷ []) []) [] c
+
+-- Holding the line off, any other byte: stored, or lost exactly when the receive store is full
+unfoldable pub accepted : Call → World → Said → List ℕ
+accepted c w a = cond (full (w .state .sizes .rx) (w .state .rx)) [] (arrived c w a)
+
+unfoldable pub lost : Call → World → Said → List ℕ
+lost c w a = cond (full (w .state .sizes .rx) (w .state .rx)) (arrived c w a) []
+
+-- ---- frames out
+
+-- the data frame sent from the receive store: every one out that is neither passed on nor the status byte
+unfoldable pub sent : Call → World → Said → List ℕ
+sent c w a = onFrame (λ f. cond (passesOn (w .state) f || asksStatus (w .state) f) [] (dataFrame a)) [] c
+
+-- the status byte sent
+unfoldable pub statusSent : Call → World → Said → List ℕ
+statusSent c w a = onFrame (λ f. cond (asksStatus (w .state) f) (dataFrame a) []) [] c
+
+-- ---- loop to line
+
+-- Loop to line, what a listener adds: the byte; for an end byte with R10 bit 2 on, then C02 and C03
+abbrev pub addsFor : World → ℕ → List ℕ
+addsFor w f = cond (isEnd f && bit 2 (w .state .regs .r10)) (dataOf f ∷ w .state .regs .c02 ∷ w .state .regs .c03 ∷ []) (dataOf f ∷ [])
+
+-- the line bytes that a frame added
+unfoldable pub added : Call → World → Said → List ℕ
+added c w a = onFrame (λ f. cond (taken a && (isData f && w .state .role .listener)) (addsFor w f) []) [] c
+
+-- Holding the line off, last: the character that is owed, C05 where the line is held off, else C04
+abbrev pub ownCharacter : World → ℕ
+ownCharacter w = cond (w .state .line .holding) (w .state .regs .c05) (w .state .regs .c04)
+
+-- one is owed where the last that we sent differs from what holds; k is whether the last was stop
+abbrev pub owes : Bool → World → Bool
+owes k w = (w .state .line .holding && not k) || (k && not (w .state .line .holding))
+
+-- without our own character, the one that is owed
+abbrev pub others : ℕ → List ℕ → List ℕ
+others x [] = []
+others x (b ∷ bs) = cond (eqb b x) bs (b ∷ bs)
+
+-- the line byte handed out, our own go and stop aside: where one is owed it is that character, and any other byte is handed out
+unfoldable pub handedOut : Call → World → Said → List ℕ
+handedOut c w a = onOne nextLineByte (cond (owes (w .state .line .stopped) w) (others (ownCharacter w) (lineByteOf a)) (lineByteOf a)) [] c
+
+-- ---- calls that begin anew: a refused one is none
+
+-- a create or reset
+unfoldable pub restarts : Call → Said → Bool
+restarts (create m) a = taken a
+restarts (show side) a = false
+restarts (on c) a = is reset c && taken a
+
+-- a register write
+unfoldable pub writes : Call → Said → Bool
+writes c a = onWrite (λ n v. taken a) false c
+
+-- a device clear
+unfoldable pub clears : Call → World → Said → Bool
+clears c w a = onFrame (λ f. taken a && deviceClear (w .state) f) false c
+
+-- demand 3, first: create, reset, register write or device clear
+abbrev pub changes : Call → World → Said → Bool
+changes c w a = restarts c a || (writes c a || clears c w a)
+
+-- Loop to line, last: create, reset or device clear
+abbrev pub empties : Call → World → Said → Bool
+empties c w a = restarts c a || clears c w a
+
+-- Status byte, the counts: create or reset
+abbrev pub startsAnew : Call → World → Said → Bool
+startsAnew c w a = restarts c a

@@ -1,0 +1,109 @@
+-- One name that opens all that a concrete run needs: `unfolding computes` on a refutation lets the checker run the bridge. Assumes nothing.
+use Rattle.machine.specs.Course.{end, all, some}
+use Rattle.machine.specs.Machine.{course, left}
+use Rattle.frame.specs.Frame.{stripped, withService, sameApart}
+use Rattle.reading.specs.Reading.{inCuts, byCuts}
+use Rattle.reading.specs.Steps.{cut}
+use Rattle.registers.specs.Table.{table, rowIn, carriedOf, startOf, startRegisters}
+use Rattle.registers.specs.Bits.{tooLarge, bitNotCarried, inRange}
+use Rattle.registers.specs.Fit.{values, allInRange, registersFit}
+use Rattle.registers.specs.Writing.{written, writeChecks}
+use Rattle.role.specs.Orders as orders
+use Rattle.role.specs.Commands as commands
+use Rattle.role.specs.ReadyFrames.{readyOf}
+use Rattle.store.specs.Ring.{fitTest, putRing, putBytes, putsRing, putsBytes, dropRing}
+use Rattle.status.specs.Status.{statusByte}
+use Rattle.sending.specs.Sending.{sendHeld, sentRing}
+use Rattle.state.specs.Answers.{said}
+use Rattle.state.specs.Sizes.{sizesObeyed, startState, fits}
+use Rattle.state.specs.Status as status
+use Rattle.line.specs.HoldingOff as line
+use Rattle.loops.specs.LoopToLine.{adds, busy, leftState, leftBytes}
+use Rattle.loops.specs.Sending.{talking, ended, ruleOf, removedState, sendState, sendFrom, sendStatus}
+use Rattle.loops.specs.Frames as frames
+use Rattle.bridge.specs.Calls as calls
+use Rattle.laws.specs.Observers as see
+use Rattle.laws.specs.StatusWay as way
+use Rattle.laws.specs.Holding as holding
+use Rattle.laws.specs.NextByte as next
+use Rattle.laws.specs.LastSent as last
+use Rattle.laws.specs.Returns.{finishes}
+use Rattle.laws.specs.Spells.{spells}
+use Rattle.laws.specs.StatusTold.{numberOf}
+
+-- what runs are
+unfoldable runs-open : Unit {0}
+unfolding end all some course left
+runs-open = tt
+
+-- frames, the reading rule, registers, roles, stores and a send from one
+unfoldable parts-open : Unit {0}
+unfolding stripped withService sameApart inCuts byCuts cut table rowIn carriedOf startOf startRegisters tooLarge bitNotCarried inRange values
+parts-open = tt
+
+unfoldable registers-open : Unit {0}
+unfolding allInRange registersFit written writeChecks orders.ownAddress orders.listenOrder orders.talkOrder orders.otherOrder orders.orderOf
+registers-open = tt
+
+unfoldable roles-open : Unit {0}
+unfolding commands.merelyAddressed commands.changedRole commands.obeyedRole readyOf
+roles-open = tt
+
+unfoldable stores-open : Unit {0}
+unfolding fitTest putRing putBytes putsRing putsBytes dropRing statusByte sendHeld sentRing
+stores-open = tt
+
+-- the state, its line and its loop
+unfoldable state-open : Unit {0}
+unfolding said sizesObeyed startState fits status.conditions status.enabledBy status.asking status.settled status.shows status.serviced
+state-open = tt
+
+unfoldable status-open : Unit {0}
+unfolding status.statusOf status.statusSent status.statusBack status.breakState status.keyState
+status-open = tt
+
+unfoldable line-open : Unit {0}
+unfolding line.isGoOrStop line.flowed line.storedWith line.lostState line.lineState line.lineBytes line.resumed line.setAfresh line.afterWrite
+line-open = tt
+
+unfoldable out-open : Unit {0}
+unfolding line.nextOut line.goneState line.outAnswer adds busy leftState leftBytes
+out-open = tt
+
+unfoldable sends-open : Unit {0}
+unfolding talking ended ruleOf removedState sendState sendFrom sendStatus
+sends-open = tt
+
+unfoldable frames-open : Unit {0}
+unfolding frames.forgotten frames.cleared frames.obeyed frames.commandState frames.command frames.finishing frames.readied frames.ready
+frames-open = tt
+
+unfoldable data-open : Unit {0}
+unfolding frames.returned frames.dataPassed frames.identify frames.frameTaken frames.deviceClear frames.addsBytes frames.frameBytes
+data-open = tt
+
+-- the calls
+unfoldable calls-open : Unit {0}
+unfolding calls.checksOn calls.checks calls.outcome calls.settledBy calls.rxAfter calls.txAfter calls.shown calls.notRefused calls.refusedOr calls.step
+calls-open = tt
+
+-- what is seen of them
+unfoldable sights-open : Unit {0}
+unfolding see.equalReturn see.isSend see.asksStatus see.passesOn see.isFlow see.arrived see.accepted see.lost see.sent see.statusSent
+sights-open = tt
+
+unfoldable others-open : Unit {0}
+unfolding see.added see.handedOut see.restarts see.writes see.clears way.endsWay way.underWay way.statusBack way.comesBack
+others-open = tt
+
+unfoldable laws-open : Unit {0}
+unfolding holding.sends holding.holdingAfter next.afterByte next.forbiddenAfter next.nextGiven last.lastOf last.lastSent finishes spells numberOf
+laws-open = tt
+
+unfoldable bridge-open : Unit {0}
+unfolding parts-open registers-open roles-open stores-open state-open status-open line-open out-open sends-open frames-open data-open calls-open
+bridge-open = tt
+
+unfoldable pub computes : Unit {0}
+unfolding runs-open bridge-open sights-open others-open laws-open
+computes = tt

@@ -1,0 +1,78 @@
+-- Bridges that forget which of go and stop they sent last, or withhold the one that is owed. Assumes nothing.
+use mathlib.Core.Path.{refl}
+use mathlib.Core.Bool.{Bool, true, false, false≢true, true≢false}
+use mathlib.Core.List.{List, [], _∷_}
+use Rattle.state.specs.Answers.{done, byte}
+use Rattle.bridge.specs.Calls.{on, reset, write, nextLineByte, World}
+use Rattle.laws.specs.LastSent.{LastKept, LastSince, OwnGiven}
+use Rattle.wrong.specs.Worlds.{cameIn, switchedOff, begunWith, oneForTheLine}
+use Rattle.wrong.specs.WrongLine.{takesDataForStop, neverRecordsSent, switchOffDropsGo, withholdsGoWhenOff}
+use Rattle.wrong.specs.Broken.{Breaks}
+use Rattle.wrong.proofs.Computing.{computes}
+use Rattle.wrong.proofs.Small.{line-bytes, holds, no-round, answers-differ}
+use Rattle.wrong.proofs.Written.{Turn, turn, takes, Does}
+use Rattle.wrong.proofs.Trying.{in-since, in-between}
+
+-- ---- the last of go and stop that was sent
+
+-- the data byte 19 is handed out
+pub takes-data-for-stop-falls : Breaks takesDataForStop LastKept
+unfolding computes
+takes-data-for-stop-falls law = true≢false (rw (holds (begunWith 19) 0 1 refl) at (law (on nextLineByte ∷ []) (oneForTheLine 19) line-bytes (tt, tt) refl))
+
+-- our own 19 is handed out
+pub never-records-sent-falls : Breaks neverRecordsSent LastKept
+unfolding computes
+never-records-sent-falls law = false≢true (law (on nextLineByte ∷ []) (cameIn 3 true false) line-bytes (tt, tt) refl)
+
+-- a reset where stop was the last
+pub never-records-sent-falls-since : Breaks neverRecordsSent LastSince
+unfolding computes
+never-records-sent-falls-since law = true≢false (law (on reset) [] (cameIn 3 true true) line-bytes tt tt refl refl)
+
+-- ---- an owed go
+
+-- from a reset three bytes come in, stop is sent, and the protocol is switched off; k is whether stop is still known to be the last
+stoppedOff : Bool → List Turn
+stoppedOff k =
+    takes 49 (cameIn 1 false false)
+    ∷ takes 50 (cameIn 2 false false)
+    ∷ takes 51 (cameIn 3 true false)
+    ∷ turn (on nextLineByte) (record { said = byte 19; world = cameIn 3 true true })
+    ∷ turn (on (write 11 0)) (record { said = done; world = switchedOff (cameIn 3 false k) })
+    ∷ []
+
+abbrev fresh : World
+fresh = cameIn 0 false false
+
+begins : Turn
+begins = turn (on reset) (record { said = done; world = fresh })
+
+switch-off-drops-go-runs : Does switchOffDropsGo fresh (begins ∷ stoppedOff false)
+unfolding computes begins stoppedOff
+switch-off-drops-go-runs = (refl, (rw (no-round 4 0 refl), (rw (no-round 4 1 refl), (rw (no-round 4 2 refl), (refl, (refl, tt))))))
+
+withholds-go-when-off-runs : Does withholdsGoWhenOff fresh (begins ∷ stoppedOff true)
+unfolding computes begins stoppedOff
+withholds-go-when-off-runs = (refl, (rw (no-round 4 0 refl), (rw (no-round 4 1 refl), (rw (no-round 4 2 refl), (refl, (refl, tt))))))
+
+-- stop was the last, and is not known to be
+pub switch-off-drops-go-falls : Breaks switchOffDropsGo LastSince
+unfolding computes begins stoppedOff
+switch-off-drops-go-falls law =
+    false≢true (in-since switchOffDropsGo LastSince fresh begins (stoppedOff false) switch-off-drops-go-runs refl refl law refl refl)
+
+-- nothing is given, where go is owed
+pub switch-off-drops-go-stays-silent : Breaks switchOffDropsGo OwnGiven
+unfolding computes begins stoppedOff
+switch-off-drops-go-stays-silent law =
+    answers-differ _ _ refl
+    (in-between switchOffDropsGo OwnGiven fresh begins (stoppedOff false) (on nextLineByte) switch-off-drops-go-runs refl refl law
+    refl refl refl refl refl)
+
+pub withholds-go-when-off-stays-silent : Breaks withholdsGoWhenOff OwnGiven
+unfolding computes begins stoppedOff
+withholds-go-when-off-stays-silent law =
+    answers-differ _ _ refl
+    (in-between withholdsGoWhenOff OwnGiven fresh begins (stoppedOff true) (on nextLineByte) withholds-go-when-off-runs refl refl law
+    refl refl refl refl refl)

@@ -1,0 +1,58 @@
+-- Every bridge whose refusals or answers are wrong breaks a law of answers. Assumes nothing.
+use native.Mathlib.Omega.{arith}
+use mathlib.Core.Path.{refl, ap}
+use mathlib.Core.Bool.{false≢true, true≢false}
+use lib.Dec.{eqb}
+use Rattle.frame.specs.Frame.{made}
+use Rattle.state.specs.Answers.{isRefusal}
+use Rattle.bridge.specs.Calls.{write, key, nextLineByte, show, on, World}
+use Rattle.laws.specs.Answers.{AnswersSo, RefusedExactly}
+use Rattle.laws.specs.Demands.{RefusedStays, OneFrameOut}
+use Rattle.wrong.specs.SmallWorlds.{fresh, misfitting, listening, nearlyFull, takes, takesCommand}
+use Rattle.wrong.specs.Changing.{heedless}
+use Rattle.wrong.specs.WrongRefusals.{doneForNone, refusesToShow, swallowsCommands, swallowsStored}
+use Rattle.wrong.specs.WrongRefusals.{alwaysBusy, alwaysRefusing, refusesAndWrites, busyAndStores}
+use Rattle.wrong.specs.Broken.{Breaks}
+use Rattle.wrong.proofs.ComputingMore.{computesMore, are-bytes}
+
+-- ---- answers
+
+pub done-for-none-falls : Breaks doneForNone AnswersSo
+unfolding computesMore
+done-for-none-falls law = false≢true (law (on nextLineByte) fresh are-bytes)
+
+pub refuses-to-show-falls : Breaks refusesToShow AnswersSo
+unfolding computesMore
+refuses-to-show-falls law = false≢true (law (show 0) misfitting are-bytes)
+
+pub swallows-commands-falls : Breaks swallowsCommands OneFrameOut
+unfolding computesMore
+swallows-commands-falls law = false≢true (law (takesCommand 20) fresh are-bytes (made 4 20) refl refl)
+
+pub swallows-stored-falls : Breaks swallowsStored OneFrameOut
+unfolding computesMore
+swallows-stored-falls law = false≢true (law (takes 0 68) listening are-bytes (made 0 68) refl refl)
+
+-- ---- refusals
+
+pub always-busy-falls : Breaks alwaysBusy RefusedExactly
+unfolding computesMore
+always-busy-falls law = true≢false (law (takes 0 68) fresh are-bytes .accepts refl)
+
+pub always-refusing-falls : Breaks alwaysRefusing RefusedExactly
+unfolding computesMore
+always-refusing-falls law = true≢false (law (on key) fresh are-bytes .accepts refl)
+
+-- an end byte adds three, and there is room for one
+pub never-busy-falls : Breaks (heedless 4) RefusedExactly
+unfolding computesMore
+never-busy-falls law = false≢true (ap isRefusal (law (takes 2 68) nearlyFull are-bytes .given (λ e. omega arith)))
+
+-- R11 carries no bit 2
+pub refuses-and-writes-falls : Breaks refusesAndWrites RefusedStays
+unfolding computesMore
+refuses-and-writes-falls law = true≢false (ap (λ (w : World). eqb (w .state .regs .r11) 4) (law (on (write 11 4)) fresh are-bytes refl))
+
+pub busy-and-stores-falls : Breaks busyAndStores RefusedStays
+unfolding computesMore
+busy-and-stores-falls law = true≢false (ap (λ (w : World). eqb (w .state .tx .len) 3) (law (takes 2 68) nearlyFull are-bytes refl))

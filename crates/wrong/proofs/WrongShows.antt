@@ -1,0 +1,39 @@
+-- Every bridge that shows a store wrongly breaks the law of showing, and every one whose margin goes wrong that of the sizes. Assumes nothing.
+use Prim.Native.Nat.{ℕ}
+use native.Mathlib.Omega.{arith}
+use mathlib.Core.Path.{_≡_, refl, ap}
+use mathlib.Core.Bool.{true≢false}
+use mathlib.Core.List.{[]}
+use lib.Dec.{eqb}
+use Rattle.store.specs.Bytes.{Bytes}
+use Rattle.state.specs.declared.Sizes.{Sizes}
+use Rattle.bridge.specs.Calls.{write, show, on}
+use Rattle.laws.specs.Showing.{ShowsSo}
+use Rattle.laws.specs.Starting.{SizesStay}
+use Rattle.wrong.specs.SmallWorlds.{receiveBytes, holdingBytes, misfitting, takesCommand}
+use Rattle.wrong.specs.WrongShows.{showsNothing, showsMisfits, clearsMargin, writesMargin, wideBytes, wide}
+use Rattle.wrong.specs.Broken.{Breaks}
+use Rattle.wrong.proofs.Small.{bytes}
+use Rattle.wrong.proofs.ComputingMore.{computesMore, are-bytes, hasAt}
+
+-- two bytes are held
+pub shows-nothing-falls : Breaks showsNothing ShowsSo
+unfolding computesMore
+shows-nothing-falls law =
+    let n : _≡_ {A = ℕ} 0 2 = law (show 0) (holdingBytes 2) are-bytes 0 [] refl refl .rx refl refl .longest in
+    omega arith
+
+pub shows-misfits-falls : Breaks showsMisfits ShowsSo
+unfolding computesMore
+shows-misfits-falls law = true≢false (ap (hasAt 0 49) (law (show 0) misfitting are-bytes 0 receiveBytes refl refl .misfit refl))
+
+wide-bytes : Bytes wideBytes
+wide-bytes = bytes wideBytes refl
+
+pub clears-margin-falls : Breaks clearsMargin SizesStay
+unfolding computesMore
+clears-margin-falls law = true≢false (ap (λ (x : Sizes). eqb (x .margin) 1) (law (takesCommand 20) wide wide-bytes refl))
+
+pub writes-margin-falls : Breaks writesMargin SizesStay
+unfolding computesMore
+writes-margin-falls law = true≢false (ap (λ (x : Sizes). eqb (x .margin) 1) (law (on (write 11 8)) wide wide-bytes refl))

@@ -1,0 +1,78 @@
+-- Every bridge whose status byte or service request is wrong breaks the law of the status byte or that of requests. Assumes nothing.
+use native.Mathlib.Omega.{arith}
+use mathlib.Core.Path.{_≡_, refl, ap}
+use mathlib.Core.Bool.{true, false, false≢true, true≢false}
+use mathlib.Core.List.{[], _∷_}
+use Rattle.frame.specs.Frame.{made}
+use Rattle.store.specs.Ring.{held}
+use Rattle.store.proofs.Laws.{held-unbroken, held-empty}
+use Rattle.bridge.specs.Calls.{write, key, on}
+use Rattle.laws.specs.StatusTold.{StatusTold}
+use Rattle.laws.specs.Requests.{RequestsGo}
+use Rattle.wrong.specs.SmallWorlds.{receiveBytes, transmitBytes, fresh, holdingBytes, talkerOfOne, talkerWithoutRoom}
+use Rattle.wrong.specs.SmallWorlds.{hiddenRequest, shownRequest, takesCommand, takesReady}
+use Rattle.wrong.specs.WrongStatus.{showsExchanged, showsRoom, showsAfter, showsAnyRequest}
+use Rattle.wrong.specs.WrongStatus.{enablesExchanged, enablesAll, requestsOn, requestsForever}
+use Rattle.wrong.specs.Broken.{Breaks}
+use Rattle.wrong.proofs.ComputingMore.{computesMore, are-bytes, hasAt}
+
+one-held : held receiveBytes (record { oldest = 0; len = 1 }) ≡ 49 ∷ []
+one-held = held-unbroken receiveBytes (record { oldest = 0; len = 1 }) (omega arith)
+
+all-held : held transmitBytes (record { oldest = 0; len = 3 }) ≡ transmitBytes
+all-held = held-unbroken transmitBytes (record { oldest = 0; len = 3 }) (omega arith)
+
+-- ---- the status byte
+
+-- one byte is held: bit 3 where bit 2 is due
+pub shows-exchanged-falls : Breaks showsExchanged StatusTold
+unfolding computesMore
+shows-exchanged-falls law =
+    let sent = law (takesReady 97) talkerOfOne are-bytes (made 5 97) refl refl refl in
+    let z : true ≡ false = rw (one-held, held-empty transmitBytes) at (ap (hasAt 0 11) sent) in
+    true≢false z
+
+-- the transmit store is full: no bit is due
+pub shows-room-falls : Breaks showsRoom StatusTold
+unfolding computesMore
+shows-room-falls law =
+    let sent = law (takesReady 97) talkerWithoutRoom are-bytes (made 5 97) refl refl refl in
+    let z : true ≡ false = rw (all-held, held-empty receiveBytes) at (ap (hasAt 0 2) sent) in
+    true≢false z
+
+-- bit 6 is due, since a request showed
+pub shows-after-falls : Breaks showsAfter StatusTold
+unfolding computesMore
+shows-after-falls law =
+    let sent = law (takesReady 97) shownRequest are-bytes (made 5 97) refl refl refl in
+    let z : true ≡ false = rw (held-empty receiveBytes, held-empty transmitBytes) at (ap (hasAt 0 3) sent) in
+    true≢false z
+
+-- bit 6 where R00 bit 3 is off
+pub shows-any-request-falls : Breaks showsAnyRequest StatusTold
+unfolding computesMore
+shows-any-request-falls law =
+    let sent = law (takesReady 97) hiddenRequest are-bytes (made 5 97) refl refl refl in
+    let z : true ≡ false = rw (held-empty receiveBytes, held-empty transmitBytes) at (ap (hasAt 0 67) sent) in
+    true≢false z
+
+-- ---- requests
+
+-- a byte is held, and R01 bit 2 is switched on
+pub enables-exchanged-falls : Breaks enablesExchanged RequestsGo
+unfolding computesMore
+enables-exchanged-falls law =
+    let z : false ≡ true = rw one-held at (law (on (write 1 4)) (holdingBytes 1) are-bytes .goes refl) in
+    false≢true z
+
+pub enables-all-falls : Breaks enablesAll RequestsGo
+unfolding computesMore
+enables-all-falls law = true≢false (law (on key) fresh are-bytes .goes refl)
+
+pub requests-on-falls : Breaks requestsOn RequestsGo
+unfolding computesMore
+requests-on-falls law = true≢false (law (takesCommand 20) hiddenRequest are-bytes .starts refl)
+
+pub requests-forever-falls : Breaks requestsForever RequestsGo
+unfolding computesMore
+requests-forever-falls law = true≢false (law (takesReady 97) hiddenRequest are-bytes .goes refl)

@@ -1,0 +1,69 @@
+-- Bridges that give wrong bytes to the line, or give them at the wrong time.
+use Prim.Native.Nat.{ℕ, _-_}
+use mathlib.Core.Bool.{Bool, true, false, cond, _&&_, not}
+use mathlib.Core.List.{List, [], _∷_}
+use lib.Dec.{eqb, ltb}
+use lib.ListN.{length}
+use Rattle.registers.specs.Meanings.{protocolOn}
+use Rattle.state.specs.Answers.{none}
+use Rattle.state.specs.State.{withTx}
+use Rattle.bridge.specs.Calls.{nextLineByte, Call, World, Did, step}
+use Rattle.laws.specs.Observers.{onOne, added, handedOut, owes, clears}
+use Rattle.laws.specs.Worlds.{protocol, forbidden}
+use Rattle.laws.specs.Holding.{writesR11}
+use Rattle.wrong.specs.Seeing.{Sight, afterSight, insteadAt, only, always, having, inState, withForbidden, withStopped}
+
+-- hands out a line byte and still holds it
+abbrev pub stuttering : Call → World → Did
+stuttering = afterSight (λ c w a. onOne nextLineByte true false c) (λ before after. withTx after (before .tx))
+
+-- leaves out C03 behind an end byte
+abbrev pub leavesOutC03 : Call → World → Did
+leavesOutC03 =
+    afterSight (λ c w a. ltb 1 (length (added c w a)))
+    (λ before after. withTx after (record { oldest = after .tx .oldest; len = after .tx .len - 1 }))
+
+-- the byte handed out is the stop character, and no character of our own
+abbrev pub isStopByte : World → List ℕ → Bool
+isStopByte w [] = false
+isStopByte w (b ∷ bs) = eqb b (w .state .regs .c05)
+
+-- takes a data byte equal to stop for its own character
+abbrev pub takesDataForStop : Call → World → Did
+takesDataForStop = afterSight (λ c w a. isStopByte w (handedOut c w a)) (λ before after. withStopped after true)
+
+-- never records which of go and stop it sent, at a reset neither
+abbrev pub neverRecordsSent : Call → World → Did
+neverRecordsSent = afterSight always (λ before after. withStopped after (before .line .stopped))
+
+-- Slips we have seen, the last: when R11 bit 3 is written off it forgets that stop was the last it sent, and owes no go
+abbrev pub switchOffDropsGo : Call → World → Did
+switchOffDropsGo = afterSight (λ c w a. writesR11 c a) (λ before after. cond (protocolOn (after .regs)) after (withStopped after false))
+
+-- the next line byte is asked for while a character of our own is owed
+abbrev pub owesOwn : Sight
+owesOwn c w a = onOne nextLineByte (owes (w .state .line .stopped) w) false c
+
+-- the same slip in another way: knows that it owes go, and gives none while the protocol is off
+abbrev pub withholdsGoWhenOff : Call → World → Did
+withholdsGoWhenOff = insteadAt (λ c w a. not (protocol w) && owesOwn c w a) (λ c w. only none w)
+
+-- gives what it holds before its own go or stop: it acts as if none were owed
+abbrev pub dataBeforeOwn : Call → World → Did
+dataBeforeOwn =
+    insteadAt owesOwn
+    (λ c w. inState (λ s. withStopped s (w .state .line .stopped)) (step c (having (λ s. withStopped s (s .line .holding)) w)))
+
+-- gives a byte while the other end forbids it
+abbrev pub givesWhileForbidden : Call → World → Did
+givesWhileForbidden =
+    insteadAt (λ c w a. onOne nextLineByte (forbidden w) false c)
+    (λ c w. inState (λ s. withForbidden s true) (step c (having (λ s. withForbidden s false) w)))
+
+-- keeps the other end's stop at a device clear
+abbrev pub clearKeepsForbidden : Call → World → Did
+clearKeepsForbidden = afterSight clears (λ before after. withForbidden after (before .line .forbidden))
+
+-- keeps the other end's stop when R11 is written
+abbrev pub writeKeepsForbidden : Call → World → Did
+writeKeepsForbidden = afterSight (λ c w a. writesR11 c a) (λ before after. withForbidden after (before .line .forbidden))

@@ -1,0 +1,65 @@
+-- Bridges whose role on the loop goes wrong.
+use Prim.Native.Nat.{ℕ, _+_}
+use mathlib.Core.Bool.{Bool, true, false, cond, _&&_}
+use lib.Dec.{eqb, leb, ltb}
+use Rattle.frame.specs.Frame.{controlOf, dataOf, isData}
+use Rattle.role.specs.declared.Role.{Role}
+use Rattle.role.specs.Parts.{isUnassigned, isActive, withAddress, withTalker, withListener, withRemote}
+use Rattle.role.specs.Orders.{numberOf}
+use Rattle.state.specs.State.{withRole}
+use Rattle.bridge.specs.Calls.{Call, World, Did, step}
+use Rattle.laws.specs.Observers.{onFrame}
+use Rattle.laws.specs.Passing.{asFrame}
+use Rattle.wrong.specs.Changing.{afterwards, isCommand}
+
+-- ours, with the role changed by the role before and after the call
+abbrev turning : (Call → Role → Role → Role) → Call → World → Did
+turning change = afterwards (λ c w s. withRole s (change c (w .state .role) (s .role)))
+
+-- takes no notice of the command d
+abbrev pub ignoring : ℕ → Call → World → Did
+ignoring d = turning (λ c before after. cond (isCommand d c) before after)
+
+-- is never talker: also 64+n with our own address ends talking
+abbrev pub neverTalker : Call → World → Did
+neverTalker = turning (λ c before after. cond (isCommand (64 + before .address) c) (withTalker after 0) after)
+
+-- is never listener: 32+n with our own address does not make us one
+abbrev pub neverListener : Call → World → Did
+neverListener = turning (λ c before after. cond (isCommand (32 + before .address) c) (withListener after false) after)
+
+-- reads 63 as the listen address 31 while unassigned
+abbrev pub listensTo31 : Call → World → Did
+listensTo31 = turning (λ c before after. cond (isUnassigned before && isCommand 63 c) (withListener (withTalker after 0) true) after)
+
+-- stays talker when it becomes listener
+abbrev pub talkerAndListener : Call → World → Did
+talkerAndListener = turning (λ c before after. cond (isCommand (32 + before .address) c) (withTalker after (before .talker)) after)
+
+-- ours, where an active talker stays active at the frames that the test finds
+abbrev activeAt : (ℕ → Bool) → Call → World → Did
+activeAt test = turning (λ c before after. cond (onFrame test false c && isActive before) (withTalker after (before .talker)) after)
+
+-- an active talker stays active at a command
+abbrev pub activeThroughout : Call → World → Did
+activeThroughout = activeAt (λ f. eqb (controlOf f) 4)
+
+-- stays active after 5,64 and 5,65
+abbrev pub neverEnds : Call → World → Did
+neverEnds = activeAt isData
+
+-- ready 128+n
+abbrev offersAddress : ℕ → Bool
+offersAddress f = eqb (controlOf f) 5 && (leb 128 (dataOf f) && ltb (dataOf f) 159)
+
+-- takes an address from 128+n though it has one
+abbrev pub readdressed : Call → World → Did
+readdressed = turning (λ c before after. onFrame (λ f. cond (offersAddress f) (withAddress after (numberOf (dataOf f))) after) after c)
+
+-- becomes remote at its listen address though that is not enabled
+abbrev pub remoteUnasked : Call → World → Did
+remoteUnasked = turning (λ c before after. cond (isCommand (32 + before .address) c) (withRemote after true) after)
+
+-- passes every frame and does nothing
+abbrev pub passingAll : Call → World → Did
+passingAll c w = onFrame (λ f. record { said = asFrame f; world = w }) (step c w) c
