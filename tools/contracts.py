@@ -89,7 +89,8 @@ def own_meaning(path):
     text, wrong = listing.read(path), []
     for module, names in USE.findall(text):
         for name in (n.strip() for n in names.split(",")):
-            if " as " in name or NAMES.get(name, module) != module:
+            old, _, new = name.partition(" as ")
+            if new and (old in NAMES or new.strip("_ ") in WORDS) or NAMES.get(old, module) != module:
                 wrong.append(f"{path}: {name} is taken from {module}")
     taken = set(ALIAS.findall(text)) | {(one or other).strip("_") for one, other in DECLARED.findall(text)}
     wrong += [f"{path}: {name} is a name of the library" for name in sorted(taken & WORDS)]

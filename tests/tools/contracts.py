@@ -18,7 +18,7 @@ def contracts(room):
     room.finds(TOOL, "raftershim_reset has no ensures", (SHIM, reset, "    // " + reset.lstrip()))
     asks = "    requires { ⌜ length (now rx) ≡ 8 ⌝ }\n"
     room.finds(TOOL, "raftershim_reset has a requires", (SHIM, reset, asks + reset))
-    room.finds(TOOL, "raftershim_reset promises nothing of its result", (SHIM, reset, reset.replace("returned r ", "returned 0 ")))
+    room.finds(TOOL, "raftershim_reset promises nothing of its result", (SHIM, reset, reset.replace(" r ", " 0 ")))
     for call, name in re.findall(r'pub extern "C" fn (raftershim_\w+)\([^)]*?\b(\w+): &mut', text):
         said = re.search(rf"fn {call}\b.*?\n    ensures (.*)\n", text, re.S).group(1)
         after, before = f"now ({name} .exit)", f"now ({name} .entry)"
@@ -73,6 +73,8 @@ def names(room):
         ("use lib.Other.{length}\n", "length is taken from lib.Other"),
         ("  use lib.Other.{length}\n", "length is taken from lib.Other"),
         ("use lib.ListN.{drop as take}\n", "drop as take is taken from lib.ListN"),
+        ("use lib.Other.{first as take}\n", "first as take is taken from lib.Other"),
+        ("use lib.ListN.{take as first}\n", "take as first is taken from lib.ListN"),
         ("use lib.Other as length\n", "length is a name of the library"),
         ("abbrev pub ltb : ℕ → ℕ → Bool\n", "ltb is a name of the library"),
         ("axiom easy : ⊥\n", "an axiom"),
