@@ -3,6 +3,7 @@
 Usage: python3 tools/must_fail.py [--write]             those that no entry of tools/seen-refused.txt holds of, and a share of the others
        python3 tools/must_fail.py --all [--write]       all of them
        python3 tools/must_fail.py NAME .. [--write]     all those of a crate, or one: CRATE/LABEL
+       python3 tools/must_fail.py --places              tries none, and sees in a second whether the text that each changes is there
 (after rt ci or rt check, which prove the crates)
 An edit has the form of those in crates/NAME/must-fail, which rt ci tries from nothing. Here a crate is checked once in full, and
 each edit then checks again only what rests on the line it changes, so that an edit takes seconds.
@@ -20,6 +21,7 @@ import time
 from concurrent.futures import ThreadPoolExecutor
 
 sys.dont_write_bytecode = True
+import listing
 import must_fail_logs
 import seen
 
@@ -36,21 +38,38 @@ def replaced(text, old, new):
     return text.replace(old, new)
 
 
-def apply_edit(edit, crate_dir):
-    """Changes the crate's files as the edit says."""
-    name, old, pairs = None, None, 0
-    for line in open(edit, encoding="utf-8").read().split("\n"):
+def changed(edit, crate_dir):
+    """The texts of the crate's files that the edit changes, as it changes them."""
+    name, old, texts = None, None, {}
+    for line in listing.read(edit).split("\n"):
         if line.startswith("file: "):
             name = os.path.join(crate_dir, line[len("file: ") :])
         elif line.startswith("old: "):
             old = line[len("old: ") :]
         elif line.startswith("new:"):
             new = line[len("new:") :]
-            text = replaced(open(name, encoding="utf-8").read(), old, new[1:] if new.startswith(" ") else new)
-            open(name, "w", encoding="utf-8").write(text)
-            pairs += 1
-    if not pairs:
+            texts[name] = replaced(texts.get(name) or listing.read(name), old, new[1:] if new.startswith(" ") else new)
+    if not texts:
         raise ValueError("it has no 'old:' and 'new:' pair")
+    return texts
+
+
+def apply_edit(edit, crate_dir):
+    """Changes the crate's files as the edit says."""
+    for name, text in changed(edit, crate_dir).items():
+        with open(name, "w", encoding="utf-8") as file:
+            file.write(text)
+
+
+def misplaced():
+    """Edits, rt's own too, whose texts do not stand in their crates as they say."""
+    wrong = []
+    for edit in sorted(glob.glob("crates/*/edits/*.edit") + glob.glob("crates/*/must-fail/*.edit")):
+        try:
+            changed(edit, os.path.join("crates", edit.split(os.sep)[1]))
+        except (ValueError, OSError) as fault:
+            wrong.append(f"{edit}: {fault}")
+    return wrong
 
 
 def make_room(number):
@@ -182,6 +201,10 @@ def same_labels(edits):
 
 def main():
     """Tries what is due and says how many were tried and how many stand by the file; 1 if one is not refused or an entry is wrong."""
+    if "--places" in sys.argv:
+        wrong = misplaced()
+        print("".join(f"{fault}\n" for fault in wrong) + f"{len(wrong)} edits have lost their place")
+        return 1 if wrong else 0
     began, texts = time.monotonic(), seen.Texts()
     edits = {(path.split(os.sep)[1], os.path.splitext(os.path.basename(path))[0]): path for path in glob.glob("crates/*/edits/*.edit")}
     entries, right = seen.read()
