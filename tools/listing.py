@@ -72,7 +72,7 @@ class Function:
         self.parameters = [part.strip() for part in split(text[opened + 1 : after - 1]) if part.strip()]
         self.clauses = {word: [] for word in CLAUSES}
         self.returns, at = self.rest(text, after)
-        self.body = text[at : closing(text, at)] if text[at] == "{" else ""
+        self.body = text[at : closing(text, at)] if text[at : at + 1] == "{" else ""
 
     def rest(self, text, at):
         """Reads the return type and the clauses from this place on; the type, and the place of the body or of what stands in its place."""
