@@ -60,7 +60,7 @@ def misplaced():
         program = os.path.exists(f"crates/{crate}/src/main.rt")
         if program != (crate in place and order[place[crate]] == "program"):
             wrong.append(f"crates.txt: {crate} is {'a' if program else 'no'} program")
-        above = [name for name in known.get(crate, []) if place.get(name, 0) > place.get(crate, 0)]
+        above = [name for name in known.get(crate, []) if crate in place and place.get(name, 0) > place[crate]]
         wrong += [f"crates.txt: {crate} depends on {name} of a later layer" for name in above]
     return wrong if products else wrong + ["crates.txt: no products"]
 
