@@ -209,7 +209,7 @@ def main():
     edits = {(path.split(os.sep)[1], os.path.splitext(os.path.basename(path))[0]): path for path in glob.glob("crates/*/edits/*.edit")}
     entries, right = seen.read()
     faults = wrong_entries(entries, right, edits) if "--write" not in sys.argv else []
-    held = seen.holding(entries, edits, texts) if right else set()
+    held = seen.holding(entries, edits, texts)
     tried = {key: edits[key] for key in chosen(edits, held, sys.argv[1:])}
     refused = try_all(tried, texts)
     bad = len(tried) - len(refused)

@@ -98,10 +98,10 @@ def edits():
 
 def judged():
     """What each edit breaks, by its path, and the edits that show nothing."""
-    texts, (entries, right) = seen.Texts(), seen.read()
+    texts, (entries, _) = seen.Texts(), seen.read()
     breaks, bad, stand = {}, [], 0
     for crate, label, edit in edits():
-        entry = entries.get((crate, label), ()) if right else ()
+        entry = entries.get((crate, label), ())
         if os.path.basename(os.path.dirname(edit)) == "must-fail" or is_fresh(crate, label, edit, texts):
             text = log_of(crate, label)
             bad += shows_nothing(edit, text)

@@ -50,10 +50,12 @@ class Texts:
 
 
 def read():
-    """The entries by crate and label, each a hash of what it rests on, of its text, and what it breaks; and whether the sum is right."""
+    """The entries by crate and label, each a hash of what it rests on, of its text, and what it breaks; none and False where the sum is wrong."""
     if not os.path.exists(PATH):
         return {}, True
     *lines, last = listing.read(PATH).rstrip("\n").split("\n")
+    if last != f"sum {digest(*lines)}":
+        return {}, False
     entries, crate, rests = {}, "", ""
     for line in lines:
         words = line.split()
@@ -61,7 +63,7 @@ def read():
             crate, rests = words[1:]
         elif not line.startswith("#"):
             entries[crate, words[0]] = (rests, words[1], words[2:])
-    return entries, last == f"sum {digest(*lines)}"
+    return entries, True
 
 
 def write(entries):
