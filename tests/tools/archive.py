@@ -26,7 +26,8 @@ def made(room, more="", left_out=""):
 def run():
     """Plants every fault; how many."""
     with Room("tests/c", "include") as room:
-        room.run(["sh", "-c", f". ./tests/c/tools.sh; command -v {PREFIX}gcc"])
+        room.write("target/staticlib/libraftershim.a", "")
+        room.run(["sh", "tests/c/tools.sh"])
         made(room)
         room.passes(CONTENTS, "none divides, nothing is asked for")
         room.finds(CALLS, "differ")
