@@ -177,7 +177,8 @@ def chosen(edits, held, words):
 
 def write_seen(entries, held, edits, texts):
     """Writes what was tried now, and of what was seen before that which still holds; the faults of logs that show nothing."""
-    kept, faults = {key: entries[key] for key in held}, []
+    kept, again = {key: entries[key] for key in held}, seen.Texts()
+    faults = [f"{crate} was changed while its edits were tried" for crate in sorted({crate for crate, _ in edits}) if again.rests(crate) != texts.rests(crate)]
     for crate, label in edits:
         text = must_fail_logs.log_of(crate, label)
         faults += must_fail_logs.shows_nothing(f"{crate}/{label}", text)

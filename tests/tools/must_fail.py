@@ -55,6 +55,8 @@ def trying(room):
     room.finds(TRY + ["lower"], "no crate with edits and no edit: lower", **STUB)
     room.finds(all_of + ["--write"], "unfit for the code", (first, edit("unfit")), **STUB)
     room.finds(all_of + ["--write"], "no error in its log", (first, edit("silent")), **STUB)
+    changes = {**STUB, "STUB_CHANGES": room.at(LOW)}
+    room.finds(all_of + ["--write"], "low was changed while its edits were tried", (LOW, CODE), **changes)
     if room.text(SEEN) is not None:
         raise Missed("the file of what was seen refused is written though a log shows nothing")
 

@@ -19,6 +19,9 @@ def main():
         print("a stub", os.environ.get("STUB_VERSION", ""))
         return 0
     crate = sys.argv[2]
+    if os.environ.get("STUB_CHANGES"):
+        with open(os.environ["STUB_CHANGES"], "a", encoding="utf-8") as file:
+            file.write("// more\n")
     os.makedirs(f"target/inc/{crate}", exist_ok=True)
     with open(f"crates/{crate}/src/lib.rt", encoding="utf-8") as file:
         text = file.read()
