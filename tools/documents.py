@@ -8,15 +8,12 @@ import os
 import re
 import sys
 
+sys.dont_write_bytecode = True
+import listing
+
 CODE = re.compile(r"`([^`]+)`")
-PLACE = re.compile(r"(crates|rust|include|tests|tools)/")
-
-
-def crates():
-    for line in open("crates.txt", encoding="utf-8"):
-        line = line.split("#")[0].strip()
-        if line:
-            yield line.split(":")[0].strip()
+DECLARING = ("crates", "rust", "include", "tests", "tools")
+PLACE = re.compile(r"(crates|rust|include|tests|tools|docs|scripts|\.ci)/")
 
 
 def code_lines(pattern, comment):
@@ -30,14 +27,16 @@ def code_lines(pattern, comment):
 
 
 def size_row(name, code, specs, proofs, edits):
+    """A line of the table of sizes."""
     ratio = f"{proofs / code:.1f}" if code else "no code"
     return f"| {name} | {code} | {specs} | {proofs} | {ratio} | {edits} |"
 
 
 def sizes():
+    """The table of sizes."""
     rows = ["| Crate | Code | Specs | Proofs | Proof lines per code line | Must-fail edits |", "|---|---|---|---|---|---|"]
     total = [0, 0, 0, 0]
-    for name in crates():
+    for name in listing.crates():
         at = os.path.join("crates", name)
         row = [
             code_lines(f"{at}/src/**/*.rt", "//"),
@@ -69,7 +68,7 @@ def missing_names(path):
         where = None
         for word in CODE.findall(line):
             if PLACE.match(word):
-                where = word if os.path.isfile(word) else None
+                where = word if os.path.isfile(word) and PLACE.match(word).group(1) in DECLARING else None
                 if not os.path.exists(word):
                     wrong.append(f"{path}:{number}: no file {word}")
             elif where and path.endswith("PROMISES.md"):
@@ -79,10 +78,13 @@ def missing_names(path):
 
 
 def main():
+    """Prints the table, or every fault; 1 if there is one."""
     if "--sizes" in sys.argv:
         print(sizes())
         return 0
-    wrong = [] if sizes() in open("docs/CHECKS.md", encoding="utf-8").read() else ["docs/CHECKS.md: its table of sizes is not the repository's (python3 tools/documents.py --sizes)"]
+    wrong = []
+    if sizes() not in listing.read("docs/CHECKS.md"):
+        wrong.append("docs/CHECKS.md: its table of sizes is not the repository's (python3 tools/documents.py --sizes)")
     documents = sorted(glob.glob("docs/**/*.md", recursive=True)) + ["README.md"]
     for path in documents:
         wrong += missing_names(path)
@@ -92,4 +94,5 @@ def main():
     return 1 if wrong else 0
 
 
-sys.exit(main())
+if __name__ == "__main__":
+    sys.exit(main())

@@ -1,6 +1,6 @@
 """Runs the program onepass on stored inputs and holds what it prints to the stored outputs.
 
-Usage: python3 tests/onepass/run.py    (after rt check onepass or rt ci, which build it)
+Usage: python3 tests/onepass/run.py [PROGRAM]    (after rt check onepass or rt ci, which build it; PROGRAM stands in for it)
 An input is a file of hexadecimal digits, where # starts a comment; its output stands beside it. Every shortened copy of the paper's
 input is tried too, and must print refused 9 alone.
 """
@@ -32,20 +32,20 @@ def read_hex(path):
 
 
 def main():
-    command = emulator() + [PROGRAM]
+    command = sys.argv[1:] or emulator() + [PROGRAM]
     cases = []
     for path in sorted(glob.glob(os.path.join(HERE, "*.hex"))):
-        wanted = open(path[:-4] + ".out", "rb").read()
+        wanted = open(path[:-4] + ".out", "rb").read() if os.path.exists(path[:-4] + ".out") else b"no output is stored"
         cases.append((os.path.basename(path), read_hex(path), wanted))
     paper = read_hex(os.path.join(HERE, "paper.hex"))
     for n in range(len(paper)):
         cases.append((f"the first {n} bytes of paper.hex", paper[:n], b"refused 9\n"))
     wrong = 0
     for name, given, wanted in cases:
-        found = subprocess.run(command, input=given, stdout=subprocess.PIPE, check=False).stdout
-        if found != wanted:
+        done = subprocess.run(command, input=given, stdout=subprocess.PIPE, check=False)
+        if done.stdout != wanted or done.returncode:
             wrong += 1
-            print(f"{name}: printed {found!r}, and not {wanted!r}")
+            print(f"{name}: printed {done.stdout!r}, and not {wanted!r} (exit {done.returncode})")
     print(f"{len(cases)} inputs, {wrong} with another output")
     return 1 if wrong or not cases else 0
 

@@ -11,7 +11,7 @@ use Rattle.cases.proofs.Cases.{cond-true, cond-false}
 use Rattle.frame.specs.Frame.{controlOf, dataOf, isData}
 use Rattle.store.specs.declared.Ring.{Ring}
 use Rattle.store.specs.Ring.{putsRing, putsBytes}
-use Rattle.store.proofs.Several.{Puts}
+use Rattle.store.specs.Promises.{Puts}
 use Rattle.state.specs.declared.State.{State}
 use Rattle.state.specs.declared.Outcome.{Outcome}
 use Rattle.state.specs.declared.Answer.the-variants.{Frame}

@@ -9,7 +9,7 @@ use Rattle.frame.specs.Frame.{made}
 use Rattle.store.specs.declared.Ring.{Ring}
 use Rattle.store.specs.Ring.{Fit, held, dropRing}
 use Rattle.store.specs.Promises.{Dropped}
-use Rattle.store.proofs.Laws.{held-length, drop-none, drop-again}
+use Rattle.store.proofs.Promises.{held-length, drop-none, drop-again}
 use Rattle.reading.specs.declared.Rule.{Rule}
 use Rattle.reading.specs.declared.Decision.{Decision}
 use Rattle.reading.specs.declared.Decision.the-variants.{Removed, End, Data, Wait}

@@ -8,7 +8,7 @@ use lib.Seq.{append-snoc}
 use Rattle.store.specs.declared.Ring.{Ring}
 use Rattle.store.specs.Ring.{Fit, held, putRing, putBytes, putsRing, putsBytes}
 use Rattle.store.specs.declared.Offered.{Offered}
-use Rattle.store.specs.Promises.{Put}
+use Rattle.store.specs.Promises.{Put, Puts}
 use Rattle.store.proofs.Laws.{put-size, put-fit, held-put, ring-len}
 
 pub puts-size : (s : List ℕ) (r : Ring) (l : List ℕ) → length (putsBytes s r l) ≡ length s
@@ -44,11 +44,6 @@ held-puts s r (b ∷ l) f h =
     ∙ append-snoc (held s r) b l)
 
 -- ---- a caller makes up several bytes from the calls that it makes
-
-pub record Puts (s : List ℕ) (r : Ring) (l : List ℕ) (s′ : List ℕ) (o : Ring) : Type 0 where
-  pub ring : o ≡ putsRing (length s) r l
-  pub bytes : s′ ≡ putsBytes s r l
-  pub size : length s′ ≡ length s
 
 pub puts-none : (s : List ℕ) (r : Ring) → Puts s r [] s r
 unfolding putsBytes putsRing

@@ -1,12 +1,13 @@
--- What each call of the store promises: first what fixes the result and every byte, then what callers use of it.
-use Prim.Native.Nat.{ℕ, _+_, _-_}
+-- What each call of the store promises: first what fixes the result and every byte, then what callers use of it. Then what the store promises of
+-- the definitions that these name. The crates that carry frames know nothing else of it.
+use Prim.Native.Nat.{ℕ, _+_, _-_, _≤_}
 use mathlib.Core.Path.{_≡_}
 use mathlib.Core.List.{List, [], _∷_, _++_}
 use mathlib.Core.Bool.{cond, not}
 use lib.ListN.{length, take, drop}
 use Rattle.store.specs.declared.Ring.{Ring}
 use Rattle.store.specs.declared.Offered.{Offered}
-use Rattle.store.specs.Ring.{Fit, held, full, putRing, putBytes, dropRing, run}
+use Rattle.store.specs.Ring.{Fit, held, full, putRing, putBytes, putsRing, putsBytes, dropRing, run}
 
 -- a byte b offered: s and r before, s′ and o after
 pub record Put (s : List ℕ) (r : Ring) (b : ℕ) (s′ : List ℕ) (o : Offered) : Type 0 where
@@ -28,3 +29,30 @@ pub record Dropped (s : List ℕ) (r : Ring) (n : ℕ) (o : Ring) : Type 0 where
 pub record Shown (s : List ℕ) (r : Ring) (o : List ℕ) : Type 0 where
   pub bytes : o ≡ run s r
   pub first : o ≡ take (length o) (held s r)
+
+-- several bytes stored, one after the other
+pub record Puts (s : List ℕ) (r : Ring) (l : List ℕ) (s′ : List ℕ) (o : Ring) : Type 0 where
+  pub ring : o ≡ putsRing (length s) r l
+  pub bytes : s′ ≡ putsBytes s r l
+  pub size : length s′ ≡ length s
+
+-- ---- of the definitions
+
+-- as many bytes are held as the ring says
+abbrev pub HeldLength : Type 0
+HeldLength = (s : List ℕ) (r : Ring) → Fit s r → length (held s r) ≡ r .len
+
+-- no byte dropped leaves the ring
+abbrev pub DropNone : Type 0
+DropNone = (s : List ℕ) (r : Ring) → Fit s r → dropRing (length s) r 0 ≡ r
+
+-- n bytes dropped and then m are n + m
+abbrev pub DropAgain : Type 0
+DropAgain = (s : List ℕ) (r : Ring) (n m : ℕ) → Fit s r → n + m ≤ r .len → dropRing (length s) (dropRing (length s) r n) m ≡ dropRing (length s) r (n + m)
+
+-- no byte stored, and one stored before the others
+abbrev pub PutsNone : Type 0
+PutsNone = (s : List ℕ) (r : Ring) → Puts s r [] s r
+
+abbrev pub PutsMore : List ℕ → Ring → ℕ → List ℕ → List ℕ → List ℕ → Offered → Ring → Type 0
+PutsMore s r b l s₁ s₂ o₁ o₂ = Put s r b s₁ o₁ → Puts s₁ (o₁ .ring) l s₂ o₂ → Puts s r (b ∷ l) s₂ o₂

@@ -1,7 +1,7 @@
 use mathlib.Core.Path.{sym, ap, _∙_}
 use Prim.Native.Nat.{ℕ}
 use mathlib.Core.List.{[], _∷_}
-use Rattle.store.proofs.Several.{puts-none, puts-more}
+use Rattle.store.proofs.Promises.{puts-none, puts-more}
 use Rattle.loops.proofs.Parts.{adds-three, adds-one}
 use Rattle.loops.proofs.Taken.{left-met}
 use borrow.Author.Needs.{needs}
