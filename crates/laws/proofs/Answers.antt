@@ -1,10 +1,9 @@
 -- What each call answers, and that it refuses exactly when a check is given. Assumes nothing.
 use Prim.Native.Nat.{ℕ}
-use mathlib.Core.Path.{_≡_, refl, sym, ap, subst, _∙_}
+use mathlib.Core.Path.{_≡_, refl, sym, ap, _∙_}
 use mathlib.Core.Bool.{true, false, false≢true}
 use mathlib.Core.List.{List}
 use lib.Dec.{eqb}
-use borrow.Author.Tests.{eqb-true, eqb-false}
 use Rattle.cases.specs.Refusals.{firstRefusal}
 use Rattle.cases.proofs.Cases.{by-cond}
 use Rattle.machine.specs.Machine.{Obeys}

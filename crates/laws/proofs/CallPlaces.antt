@@ -1,12 +1,12 @@
 -- Every call that is not refused puts its bytes at the next places. Assumes nothing.
 use Prim.Native.Nat.{ℕ, _+_, _-_, _≤_}
 use native.Mathlib.Omega.{arith}
-use mathlib.Core.Path.{_≡_, refl, sym, subst, _∙_}
+use mathlib.Core.Path.{_≡_, refl, sym, _∙_}
 use mathlib.Core.Bool.{Bool, true, false, cond, _&&_, not, and-false}
 use mathlib.Core.List.{List, [], _∷_}
 use lib.Dec.{eqb, ltb}
 use lib.ListN.{length}
-use borrow.Author.Tests.{eqb-true, leb-true, leb-false, ltb-false, lt-leb}
+use borrow.Author.Tests.{leb-true, leb-false, ltb-false, lt-leb}
 use Rattle.cases.specs.Refusals.{firstRefusal}
 use Rattle.cases.proofs.Cases.{by-cond}
 use Rattle.machine.specs.Machine.{Obeys}
@@ -24,7 +24,7 @@ use Rattle.state.specs.Status.{settled, breakState, keyState}
 use Rattle.state.proofs.Fits.{tests, rx-fits, tx-fits}
 use Rattle.line.specs.HoldingOff.{isGoOrStop, flowed, lostState, storedWith, storedState, lineState, lineBytes, setAfresh, afterWrite, nextOut, goneState}
 use Rattle.line.proofs.Parts.{gone-some}
-use Rattle.loops.specs.LoopToLine.{adds, busy, leftBytes}
+use Rattle.loops.specs.LoopToLine.{adds, busy, addedBytes}
 use Rattle.loops.specs.Frames.{frameTaken, deviceClear, addsBytes, frameBytes}
 use Rattle.bridge.specs.Calls.{OnState, reset, write, lineByte, lineBreak, key, nextLineByte, loopFrame, Call, create, show, on, World, world, Did, outcome, settledBy, rxAfter, txAfter, notRefused, checks, step}
 use Rattle.state.specs.Answers.{refused, said}
@@ -95,10 +95,10 @@ module _ (w : World) (e : Fits w) where
 
   -- by whether the frame is a device clear, and whether it leaves bytes
   abbrev Framed : ℕ → State → Bool → Bool → Type 0
-  Framed n t c l = BothPlaced c [] (cond l (adds (w .state .regs) n) []) w (world (cond c t (settled (w .state) t)) (w .rx) (cond l (leftBytes (w .state) (w .tx) n) (w .tx)))
+  Framed n t c l = BothPlaced c [] (cond l (adds (w .state .regs) n) []) w (world (cond c t (settled (w .state) t)) (w .rx) (cond l (addedBytes (w .state) (w .tx) n) (w .tx)))
 
   by-kind : (n : ℕ) (t : State) → busy (w .state) n ≡ false → Kind (length (w .rx)) (w .state) n t → Framed n t (deviceClear (w .state) n) (addsBytes (w .state) n)
-  unfolding settled leftBytes
+  unfolding settled addedBytes
   by-kind n t b (clears c l x y) = rw (c, l) (record { rx = emptied (w .rx) (w .state .rx) (t .rx) x; tx = emptied (w .tx) (w .state .tx) (t .tx) y })
   by-kind n t b (stores c l d h x y) =
       rw (c, l)

@@ -1,12 +1,12 @@
 -- Every call keeps a state that fits, and the lengths of both stores. Assumes nothing.
-use Prim.Native.Nat.{ℕ, _-_, _≤_, _<_}
+use Prim.Native.Nat.{ℕ, _≤_, _<_}
 use native.Mathlib.Omega.{arith}
-use mathlib.Core.Path.{_≡_, refl, sym, ap, subst, _∙_}
+use mathlib.Core.Path.{_≡_, refl, sym, subst}
 use mathlib.Core.Bool.{Bool, true, false, cond, not}
 use mathlib.Core.List.{List}
 use lib.Dec.{eqb}
 use lib.ListN.{length}
-use borrow.Author.Tests.{eqb-true, leb-true}
+use borrow.Author.Tests.{leb-true}
 use Rattle.cases.specs.Refusals.{firstRefusal}
 use Rattle.cases.proofs.Cases.{by-cond}
 use Rattle.machine.specs.Machine.{Obeys}
@@ -30,14 +30,14 @@ use Rattle.state.specs.declared.State.{State}
 use Rattle.state.specs.declared.Outcome.{Outcome}
 use Rattle.state.specs.declared.Out.{Out}
 use Rattle.state.specs.declared.Out.the-variants as out
-use Rattle.state.specs.Answers.{done, refused}
+use Rattle.state.specs.Answers.{done}
 use Rattle.state.specs.State.{withRegisters, withRx, withTx}
 use Rattle.state.specs.Sizes.{sizesObeyed, fits}
-use Rattle.state.specs.Status.{settled, conditions, shows, statusOf, statusSent, statusBack, breakState, keyState}
+use Rattle.state.specs.Status.{settled, conditions, shows, statusOf, afterStatus, afterStatusBack, breakState, keyState}
 use Rattle.state.proofs.Fits.{Tests, tests, rx-fits, tx-fits}
 use Rattle.line.specs.HoldingOff.{isGoOrStop, flowed, storedWith, storedState, lostState, lineState, lineBytes, resumed, setAfresh, afterWrite, nextOut, goneState}
 use Rattle.line.proofs.Parts.{gone-some}
-use Rattle.loops.specs.LoopToLine.{adds, leftState, leftBytes}
+use Rattle.loops.specs.LoopToLine.{adds, addedState, addedBytes}
 use Rattle.loops.specs.Sending.{ruleOf, talking, ended, removedState, sendState, sendFrom, sendStatus}
 use Rattle.loops.specs.Frames.{isClear, orderIn, cleared, obeyed, commandState, command, finishing, readied, ready, returned, dataPassed, identify, frameTaken, deviceClear, addsBytes, frameBytes}
 use Rattle.bridge.specs.Calls.{OnState, reset, write, lineByte, lineBreak, key, nextLineByte, loopFrame, Call, create, show, on, ofFrame, World, Did, outcome, settledBy, rxAfter, txAfter, notRefused, checks, step}
@@ -55,7 +55,7 @@ unfolding lineBytes
 line-size s rx b = by-cond (λ (x : List ℕ). length x ≡ length rx) (isGoOrStop (s .regs) b) rx _ (λ _. refl) (λ _. store-laws.put-size rx (s .rx) b)
 
 frame-size : (s : State) (tx : List ℕ) (f : ℕ) → length (frameBytes s tx f) ≡ length tx
-unfolding frameBytes leftBytes
+unfolding frameBytes addedBytes
 frame-size s tx f = by-cond (λ (x : List ℕ). length x ≡ length tx) (addsBytes s f) _ tx (λ _. puts-size tx (s .tx) (adds (s .regs) f)) (λ _. refl)
 
 rx-size : (c : OnState) (w : World) → length (rxAfter c w) ≡ length (w .rx)
@@ -136,8 +136,8 @@ module _ (rx tx : List ℕ) where
         (subst (λ (n : ℕ). store-ring.Fit tx (store-ring.dropRing n (s .tx) 1)) (sym (t .txSize)) (store-laws.drop-fit tx (s .tx) 1 (tx-fits s rx tx e .ring) (gone-some s tx x h)))
     gone-good out.Nothing h = e
 
-    left-good : (f : ℕ) → Good rx tx (leftState s f)
-    unfolding leftState
+    left-good : (f : ℕ) → Good rx tx (addedState s f)
+    unfolding addedState
     left-good f =
         fits-with-tx (store-ring.putsRing (s .sizes .tx) (s .tx) (adds (s .regs) f))
         (subst (λ (n : ℕ). store-ring.Fit tx (store-ring.putsRing n (s .tx) (adds (s .regs) f))) (sym (t .txSize)) puts-ring)
@@ -191,10 +191,10 @@ module _ (rx tx : List ℕ) where
 
     status-good : 1 ≤ s .role .talker → Good rx tx (sendStatus s .state)
     unfolding sendStatus statusOf
-    status-good h = talking-good (statusSent s) 3 (made 0 (statusOf s)) (unfold fits statusSent in e) talker (omega arith) (omega (arith, status-small (conditions s) (shows s)))
+    status-good h = talking-good (afterStatus s) 3 (made 0 (statusOf s)) (unfold fits afterStatus in e) talker (omega arith) (omega (arith, status-small (conditions s) (shows s)))
       where
-        talker : 1 ≤ statusSent s .role .talker
-        talker = unfold statusSent in h
+        talker : 1 ≤ afterStatus s .role .talker
+        talker = unfold afterStatus in h
 
     ready-good : (f : ℕ) → Good rx tx (ready s rx f .state)
     unfolding ready
@@ -211,15 +211,15 @@ module _ (rx tx : List ℕ) where
     unfolding returned
     returned-good f h =
         by-cond G (sameApart f (s .under .frame)) _ _
-        (λ _. by-cond G (eqb (s .role .talker) activeStatus) _ _ (λ _. ended-good (statusBack s (dataOf (s .under .frame))) 64 (unfold fits statusBack in e) talker)
+        (λ _. by-cond G (eqb (s .role .talker) activeStatus) _ _ (λ _. ended-good (afterStatusBack s (dataOf (s .under .frame))) 64 (unfold fits afterStatusBack in e) talker)
         (λ _. by-cond G (s .under .finishing) _ _ (λ _. ended-good s 64 e (omega arith)) (λ _. send-good (omega arith))))
         (λ _. ended-good s 65 e (omega arith))
       where
         G : Outcome → Type 0
         G o = Good rx tx (o .state)
 
-        talker : 1 ≤ statusBack s (dataOf (s .under .frame)) .role .talker
-        talker = unfold statusBack in omega arith
+        talker : 1 ≤ afterStatusBack s (dataOf (s .under .frame)) .role .talker
+        talker = unfold afterStatusBack in omega arith
 
     passed-good : (f : ℕ) → Good rx tx (dataPassed s f .state)
     unfolding dataPassed

@@ -1,20 +1,18 @@
 -- What a frame does to both rings: a device clear empties them, a listener's data frame is stored, any other only removes. Assumes nothing.
-use Prim.Native.Nat.{ℕ, _-_, _%_, _≤_}
+use Prim.Native.Nat.{ℕ}
 use native.Mathlib.Omega.{arith}
 use mathlib.Core.Path.{_≡_, refl, sym, _∙_}
-use mathlib.Core.Bool.{Bool, true, false, cond, _&&_, _||_, not}
+use mathlib.Core.Bool.{Bool, true, false, cond, _&&_}
 use mathlib.Core.List.{List}
 use lib.Dec.{eqb}
 use lib.ListN.{length}
-use borrow.Author.Tests.{eqb-true, ltb-true, ne-eqb}
+use borrow.Author.Tests.{ltb-true, ne-eqb}
 use Rattle.cases.proofs.Cases.{by-cond}
 use Rattle.frame.specs.Frame.{controlOf, dataOf, isData, sameApart}
-use Rattle.role.specs.declared.Role.{Role}
 use Rattle.role.specs.declared.Order.{Order}
 use Rattle.role.specs.declared.Ready.{Ready}
 use Rattle.role.specs.declared.Ready.the-variants.{Pass, Address, Data, Status, Finish}
 use Rattle.role.specs.Parts.{activeStatus, isActive}
-use Rattle.role.specs.Orders.{ownAddress, listenOrder, talkOrder, otherOrder, orderOf}
 use Rattle.role.specs.ReadyFrames.{readyOf}
 use Rattle.store.specs.Ring.{Fit, emptyRing, putsRing}
 use Rattle.sending.specs.declared.Given.{Given}
@@ -22,9 +20,9 @@ use Rattle.sending.specs.declared.Given.the-variants.{Nothing, One}
 use Rattle.sending.specs.Sending.{givenOf, sendHeld, sentRing}
 use Rattle.state.specs.declared.State.{State}
 use Rattle.state.specs.declared.Outcome.{Outcome}
-use Rattle.state.specs.Status.{statusSent, statusBack}
+use Rattle.state.specs.Status.{afterStatus, afterStatusBack}
 use Rattle.line.specs.HoldingOff.{resumed}
-use Rattle.loops.specs.LoopToLine.{adds, leftState}
+use Rattle.loops.specs.LoopToLine.{adds, addedState}
 use Rattle.loops.specs.Sending.{ruleOf, talking, ended, removedState, sendState, sendFrom, sendStatus}
 use Rattle.loops.specs.Frames.{isClear, orderIn, cleared, obeyed, commandState, command, finishing, readied, ready, returned, dataPassed, identify, frameTaken, deviceClear, addsBytes}
 use Rattle.loops.proofs.Clears.{clear-order}
@@ -65,8 +63,8 @@ module _ (rx : List ℕ) (s : State) (fit : Fit rx (s .rx)) where
   unfolding ended talking
   ended-still d = record { place = refl; ring = refl }
 
-  back-still : (d : ℕ) → S (ended (statusBack s d) 64)
-  unfolding ended talking statusBack
+  back-still : (d : ℕ) → S (ended (afterStatusBack s d) 64)
+  unfolding ended talking afterStatusBack
   back-still d = record { place = refl; ring = refl }
 
   returned-still : (f : ℕ) → S (returned s rx f)
@@ -78,7 +76,7 @@ module _ (rx : List ℕ) (s : State) (fit : Fit rx (s .rx)) where
       (λ _. ended-still 65)
 
   readied-still : (f : ℕ) (k : Ready) → S (readied s rx f k)
-  unfolding readied sendStatus talking statusSent finishing
+  unfolding readied sendStatus talking afterStatus finishing
   readied-still f Address = record { place = refl; ring = refl }
   readied-still f Data = send-still
   readied-still f Status = record { place = refl; ring = refl }
@@ -105,10 +103,10 @@ module _ (rx : List ℕ) (s : State) (fit : Fit rx (s .rx)) where
       go false h = unfold obeyed in other (same ∙ h) (rw d) (record { place = rw h; ring = rw h })
 
   passed-kind : (f : ℕ) → isData f ≡ true → isActive (s .role) ≡ false → Kind (length rx) s f (dataPassed s f .state)
-  unfolding dataPassed addsBytes leftState
+  unfolding dataPassed addsBytes addedState
   passed-kind f d a = go (s .role .listener) refl
     where
-      go : (t : Bool) → s .role .listener ≡ t → Kind (length rx) s f (cond t (leftState s f) s)
+      go : (t : Bool) → s .role .listener ≡ t → Kind (length rx) s f (cond t (addedState s f) s)
       go true h = stores (no-clear f d) (rw (d, a, h)) d h refl refl
       go false h = other (no-clear f d) (rw (d, a, h)) (record { place = refl; ring = refl })
 

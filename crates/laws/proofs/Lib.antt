@@ -1,6 +1,7 @@
 -- `Refusing` tells what is refused from what is done, `Small` bounds the frames that are sent, `States` has each change of a state that fits, `OneStore` and `FramePlaces` serve `CallPlaces`;
 -- the others prove the specs of their names.
 pub mod Refusing
+pub mod Ways
 pub mod Small
 pub mod States
 pub mod Fitting

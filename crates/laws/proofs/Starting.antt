@@ -4,7 +4,7 @@ use mathlib.Core.Path.{_≡_, refl, sym, ap, subst, _∙_}
 use mathlib.Core.Bool.{Bool, true, false, and-false, false≢true}
 use mathlib.Core.List.{List, [], _∷_, cons≢nil}
 use lib.ListN.{length}
-use Rattle.machine.specs.Machine.{Obeys, course, left}
+use Rattle.machine.specs.Machine.{Obeys, course, finally}
 use Rattle.registers.specs.Table as registers-table
 use Rattle.state.specs.declared.State.{State}
 use Rattle.state.specs.Answers.{said, refused}
@@ -13,7 +13,7 @@ use Rattle.state.specs.Status.{conditions, enabledBy, asking, settled}
 use Rattle.state.proofs.Fits.{tests}
 use Rattle.bridge.specs.Calls.{reset, write, lineByte, lineBreak, key, nextLineByte, loopFrame, Call, create, show, on, is, World, world, Did, outcome, settledBy, rxAfter, txAfter, notRefused, step}
 use Rattle.laws.specs.Bridges.{bridge}
-use Rattle.laws.specs.Observers.{taken, restarts, startsAnew}
+use Rattle.laws.specs.Observers.{taken, restarts}
 use Rattle.laws.specs.Starting.{Started, StartsSo, marginOf, MarginRecorded, ResetGivesStart, RefusedCreateFitsNothing}
 use Rattle.laws.proofs.Refusing.{by-refusal}
 
@@ -70,7 +70,7 @@ create-again w t m q h =
     ∙ subst (λ (v : World). startState (v .state .sizes .margin) (length (v .rx)) (length (v .tx)) ≡ v .state) (sym (restarted (on reset) w (unfold restarts in t))) (unfold startState in refl)
 
 pub reset-gives-start : Obeys (bridge step) ResetGivesStart
-unfolding course left
+unfolding course finally
 reset-gives-start c cs d w _ _ _ = go cs
   where
     again : (c : Call) → c ≡ on reset → taken (step c w .said) ≡ true → (m : ℕ) → m ≡ step c w .world .state .sizes .margin →
@@ -82,8 +82,8 @@ reset-gives-start c cs d w _ _ _ = go cs
         (sym q) (create-again w)
 
     go : (cs : List Call) → c ≡ on reset → taken (step c w .said) ≡ true → course (bridge step) cs (step c w .world) ≡ [] →
-        d ≡ create (step c w .world .state .sizes .margin) → taken (step d (left (bridge step) cs (step c w .world)) .said) ≡ true →
-        step d (left (bridge step) cs (step c w .world)) .world .state ≡ step c w .world .state
+        d ≡ create (step c w .world .state .sizes .margin) → taken (step d (finally (bridge step) cs (step c w .world)) .said) ≡ true →
+        step d (finally (bridge step) cs (step c w .world)) .world .state ≡ step c w .world .state
     go [] q t e p h =
         subst (λ (x : Call). taken (step x (step c w .world) .said) ≡ true → step x (step c w .world) .world .state ≡ step c w .world .state) (sym p)
         (again c q t _ refl) h

@@ -4,7 +4,7 @@ use mathlib.Core.Path.{_≡_}
 use mathlib.Core.List.{List, [], _∷_, map}
 use Rattle.frame.specs.Frame.{controlOf, dataOf, made}
 use Rattle.reading.specs.declared.Rule.{Rule}
-use Rattle.reading.specs.Reading.{frames, left}
+use Rattle.reading.specs.Reading.{frames, leftOver}
 use Rattle.reading.specs.Steps.{cut}
 use Rattle.registers.specs.Table.{startRegisters}
 use Rattle.registers.specs.Writing.{written}
@@ -41,7 +41,7 @@ abbrev taking : ℕ → ℕ → Did
 taking c d = step (on (loopFrame (made c d))) (world (startState 1 4 3) (0 ∷ 0 ∷ 0 ∷ 0 ∷ []) (0 ∷ 0 ∷ 0 ∷ []))
 
 unfoldable pub given : Trial → Result
-given (held c0 c1 xs) = reads (map shownAs (frames (cut (rule c0 c1)) xs)) (left (cut (rule c0 c1)) xs)
+given (held c0 c1 xs) = reads (map shownAs (frames (cut (rule c0 c1)) xs)) (leftOver (cut (rule c0 c1)) xs)
 given (taken c d) = answers (taking c d .said) (taking c d .world .state .role .address)
 
 abbrev crlf : List ℕ → List Said → List ℕ → Example

@@ -2,7 +2,6 @@
 use Prim.Native.Nat.{ℕ, _+_}
 use mathlib.Core.Path.{_≡_}
 use mathlib.Core.Bool.{true, false, cond, _||_}
-use lib.Dec.{eqb}
 use Rattle.machine.specs.Machine.{ofCalls}
 use Rattle.frame.specs.Frame.{controlOf, dataOf, withService}
 use Rattle.state.specs.Answers.{Said, frame}

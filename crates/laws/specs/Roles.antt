@@ -1,14 +1,13 @@
 -- How the role goes, over every call: by the frame, the role before it and the answer. Each part of the role by itself.
 use Prim.Native.Nat.{ℕ, _+_, _-_}
 use mathlib.Core.Path.{_≡_}
-use mathlib.Core.Bool.{Bool, true, false, cond, _&&_, _||_, not}
+use mathlib.Core.Bool.{Bool, false, cond, _&&_, _||_, not}
 use lib.Dec.{eqb, leb, ltb}
 use Rattle.machine.specs.Course.{of}
 use Rattle.machine.specs.Machine.{ofCalls}
 use Rattle.frame.specs.Frame.{controlOf, dataOf, isData}
 use Rattle.role.specs.declared.Role.{Role}
 use Rattle.state.specs.Answers.{Said}
-use Rattle.bridge.specs.Calls.{loopFrame, on, World}
 use Rattle.laws.specs.Bridges.{Law}
 use Rattle.laws.specs.Observers.{any, taken, dataFrame, startsAnew, onFrame}
 

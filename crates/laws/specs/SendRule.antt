@@ -1,7 +1,7 @@
 -- Sends from the receive store, over every call: what a send gives and what it leaves, and that nothing else removes a byte.
 use Prim.Native.Nat.{ℕ}
 use mathlib.Core.Path.{_≡_}
-use mathlib.Core.Bool.{true, false, cond}
+use mathlib.Core.Bool.{true, false}
 use mathlib.Core.List.{List, [], _∷_, _++_}
 use Rattle.machine.specs.Course.{of, end, all, Without}
 use Rattle.machine.specs.Machine.{ofCalls, ofSince}

@@ -35,7 +35,7 @@ use Rattle.state.specs.State.{withRole, withUnder, withRx, withTx, withLine, wi
 use Rattle.state.specs.Counts.{counted}
 use Rattle.loops.specs.LoopToLine.{adds, busy}
 use Rattle.line.specs.HoldingOff.{resumed}
-use Rattle.state.specs.Status.{settled, serviced, statusOf, statusSent, statusBack}
+use Rattle.state.specs.Status.{settled, serviced, statusOf, afterStatus, afterStatusBack}
 use Rattle.loops.specs.Sending.{talking, ended, ruleOf, removedState, sendState, sendFrom, sendStatus}
 use Rattle.loops.specs.Frames.{isClear, forgotten, cleared, obeyed, commandSettled, finishing, readied, ready, returned, outcomeSettled}
 
@@ -125,9 +125,9 @@ module _ (s : State) (rx : List ℕ) (f : ℕ) (o : Outcome) where
   back-damaged e q = rw e q
 
   module _ (e : sameApart f (s .under .frame) ≡ true) where
-    pub back-status : (d : ℕ) (t : State) → s .role .talker ≡ 3 → d ≡ dataOf (s .under .frame) → t ≡ statusBack s d → o ≡ ended t 64 → o ≡ returned s rx f
+    pub back-status : (d : ℕ) (t : State) → s .role .talker ≡ 3 → d ≡ dataOf (s .under .frame) → t ≡ afterStatusBack s d → o ≡ ended t 64 → o ≡ returned s rx f
     unfolding returned
-    back-status d t h p q r = rw (e, eq-eqb (s .role .talker) 3 h) (r ∙ ap (λ (x : State). ended x 64) (q ∙ ap (statusBack s) p))
+    back-status d t h p q r = rw (e, eq-eqb (s .role .talker) 3 h) (r ∙ ap (λ (x : State). ended x 64) (q ∙ ap (afterStatusBack s) p))
 
     module _ (h : s .role .talker ≡ 3 → ⊥) where
       pub back-finishing : s .under .finishing ≡ true → o ≡ ended s 64 → o ≡ returned s rx f
@@ -164,6 +164,6 @@ pub rule-met : (g : Registers) (on : Bool) → on ≡ endDetected g → record {
 unfolding ruleOf
 rule-met g on p = rw p
 
-pub status-met : (s t u : State) (b x out : ℕ) → b ≡ statusOf s → x ≡ made 0 b → out ≡ serviced s x → t ≡ statusSent s → u ≡ talking t 3 x → record { state = u; answer = Frame out } ≡ sendStatus s
+pub status-met : (s t u : State) (b x out : ℕ) → b ≡ statusOf s → x ≡ made 0 b → out ≡ serviced s x → t ≡ afterStatus s → u ≡ talking t 3 x → record { state = u; answer = Frame out } ≡ sendStatus s
 unfolding sendStatus
 status-met s t u b x out p q r e z = rw (z, e, r, q, p)

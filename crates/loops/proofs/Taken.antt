@@ -17,13 +17,13 @@ use Rattle.state.specs.declared.Outcome.{Outcome}
 use Rattle.state.specs.declared.Answer.the-variants.{Frame}
 use Rattle.state.specs.State.{withTx}
 use Rattle.loops.proofs.Clears.{clear-order}
-use Rattle.loops.specs.LoopToLine.{adds, leftState, leftBytes, Left}
+use Rattle.loops.specs.LoopToLine.{adds, addedState, addedBytes, Added}
 use Rattle.state.specs.Status.{settled, serviced}
 use Rattle.loops.specs.Frames.{isClear, orderIn, cleared, obeyed, commandState, command, commandSettled, ready, returned, dataPassed, Passed, identify, outcomeSettled, frameTaken, passed, deviceClear, frameSettled, addsBytes, frameBytes, Framed}
 
 -- the transmit store with what a frame adds
-pub left-met : (s : State) (tx : List ℕ) (f : ℕ) (tx′ : List ℕ) (o : Ring) (l : List ℕ) → s .sizes .tx ≡ length tx → adds (s .regs) f ≡ l → Puts tx (s .tx) l tx′ o → Left s tx f tx′ (withTx s o)
-unfolding leftState leftBytes
+pub left-met : (s : State) (tx : List ℕ) (f : ℕ) (tx′ : List ℕ) (o : Ring) (l : List ℕ) → s .sizes .tx ≡ length tx → adds (s .regs) f ≡ l → Puts tx (s .tx) l tx′ o → Added s tx f tx′ (withTx s o)
+unfolding addedState addedBytes
 left-met s tx f tx′ o l size e p =
     record {
       state = ap (withTx s) (p .ring ∙ (λ i. putsRing (sym size i) (s .tx) (sym e i)));
@@ -32,23 +32,23 @@ left-met s tx f tx′ o l size e p =
     }
 
 module _ (s : State) (tx : List ℕ) (f x : ℕ) (q : x ≡ serviced s f) where
-  pub passed-left : (tx′ : List ℕ) (t : State) → s .role .listener ≡ true → Left s tx f tx′ t → Passed s tx f tx′ (record { state = t; answer = Frame x })
+  pub passed-left : (tx′ : List ℕ) (t : State) → s .role .listener ≡ true → Added s tx f tx′ t → Passed s tx f tx′ (record { state = t; answer = Frame x })
   unfolding dataPassed
   passed-left tx′ t h l =
-      let e : t ≡ cond (s .role .listener) (leftState s f) s = l .state ∙ sym (cond-true (s .role .listener) (leftState s f) s h) in
+      let e : t ≡ cond (s .role .listener) (addedState s f) s = l .state ∙ sym (cond-true (s .role .listener) (addedState s f) s h) in
       record {
         outcome = λ i. record { state = e i; answer = Frame (q i) };
-        bytes = l .bytes ∙ sym (cond-true (s .role .listener) (leftBytes s tx f) tx h);
+        bytes = l .bytes ∙ sym (cond-true (s .role .listener) (addedBytes s tx f) tx h);
         size = l .size;
       }
 
   pub passed-by : s .role .listener ≡ false → Passed s tx f tx (record { state = s; answer = Frame x })
   unfolding dataPassed
   passed-by h =
-      let e : s ≡ cond (s .role .listener) (leftState s f) s = sym (cond-false (s .role .listener) (leftState s f) s h) in
+      let e : s ≡ cond (s .role .listener) (addedState s f) s = sym (cond-false (s .role .listener) (addedState s f) s h) in
       record {
         outcome = λ i. record { state = e i; answer = Frame (q i) };
-        bytes = sym (cond-false (s .role .listener) (leftBytes s tx f) tx h);
+        bytes = sym (cond-false (s .role .listener) (addedBytes s tx f) tx h);
         size = refl;
       }
 

@@ -20,8 +20,8 @@ use Rattle.state.specs.declared.Under.{Under}
 use Rattle.state.specs.declared.Outcome.{Outcome}
 use Rattle.state.specs.declared.Answer.the-variants.{Frame}
 use Rattle.state.specs.State.{withRole, withUnder, withRx, withTx, withLine, withNotes, noEvents, noFrame}
-use Rattle.loops.specs.LoopToLine.{leftState, leftBytes}
-use Rattle.state.specs.Status.{serviced, settled, statusBack}
+use Rattle.loops.specs.LoopToLine.{addedState, addedBytes}
+use Rattle.state.specs.Status.{serviced, settled, afterStatusBack}
 use Rattle.loops.specs.Sending.{ended, sendFrom, sendStatus}
 
 -- the frame taken goes on, and the state is this one
@@ -107,19 +107,19 @@ ready s rx f = readied s rx f (readyOf (s .role) (dataOf f))
 unfoldable pub returned : State → List ℕ → ℕ → Outcome
 returned s rx f =
     cond (sameApart f (s .under .frame))
-    (cond (eqb (s .role .talker) activeStatus) (ended (statusBack s (dataOf (s .under .frame))) 64)
+    (cond (eqb (s .role .talker) activeStatus) (ended (afterStatusBack s (dataOf (s .under .frame))) 64)
     (cond (s .under .finishing) (ended s 64)
     (sendFrom s rx)))
     (ended s 65)
 
 -- "Other data frames pass; a listener also stores them."
 unfoldable pub dataPassed : State → ℕ → Outcome
-dataPassed s f = passed (cond (s .role .listener) (leftState s f) s) (serviced s f)
+dataPassed s f = passed (cond (s .role .listener) (addedState s f) s) (serviced s f)
 
 -- the state and the transmit store after a data frame that is no return
 pub record Passed (s : State) (tx : List ℕ) (f : ℕ) (tx′ : List ℕ) (o : Outcome) : Type 0 where
   pub outcome : o ≡ dataPassed s f
-  pub bytes : tx′ ≡ cond (s .role .listener) (leftBytes s tx f) tx
+  pub bytes : tx′ ≡ cond (s .role .listener) (addedBytes s tx f) tx
   pub size : length tx′ ≡ length tx
 
 -- "identify frames, get the service bit if a request showed before the call"
@@ -156,7 +156,7 @@ addsBytes s f = (isData f && not (isActive (s .role))) && s .role .listener
 
 -- the bytes of the transmit store after a frame
 unfoldable pub frameBytes : State → List ℕ → ℕ → List ℕ
-frameBytes s tx f = cond (addsBytes s f) (leftBytes s tx f) tx
+frameBytes s tx f = cond (addsBytes s f) (addedBytes s tx f) tx
 
 -- the outcome and the transmit store after a frame
 pub record Framed (s : State) (rx tx : List ℕ) (f : ℕ) (tx′ : List ℕ) (o : Outcome) : Type 0 where

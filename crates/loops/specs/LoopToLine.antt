@@ -21,14 +21,14 @@ unfoldable pub busy : State → ℕ → Bool
 busy s f = (s .role .listener && isData f) && ltb (s .sizes .tx - s .tx .len) (length (adds (s .regs) f))
 
 -- the transmit store with what a data frame adds: "All fit, or refusal 4", which `busy` gives
-unfoldable pub leftState : State → ℕ → State
-leftState s f = withTx s (putsRing (s .sizes .tx) (s .tx) (adds (s .regs) f))
+unfoldable pub addedState : State → ℕ → State
+addedState s f = withTx s (putsRing (s .sizes .tx) (s .tx) (adds (s .regs) f))
 
-unfoldable pub leftBytes : State → List ℕ → ℕ → List ℕ
-leftBytes s tx f = putsBytes tx (s .tx) (adds (s .regs) f)
+unfoldable pub addedBytes : State → List ℕ → ℕ → List ℕ
+addedBytes s tx f = putsBytes tx (s .tx) (adds (s .regs) f)
 
 -- the state and the transmit store after a data frame that a listener stores
-pub record Left (s : State) (tx : List ℕ) (f : ℕ) (tx′ : List ℕ) (t : State) : Type 0 where
-  pub state : t ≡ leftState s f
-  pub bytes : tx′ ≡ leftBytes s tx f
+pub record Added (s : State) (tx : List ℕ) (f : ℕ) (tx′ : List ℕ) (t : State) : Type 0 where
+  pub state : t ≡ addedState s f
+  pub bytes : tx′ ≡ addedBytes s tx f
   pub size : length tx′ ≡ length tx

@@ -16,7 +16,7 @@ use Rattle.state.specs.declared.Answer.the-variants.{Frame}
 use Rattle.state.specs.State.{withRole, withUnder, withRx}
 use Rattle.state.specs.Counts.{sentMore}
 use Rattle.line.specs.HoldingOff.{resumed}
-use Rattle.state.specs.Status.{serviced, statusOf, statusSent}
+use Rattle.state.specs.Status.{serviced, statusOf, afterStatus}
 
 -- the talker in another phase, with this frame under way
 unfoldable pub talking : State → ℕ → ℕ → State
@@ -44,4 +44,4 @@ sendFrom s rx = sendState s (removedState s rx) (givenOf (sendHeld (ruleOf (s .r
 
 -- "Ready 97 likewise: send the status byte."
 unfoldable pub sendStatus : State → Outcome
-sendStatus s = record { state = talking (statusSent s) activeStatus (made 0 (statusOf s)); answer = Frame (serviced s (made 0 (statusOf s))) }
+sendStatus s = record { state = talking (afterStatus s) activeStatus (made 0 (statusOf s)); answer = Frame (serviced s (made 0 (statusOf s))) }

@@ -3,7 +3,7 @@ ghost use mathlib.Core.Path.{_≡_};
 ghost use Prim.Native.Nat.{_≤_};
 ghost use lib.ListN.{length};
 ghost use Rattle.state.specs.Sizes.{RxFits, TxFits};
-ghost use Rattle.loops.specs.LoopToLine.{adds, busy, Left};
+ghost use Rattle.loops.specs.LoopToLine.{adds, busy, Added};
 ghost use Rattle.loops.specs.Frames.{isClear, cleared, obeyed, commandSettled, finishing, ready, returned, Passed, outcomeSettled, Framed};
 use registers::Registers;
 use role::Order;
@@ -37,7 +37,7 @@ pub fn busy(s: State, f: u16) -> bool
 // A listener stores the byte and, for an end byte, what ends a line.
 fn leave(s: State, tx: &mut [u8], f: u16) -> State
     requires { ⌜ TxFits s (now tx) ⌝ }
-    ensures { λ r. ⌜ Left s (now (tx .entry)) f (now (tx .exit)) r ⌝ }
+    ensures { λ r. ⌜ Added s (now (tx .entry)) f (now (tx .exit)) r ⌝ }
 {
     let mut t = s;
     let d = frame::data_byte(f);

@@ -14,8 +14,8 @@ use Rattle.state.specs.declared.State.{State}
 use Rattle.state.specs.declared.Outcome.{Outcome}
 use Rattle.state.specs.declared.Answer.{Answer}
 use Rattle.state.specs.declared.Answer.the-variants.{Done, Nothing, Byte, Frame, Refused}
-use Rattle.state.specs.Answers.{said, done, refused, part, isRefusal}
-use Rattle.state.specs.Sizes.{sizesObeyed, startState, fits}
+use Rattle.state.specs.Answers.{said, refused, part, isRefusal}
+use Rattle.state.specs.Sizes.{fits}
 use Rattle.state.proofs.Fits.{rx-fits, tx-fits}
 use Rattle.block.specs.Packed.{blockLen, packed}
 use Rattle.block.specs.States.{isState, noState, meaning}
@@ -24,8 +24,8 @@ use Rattle.block.proofs.Laws.{no-state-misfits}
 use Rattle.bridge.specs.Calls.{OnState, create, show, on, World, Did, world, did, handed, checks, notRefused, refusedOr, step, shown, Promised, unmade}
 use Rattle.laws.specs.OneResult.{CreatedAnywhere}
 use Rattle.laws.proofs.OneResult.{create-takes-no-state}
-use Rattle.raftershim.specs.Word.{word, kindOf, valueOf, placeWord, startOf, storeOf, shownWord}
-use Rattle.raftershim.specs.Calls.{lent, returned, opened, blockAfter, closed, createdFor, cStep}
+use Rattle.raftershim.specs.Word.{word, kindOf, valueOf, placeWord, placeOf, storeOf, shownWord}
+use Rattle.raftershim.specs.Calls.{lent, cDid, opened, blockAfter, closed, createdFor, cStep}
 
 -- ---- a state that does not fit is refused
 
@@ -54,10 +54,10 @@ module _ (c : OnState) (b rx tx rx′ tx′ : List ℕ) (s : State) (o : Outcome
           absurd (true≢false (sym (ap isRefusal told) ∙ h))
 
   pub written : (r : ℕ) (b′ : List ℕ) → (r ≡ word (said (o .answer))) × (b′ ≡ blockAfter b (said (o .answer)) (o .state)) →
-      returned r b′ rx′ tx′ ≡ closed (lent b rx tx) (step (on c) (opened (lent b rx tx)))
+      cDid r b′ rx′ tx′ ≡ closed (lent b rx tx) (step (on c) (opened (lent b rx tx)))
   unfolding closed
   written r b′ h =
-      (λ i. returned (h .0 i) (h .1 i) rx′ tx′) ∙ ap (closed (lent b rx tx)) (e ∙ ap (λ (x : State). step (on c) (world x rx tx)) m)
+      (λ i. cDid (h .0 i) (h .1 i) rx′ tx′) ∙ ap (closed (lent b rx tx)) (e ∙ ap (λ (x : State). step (on c) (world x rx tx)) m)
 
 -- ---- the number of an answer
 
@@ -85,29 +85,29 @@ module _ (a : Answer) (n r : ℕ) (h : r ≡ n) where
 -- ---- create
 
 module _ (m : ℕ) (b rx tx : List ℕ) where
-  pub wrong-length : (r : ℕ) → (length b ≡ blockLen → ⊥) → r ≡ word (said (Refused 1)) → returned r b rx tx ≡ cStep (create m) (lent b rx tx)
+  pub wrong-length : (r : ℕ) → (length b ≡ blockLen → ⊥) → r ≡ word (said (Refused 1)) → cDid r b rx tx ≡ cStep (create m) (lent b rx tx)
   unfolding cStep createdFor said
   wrong-length r h q = rw (ne-eqb (length b) blockLen h, q)
 
   pub create-written : (o : Outcome) (r : ℕ) (b′ : List ℕ) → length b ≡ blockLen → Promised (create m) (unmade m rx tx) (did o rx tx) →
       (r ≡ word (said (o .answer))) × (b′ ≡ blockAfter b (said (o .answer)) (o .state)) →
-      returned r b′ rx tx ≡ cStep (create m) (lent b rx tx)
+      cDid r b′ rx tx ≡ cStep (create m) (lent b rx tx)
   unfolding cStep createdFor closed
   create-written o r b′ l q h =
       let t = create-takes-no-state m rx tx (meaning b) (did o rx tx) q in
       rw (eq-eqb (length b) blockLen l)
-      ((λ i. returned (h .0 i) (h .1 i) rx tx) ∙ (λ i. returned (word (sym (t .answer) i)) (blockAfter b (sym (t .answer) i) (o .state)) rx tx) ∙ kept (isRefusal (said (o .answer))) refl t)
+      ((λ i. cDid (h .0 i) (h .1 i) rx tx) ∙ (λ i. cDid (word (sym (t .answer) i)) (blockAfter b (sym (t .answer) i) (o .state)) rx tx) ∙ kept (isRefusal (said (o .answer))) refl t)
     where
       d : Did
       d = step (create m) (world (meaning b) rx tx)
 
       -- the state that stands beside a refusal is not written
       kept : (x : Bool) → isRefusal (said (o .answer)) ≡ x → CreatedAnywhere m rx tx (meaning b) (did o rx tx) →
-          returned (word (d .said)) (blockAfter b (d .said) (o .state)) rx tx ≡ returned (word (d .said)) (blockAfter b (d .said) (d .world .state)) (d .world .rx) (d .world .tx)
+          cDid (word (d .said)) (blockAfter b (d .said) (o .state)) rx tx ≡ cDid (word (d .said)) (blockAfter b (d .said) (d .world .state)) (d .world .rx) (d .world .tx)
       kept true e t =
-          (λ i. returned (word (d .said)) (cond ((ap isRefusal (t .answer) ∙ e) i) b (packed (o .state))) rx tx)
-          ∙ (λ i. returned (word (d .said)) (cond (sym (ap isRefusal (t .answer) ∙ e) i) b (packed (d .world .state))) (sym (t .kept e) i .rx) (sym (t .kept e) i .tx))
-      kept false e t = ap (λ (w : World). returned (word (d .said)) (blockAfter b (d .said) (w .state)) (w .rx) (w .tx)) (sym (t .made e))
+          (λ i. cDid (word (d .said)) (cond ((ap isRefusal (t .answer) ∙ e) i) b (packed (o .state))) rx tx)
+          ∙ (λ i. cDid (word (d .said)) (cond (sym (ap isRefusal (t .answer) ∙ e) i) b (packed (d .world .state))) (sym (t .kept e) i .rx) (sym (t .kept e) i .tx))
+      kept false e t = ap (λ (w : World). cDid (word (d .said)) (blockAfter b (d .said) (w .state)) (w .rx) (w .tx)) (sym (t .made e))
 
 -- ---- showing
 
@@ -126,13 +126,13 @@ unfolding word kindOf valueOf
 part-word p = omega arith
 
 module _ (side : ℕ) (b rx tx p : List ℕ) (s : State) (m : s ≡ meaning b) (e : p ≡ shown side (world s rx tx)) where
-  pub show-empty : length p ≡ 0 → returned 0 b rx tx ≡ cStep (show side) (lent b rx tx)
+  pub show-empty : length p ≡ 0 → cDid 0 b rx tx ≡ cStep (show side) (lent b rx tx)
   unfolding cStep shownWord
   show-empty h =
       let none : length (shown side (world (meaning b) rx tx)) ≡ 0 = ap (λ (x : State). length (shown side (world x rx tx))) (sym m) ∙ ap length (sym e) ∙ h in
       rw (eq-eqb (length (shown side (world (meaning b) rx tx))) 0 none)
 
-  pub show-part : (k r : ℕ) → (length p ≡ 0 → ⊥) → k ≡ startOf side s → r ≡ placeWord k (length p) → returned r b rx tx ≡ cStep (show side) (lent b rx tx)
+  pub show-part : (k r : ℕ) → (length p ≡ 0 → ⊥) → k ≡ placeOf side s → r ≡ placeWord k (length p) → cDid r b rx tx ≡ cStep (show side) (lent b rx tx)
   unfolding cStep shownWord
   show-part k r h hk hr = rw (← m, ← e, ne-eqb (length p) 0 h, part-word p, hr, hk)
 
@@ -152,7 +152,7 @@ run-shown xs r p k f e h =
     }
 
 module _ (side : ℕ) (rx tx p : List ℕ) (s : State) (e : p ≡ shown side (world s rx tx)) where
-  pub shown-part : (k : ℕ) → (length p ≡ 0 → ⊥) → k ≡ startOf side s → Shown (storeOf side (world s rx tx)) p k
+  pub shown-part : (k : ℕ) → (length p ≡ 0 → ⊥) → k ≡ placeOf side s → Shown (storeOf side (world s rx tx)) p k
   unfolding shown
   shown-part k h hk = pick (fits s (length rx) (length tx)) refl
     where
@@ -168,5 +168,5 @@ module _ (side : ℕ) (rx tx p : List ℕ) (s : State) (e : p ≡ shown side (wo
           receive true z = rw z (run-shown rx (s .rx) p k (rx-fits s rx tx q .ring) (e ∙ rw (q, z)) (hk ∙ rw z))
           receive false z = transmit z (eqb side 1) refl
 
-  pub show-small : (k : ℕ) → (length p ≡ 0 → ⊥) → k ≡ startOf side s → (k < 4294967296) × (length p < 4294967296)
+  pub show-small : (k : ℕ) → (length p ≡ 0 → ⊥) → k ≡ placeOf side s → (k < 4294967296) × (length p < 4294967296)
   show-small k h hk = let t : Shown (storeOf side (world s rx tx)) p k = shown-part k h hk in (t .start, t .len)

@@ -18,7 +18,7 @@ use Rattle.bridge.specs.Calls.{Call, create, show, on, World, checks, notRefuse
 use Rattle.laws.specs.Fitting.{Fits, SameStores}
 use Rattle.laws.proofs.Fitting.{keeps-fit, create-fits-so, stores-stay}
 use Rattle.raftershim.specs.Word.{word, kindOf, valueOf}
-use Rattle.raftershim.specs.Calls.{Lent, Returned, opened, closed, cStep}
+use Rattle.raftershim.specs.Calls.{Lent, CDid, opened, closed, cStep}
 use Rattle.raftershim.specs.Fitting.{FitsStores, BlockKeepsFit, CreateFits, SameLengths, LengthsStay}
 use Rattle.raftershim.proofs.Laws.{refusal-keeps, misfit-refused, wrong-block-refused}
 use Rattle.raftershim.proofs.Opened.{create-call, closed-world, call-means}
@@ -61,12 +61,12 @@ create-fits m l e = pick (eqb (length (l .block)) blockLen) refl
     pick : (t : Bool) → eqb (length (l .block)) blockLen ≡ t → FitsStores (cStep (create m) l .lent)
     pick true q =
         let c : cStep (create m) l ≡ closed l (step (create m) (opened l)) = create-call m l (eqb-true (length (l .block)) blockLen q) in
-        let o : sizesObeyed m (length (l .rx)) (length (l .tx)) ≡ true = create-done m (opened l) (ap (λ (x : Returned). x .word) (sym c) ∙ e) in
+        let o : sizesObeyed m (length (l .rx)) (length (l .tx)) ≡ true = create-done m (opened l) (ap (λ (x : CDid). x .word) (sym c) ∙ e) in
         let d = obeyed-done m (opened l) o in
-        let w : opened (cStep (create m) l .lent) ≡ step (create m) (opened l) .world = ap (λ (x : Returned). opened (x .lent)) c ∙ closed-world l (step (create m) (opened l)) (refusal-keeps (create m) (opened l)) (d .1) in
+        let w : opened (cStep (create m) l .lent) ≡ step (create m) (opened l) .world = ap (λ (x : CDid). opened (x .lent)) c ∙ closed-world l (step (create m) (opened l)) (refusal-keeps (create m) (opened l)) (d .1) in
         to-block (cStep (create m) l .lent) (subst Fits (sym w) (create-fits-so m (opened l) (d .0)))
     pick false q =
-        let z : _≡_ {A = ℕ} (word (refused 1)) (word done) = ap (λ (x : Returned). x .word) (sym (wrong-block-refused m l q)) ∙ e in
+        let z : _≡_ {A = ℕ} (word (refused 1)) (word done) = ap (λ (x : CDid). x .word) (sym (wrong-block-refused m l q)) ∙ e in
         absurd (omega (arith, z))
 
 -- ---- lengths
@@ -85,7 +85,7 @@ lengths-stay c l = each c
     closing : (c : Call) → cStep c l ≡ closed l (step c (opened l)) → length (l .block) ≡ blockLen → SameLengths l (cStep c l .lent)
     closing c q e =
         let s : SameStores (opened l) (step c (opened l) .world) = stores-stay c (opened l) in
-        subst (λ (x : Returned). SameLengths l (x .lent)) (sym q)
+        subst (λ (x : CDid). SameLengths l (x .lent)) (sym q)
         (record {
           block =
               by-cond (λ (b : List ℕ). length b ≡ length (l .block)) (isRefusal (step c (opened l) .said)) _ _
@@ -100,10 +100,10 @@ lengths-stay c l = each c
       where
         pick : (t : Bool) → eqb (length (l .block)) blockLen ≡ t → SameLengths l (cStep (create m) l .lent)
         pick true q = closing (create m) (create-call m l (eqb-true (length (l .block)) blockLen q)) (eqb-true (length (l .block)) blockLen q)
-        pick false q = subst (λ (x : Returned). SameLengths l (x .lent)) (sym (wrong-block-refused m l q)) (same-lengths l)
+        pick false q = subst (λ (x : CDid). SameLengths l (x .lent)) (sym (wrong-block-refused m l q)) (same-lengths l)
     each (show side) = same-lengths l
     each (on c) = pick (eqb (length (l .block)) blockLen) refl
       where
         pick : (t : Bool) → eqb (length (l .block)) blockLen ≡ t → SameLengths l (cStep (on c) l .lent)
         pick true q = closing (on c) refl (eqb-true (length (l .block)) blockLen q)
-        pick false q = subst (λ (x : Returned). SameLengths l (x .lent)) (sym (misfit-refused c l (other-misfits l q))) (same-lengths l)
+        pick false q = subst (λ (x : CDid). SameLengths l (x .lent)) (sym (misfit-refused c l (other-misfits l q))) (same-lengths l)

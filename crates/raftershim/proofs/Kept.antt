@@ -6,16 +6,10 @@ use mathlib.Core.Bool.{Bool, true, false, _&&_}
 use mathlib.Core.List.{List}
 use lib.ListN.{length}
 use lib.Dec.{eqb}
-use Rattle.cases.specs.Refusals.{firstRefusal}
 use Rattle.cases.proofs.Cases.{by-cond}
-use Rattle.frame.specs.Frame.{controlOf, dataOf, isData, isEnd, sameApart}
+use Rattle.frame.specs.Frame.{dataOf, isEnd}
 use Rattle.registers.specs.Meanings.{endInserted}
 use Rattle.registers.specs.Writing.{written}
-use Rattle.role.specs.declared.Order.{Order}
-use Rattle.role.specs.declared.Ready.{Ready}
-use Rattle.role.specs.declared.Ready.the-variants as asks
-use Rattle.role.specs.Parts.{isActive, activeStatus}
-use Rattle.role.specs.ReadyFrames.{readyOf}
 use Rattle.sending.specs.declared.Given.{Given}
 use Rattle.sending.specs.declared.Given.the-variants.{Nothing, One}
 use Rattle.sending.specs.Sending.{givenOf, sendHeld}
@@ -26,20 +20,20 @@ use Rattle.state.specs.declared.Out.{Out}
 use Rattle.state.specs.declared.Out.the-variants as out
 use Rattle.state.specs.Counts.{counted}
 use Rattle.state.specs.Sizes.{sizesObeyed, startState, fits}
-use Rattle.state.specs.Status.{settled, statusBack, statusSent, breakState, keyState}
+use Rattle.state.specs.Status.{settled, afterStatusBack, afterStatus, breakState, keyState}
 use Rattle.line.specs.HoldingOff.{isGoOrStop, flowed, storedWith, lostState, lineState, resumed, setAfresh, afterWrite, nextOut, goneState}
-use Rattle.loops.specs.LoopToLine.{adds, leftState, leftBytes}
+use Rattle.loops.specs.LoopToLine.{adds, addedState, addedBytes}
 use Rattle.loops.specs.Sending.{talking, ended, ruleOf, removedState, sendState, sendFrom, sendStatus}
-use Rattle.loops.specs.Frames.{cleared, isClear, obeyed, orderIn, commandState, command, finishing, readied, ready, returned, dataPassed, identify, frameTaken, deviceClear, addsBytes, frameBytes}
+use Rattle.loops.specs.Frames.{cleared, obeyed, finishing, deviceClear, addsBytes, frameBytes}
 use Rattle.laws.specs.Bridges.{ByteCall}
 use Rattle.laws.proofs.Fitting.{keeps-fit, keeps-bytes}
 use Rattle.laws.proofs.Small.{put-bytes}
 use Rattle.block.specs.States.{RegistersRanged, CountsRanged, Ranged}
 use Rattle.store.specs.Bytes.{Bytes}
 use Rattle.block.proofs.Laws.{fits-ranged, obeyed-ranged}
-use Rattle.bridge.specs.Calls.{Call, on, create, reset, write, lineByte, lineBreak, key, nextLineByte, loopFrame, show, World, Did, checks, outcome, settledBy, rxAfter, txAfter, notRefused, refusedOr, step}
+use Rattle.bridge.specs.Calls.{Call, on, create, reset, write, lineByte, lineBreak, key, nextLineByte, loopFrame, show, World, Did, checks, outcome, settledBy, txAfter, notRefused, refusedOr, step}
 use Rattle.laws.proofs.Refusing.{by-refusal}
-use Rattle.runs.proofs.Ways.{Way, isNext, isBack, isLast, isDamaged, isStored, isPassed, isCleared, isObeyed, isAssigned, isSendAsked, isTold, isFinishing, isReady, isIdentified, way}
+use Rattle.laws.proofs.Ways.{Way, isNext, isBack, isLast, isDamaged, isStored, isPassed, isCleared, isObeyed, isAssigned, isSendAsked, isTold, isFinishing, isReady, isIdentified, way}
 use Rattle.raftershim.specs.Runs.{Typed}
 use Rattle.raftershim.proofs.Closing.{misfit-step}
 
@@ -95,7 +89,7 @@ unfolding sendFrom
 from-counts s rx k = send-counts s (removedState s rx) (givenOf (sendHeld (ruleOf (s .regs)) rx (s .rx))) (removed-counts s rx k)
 
 frame-counts : (s : State) (rx : List ℕ) (f : ℕ) (o : Outcome) → Way s rx f o → Counted s → Counts o
-unfolding sendStatus ended talking statusSent statusBack leftState cleared obeyed finishing
+unfolding sendStatus ended talking afterStatus afterStatusBack addedState cleared obeyed finishing
 frame-counts s rx f o (isNext r m t e) k = from-counts s rx k
 frame-counts s rx f o (isBack r m t) k = k
 frame-counts s rx f o (isLast r m t e) k = k
@@ -136,8 +130,8 @@ counts-kept c w k = after (λ (x : World). Counted (x .state)) c w k (accepted-c
 -- ---- the stores
 
 -- what a data frame adds to the transmit store is bytes
-left-bytes : (s : State) (tx : List ℕ) (f : ℕ) → RegistersRanged (s .regs) → Bytes tx → Bytes (leftBytes s tx f)
-unfolding leftBytes adds putsBytes
+left-bytes : (s : State) (tx : List ℕ) (f : ℕ) → RegistersRanged (s .regs) → Bytes tx → Bytes (addedBytes s tx f)
+unfolding addedBytes adds putsBytes
 left-bytes s tx f h k =
     by-cond (λ (l : List ℕ). Bytes (putsBytes tx (s .tx) l)) (isEnd f && endInserted (s .regs)) _ _
     (λ e. put-bytes _ _ (s .regs .c03) (h .c03) (put-bytes _ _ (s .regs .c02) (h .c02) first))

@@ -2,7 +2,7 @@
 use Prim.Native.Nat.{ℕ, _/_, _%_}
 use native.Mathlib.Omega.{arith}
 use mathlib.Core.Path.{_≡_, refl, sym, ap, _∙_}
-use mathlib.Core.Bool.{Bool, true, false, cond, false≢true}
+use mathlib.Core.Bool.{Bool, true, false, cond}
 use mathlib.Core.List.{List, [], _∷_}
 use lib.ListN.{length, take, drop}
 use lib.Dec.{eqb}
@@ -15,8 +15,8 @@ use Rattle.block.proofs.Laws.{packed-length, packed-means, meaning-fits}
 use Rattle.bridge.specs.Calls.{Call, create, show, on, World, Did, checks, notRefused, refusedOr, step, shown}
 use Rattle.state.specs.Answers.{part, isRefusal}
 use Rattle.laws.proofs.Answers.{refusal-leaves}
-use Rattle.raftershim.specs.Word.{word, placeWord, startOf, storeOf, shownWord}
-use Rattle.raftershim.specs.Calls.{Lent, lent, Returned, returned, opened, closed, createdFor, cStep}
+use Rattle.raftershim.specs.Word.{word, placeWord, placeOf, storeOf, shownWord}
+use Rattle.raftershim.specs.Calls.{Lent, lent, CDid, cDid, opened, closed, createdFor, cStep}
 use Rattle.raftershim.specs.Runs.{packedWorld, answerWord}
 use Rattle.raftershim.specs.Laws.{OneResultInC, WordTells, ShownPlace, MisfitShowsNothing, MisfitRefused, WrongBlockRefused, SameCall}
 use Rattle.raftershim.proofs.Closing.{misfit-step, part-word, Shown, shown-part}
@@ -26,7 +26,7 @@ use Rattle.raftershim.proofs.Closing.{misfit-step, part-word, Shown, sh
 pub one-result-in-c : OneResultInC
 one-result-in-c c l n m b b′ rx rx′ tx tx′ p q =
     let e = p ∙ sym q in
-    (ap (λ (r : Returned). r .word) e, (ap (λ (r : Returned). r .lent .block) e, (ap (λ (r : Returned). r .lent .rx) e, ap (λ (r : Returned). r .lent .tx) e)))
+    (ap (λ (r : CDid). r .word) e, (ap (λ (r : CDid). r .lent .block) e, (ap (λ (r : CDid). r .lent .rx) e, ap (λ (r : CDid). r .lent .tx) e)))
 
 pub word-tells : WordTells
 unfolding word
@@ -55,7 +55,7 @@ refusal-keeps c w = refusal-leaves c w
 pub step-refusal-keeps : (c : Call) (l : Lent) → isRefusal (step c (opened l) .said) ≡ true → cStep c l .lent ≡ l
 unfolding cStep createdFor
 step-refusal-keeps (create m) l e =
-    by-cond (λ (r : Returned). r .lent ≡ l) (eqb (length (l .block)) blockLen) _ _
+    by-cond (λ (r : CDid). r .lent ≡ l) (eqb (length (l .block)) blockLen) _ _
     (λ q. closed-keeps l (step (create m) (opened l)) (refusal-keeps (create m) (opened l)) e)
     (λ q. refl)
 step-refusal-keeps (show side) l e = refl
@@ -75,7 +75,7 @@ shown-place side w = pick (eqb (length p) 0) refl
     p = shown side w
 
     k : ℕ
-    k = startOf side (w .state)
+    k = placeOf side (w .state)
 
     pick : (t : Bool) → eqb (length p) 0 ≡ t →
         p ≡ take (cond (eqb (length p) 0) 0 (placeWord k (word (part p))) % 4294967296) (drop (cond (eqb (length p) 0) 0 (placeWord k (word (part p))) / 4294967296) (storeOf side w))
@@ -94,7 +94,7 @@ shown-none side w e = cond-false _ _ _ e
 -- an empty part is the number 0
 word-none : (side : ℕ) (w : World) → shown side w ≡ [] → shownWord side w ≡ 0
 unfolding shownWord
-word-none side w e = λ i. cond (eqb (length (e i)) 0) 0 (placeWord (startOf side (w .state)) (word (part (e i))))
+word-none side w e = λ i. cond (eqb (length (e i)) 0) 0 (placeWord (placeOf side (w .state)) (word (part (e i))))
 
 pub misfit-shows-nothing : MisfitShowsNothing
 unfolding cStep
@@ -112,7 +112,7 @@ unfolding closed
 closed-packed w d k = pick (isRefusal (d .said)) refl
   where
     pick : (t : Bool) → isRefusal (d .said) ≡ t →
-        returned (word (d .said)) (cond (isRefusal (d .said)) (packed (w .state)) (packed (d .world .state))) (d .world .rx) (d .world .tx) ≡ record { word = word (d .said); lent = packedWorld (d .world) }
+        cDid (word (d .said)) (cond (isRefusal (d .said)) (packed (w .state)) (packed (d .world .state))) (d .world .rx) (d .world .tx) ≡ record { word = word (d .said); lent = packedWorld (d .world) }
     pick true e = rw (e, k e)
     pick false e = rw e
 

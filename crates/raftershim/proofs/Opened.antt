@@ -15,10 +15,10 @@ use Rattle.block.proofs.Laws.{packed-length, packed-bytes, packed-means, unpack
 use Rattle.block.proofs.Same.{means, means-none}
 use Rattle.bridge.specs.Calls.{Call, create, show, on, World, world, Did, checks, notRefused, refusedOr, step}
 use Rattle.state.specs.Answers.{isRefusal}
-use Rattle.machine.specs.Machine.{left}
+use Rattle.machine.specs.Machine.{finally}
 use Rattle.laws.specs.Bridges.{bridge, ByteCall}
 use Rattle.raftershim.specs.Word.{word}
-use Rattle.raftershim.specs.Calls.{Lent, Returned, opened, closed, createdFor, cStep}
+use Rattle.raftershim.specs.Calls.{Lent, CDid, opened, closed, createdFor, cStep}
 use Rattle.raftershim.specs.Runs.{answerWord, words, cWords, Typed, OfBytes, Whole}
 use Rattle.raftershim.specs.Laws.{Means, CallMeans, RunMeans, RunsMean}
 use Rattle.raftershim.proofs.Kept.{tx-kept, ranged-kept, typed-kept}
@@ -68,8 +68,8 @@ module _ (l : Lent) (h : Whole l) where
   unfolding closed
   closed-means c q a =
       record {
-        world = ap (λ (x : Returned). opened (x .lent)) q ∙ closed-world l (step c (opened l)) (refusal-keeps c (opened l)) (ranged-kept c (opened l) typed);
-        word = ap (λ (x : Returned). x .word) q ∙ a;
+        world = ap (λ (x : CDid). opened (x .lent)) q ∙ closed-world l (step c (opened l)) (refusal-keeps c (opened l)) (ranged-kept c (opened l) typed);
+        word = ap (λ (x : CDid). x .word) q ∙ a;
       }
 
   meant : (c : Call) → Means c l
@@ -81,7 +81,7 @@ module _ (l : Lent) (h : Whole l) where
   -- the block stays one of the one length, and of bytes
   closing : (c : Call) → cStep c l ≡ closed l (step c (opened l)) → (length (cStep c l .lent .block) ≡ blockLen) × Bytes (cStep c l .lent .block)
   closing c q =
-      subst (λ (x : Returned). (length (x .lent .block) ≡ blockLen) × Bytes (x .lent .block)) (sym q)
+      subst (λ (x : CDid). (length (x .lent .block) ≡ blockLen) × Bytes (x .lent .block)) (sym q)
       (closed-block l (step c (opened l)) (refusal-keeps c (opened l)) (ranged-kept c (opened l) typed) (h .size) (h .bytes .block))
 
   block-kept : (c : Call) → (length (cStep c l .lent .block) ≡ blockLen) × Bytes (cStep c l .lent .block)
@@ -108,14 +108,14 @@ call-means c l h = meant l h c
 -- ---- runs
 
 pub runs-mean : RunsMean
-unfolding cWords words left
+unfolding cWords words finally
 runs-mean [] l b h = record { world = refl; words = refl; whole = h }
 runs-mean (c ∷ cs) l b h =
     let k : Whole (cStep c l .lent) = whole-kept l h c (b .0) in
     let r : RunMeans cs (cStep c l .lent) = runs-mean cs (cStep c l .lent) (b .1) k in
     let m : Means c l = call-means c l h in
     record {
-      world = r .world ∙ ap (left (bridge step) cs) (m .world);
+      world = r .world ∙ ap (finally (bridge step) cs) (m .world);
       words = λ i. m .word i ∷ (r .words ∙ ap (words cs) (m .world)) i;
       whole = r .whole;
     }

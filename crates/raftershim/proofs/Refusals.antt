@@ -2,13 +2,12 @@
 use Prim.Native.Nat.{ℕ}
 use native.Mathlib.Omega.{arith}
 use mathlib.Core.Path.{_≡_, refl, sym, ap, subst, _∙_}
-use mathlib.Core.Bool.{Bool, true, false, _||_, not, false≢true}
+use mathlib.Core.Bool.{Bool, true, false, _||_, not}
 use mathlib.Core.List.{[], _∷_}
 use lib.ListN.{length}
 use lib.Dec.{eqb}
 use borrow.Author.Tests.{eqb-true}
 use Rattle.cases.specs.Refusals.{check, firstRefusal}
-use Rattle.registers.specs.Writing.{writeChecks}
 use Rattle.state.specs.Answers.{Said, refused, isRefusal}
 use Rattle.state.specs.Sizes.{sizesObeyed, fits}
 use Rattle.block.specs.Packed.{blockLen}
@@ -18,7 +17,7 @@ use Rattle.bridge.specs.Calls.{OnState, Call, create, show, on, World, checks, 
 use Rattle.laws.specs.Answers.{Refuses}
 use Rattle.laws.proofs.Answers as bridge-answers
 use Rattle.raftershim.specs.Word.{word, kindOf, valueOf}
-use Rattle.raftershim.specs.Calls.{Lent, Returned, opened, cStep}
+use Rattle.raftershim.specs.Calls.{Lent, CDid, opened, cStep}
 use Rattle.raftershim.specs.Told.{told, saidBy, toldPart, cAnswer}
 use Rattle.raftershim.specs.Laws.{refusedBy}
 use Rattle.raftershim.specs.Refusals.{cChecks, RefusedExactlyInC}
@@ -79,7 +78,7 @@ module _ (l : Lent) (e : eqb (length (l .block)) blockLen ≡ false) where
       let t : Bool = sizesObeyed m (length (l .rx)) (length (l .tx)) in
       let n : firstRefusal (cChecks (create m) l) ≡ 1 = ap (λ (b : Bool). firstRefusal (check 1 (not t || not b) ∷ [])) e ∙ either t in
       subst (λ (k : ℕ). Refuses (cAnswer (create m) l) (cStep (create m) l .lent) k l) (sym n)
-      (refuses _ _ 1 l (λ z. omega arith) (ap (λ (x : Returned). told (x .word)) r ∙ told-one) (ap (λ (x : Returned). x .lent) r))
+      (refuses _ _ 1 l (λ z. omega arith) (ap (λ (x : CDid). told (x .word)) r ∙ told-one) (ap (λ (x : CDid). x .lent) r))
     where
       either : (t : Bool) → firstRefusal (check 1 (not t || true) ∷ []) ≡ 1
       either true = refl
@@ -94,7 +93,7 @@ module _ (l : Lent) (e : eqb (length (l .block)) blockLen ≡ false) where
   calling c =
       let r : cStep (on c) l ≡ refusedBy 2 l = misfit-refused c l misfits in
       subst (λ (k : ℕ). Refuses (cAnswer (on c) l) (cStep (on c) l .lent) k l) (sym (rw misfits))
-      (refuses _ _ 2 l (λ z. omega arith) (ap (λ (x : Returned). told (x .word)) r ∙ told-two) (ap (λ (x : Returned). x .lent) r))
+      (refuses _ _ 2 l (λ z. omega arith) (ap (λ (x : CDid). told (x .word)) r ∙ told-two) (ap (λ (x : CDid). x .lent) r))
 
   other-length : (c : Call) → Right c
   other-length (create m) = creating m

@@ -2,31 +2,19 @@
 use Prim.Native.Nat.{ℕ, _<_}
 use native.Mathlib.Omega.{arith}
 use mathlib.Core.Path.{_≡_, refl, ap, _∙_}
-use mathlib.Core.Bool.{Bool, true, false, cond, not, _||_}
+use mathlib.Core.Bool.{_||_}
 use mathlib.Core.List.{List, [], _∷_}
-use lib.ListN.{length}
-use lib.Dec.{eqb, ltb}
-use borrow.Author.Tests.{eqb-true, ltb-false}
+use lib.Dec.{eqb}
+use borrow.Author.Tests.{ltb-false}
 use Rattle.cases.specs.Refusals.{Check, firstRefusal}
 use Rattle.cases.proofs.Cases.{by-cond}
-use Rattle.frame.specs.Frame.{controlOf, dataOf, made, isData, sameApart}
-use Rattle.frame.proofs.Laws.{service-small}
+use Rattle.frame.specs.Frame.{controlOf, dataOf, made}
 use Rattle.registers.specs.Writing.{writeChecks}
-use Rattle.role.specs.declared.Ready.{Ready}
-use Rattle.role.specs.declared.Ready.the-variants as asks
-use Rattle.role.specs.Parts.{isActive, activeStatus}
-use Rattle.role.specs.ReadyFrames.{readyOf}
-use Rattle.sending.specs.declared.Given.{Given}
-use Rattle.sending.specs.declared.Given.the-variants.{Nothing, One}
-use Rattle.sending.specs.Sending.{givenOf, sendHeld}
 use Rattle.store.specs.Ring.{Fit}
 use Rattle.state.specs.declared.State.{State}
-use Rattle.state.specs.declared.Outcome.{Outcome}
 use Rattle.state.specs.declared.Answer.{Answer}
 use Rattle.state.specs.declared.Answer.the-variants as answer
 use Rattle.state.specs.Answers.{Said, said, done, none, byte, frame, refused}
-use Rattle.state.specs.Sizes.{fits}
-use Rattle.state.specs.Status.{shows, serviced, statusOf}
 use Rattle.state.proofs.Fits.{rx-fits, tx-fits}
 use Rattle.line.specs.HoldingOff.{owed, nextOut, outAnswer}
 use Rattle.loops.specs.Frames.{frameTaken}
@@ -34,10 +22,9 @@ use Rattle.block.specs.States.{Ranged}
 use Rattle.store.specs.Bytes.{Bytes}
 use Rattle.bridge.specs.Calls.{OnState, reset, write, lineByte, lineBreak, key, nextLineByte, loopFrame, Call, create, show, on, World, Did, checksOn, checks, outcome, notRefused, step}
 use Rattle.laws.proofs.Refusing.{by-refusal, fitting, frame-fitting}
-use Rattle.runs.proofs.Ways.{way}
+use Rattle.laws.proofs.Ways.{way}
 use Rattle.runs.proofs.ElevenBits.{SmallFrame, frame-small}
-use Rattle.laws.proofs.Small.{held-bytes, given-small}
-use Rattle.runs.proofs.Answered.{status-small}
+use Rattle.laws.proofs.Small.{held-bytes}
 use Rattle.raftershim.specs.Word.{word, kindOf, valueOf}
 use Rattle.raftershim.specs.Told.{saidBy, told}
 use Rattle.raftershim.proofs.Laws.{word-tells}

@@ -10,7 +10,7 @@ use Rattle.block.specs.States.{isState, fittingBlock}
 use Rattle.state.specs.Answers.{part, isRefusal}
 use Rattle.bridge.specs.Calls.{Call, create, show, on, checks, notRefused, refusedOr, step}
 use Rattle.raftershim.specs.Word.{word, storeOf}
-use Rattle.raftershim.specs.Calls.{Lent, Returned, opened, cStep}
+use Rattle.raftershim.specs.Calls.{Lent, CDid, opened, cStep}
 use Rattle.raftershim.specs.Runs.{answerWord, Typed, Whole}
 use Rattle.raftershim.specs.Told.{told, toldPart, cAnswer}
 use Rattle.raftershim.specs.Laws.{RefusalKeepsAll, AnswersTold}
@@ -42,9 +42,9 @@ answers-told (on c) l h = telling l h (on c) refl (told-or (on c) (opened l) (on
 -- with a block of another length every call leaves the buffers as they were
 other-length : (c : Call) (l : Lent) → eqb (length (l .block)) blockLen ≡ false → cStep c l .lent ≡ l
 unfolding cStep fittingBlock isState
-other-length (create m) l e = ap (λ (r : Returned). r .lent) (wrong-block-refused m l e)
+other-length (create m) l e = ap (λ (r : CDid). r .lent) (wrong-block-refused m l e)
 other-length (show side) l e = refl
-other-length (on c) l e = ap (λ (r : Returned). r .lent) (misfit-refused c l (rw e))
+other-length (on c) l e = ap (λ (r : CDid). r .lent) (misfit-refused c l (rw e))
 
 pub refusal-keeps-all : RefusalKeepsAll
 refusal-keeps-all c l h e = pick (eqb (length (l .block)) blockLen) refl

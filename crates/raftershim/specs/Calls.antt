@@ -23,12 +23,12 @@ abbrev pub lent : List ℕ → List ℕ → List ℕ → Lent
 lent b rx tx = record { block = b; rx = rx; tx = tx }
 
 -- what a C call did: the number that it answered, and the buffers after it
-pub record Returned : Type 0 where
+pub record CDid : Type 0 where
   pub word : ℕ
   pub lent : Lent
 
-abbrev pub returned : ℕ → List ℕ → List ℕ → List ℕ → Returned
-returned n b rx tx = record { word = n; lent = lent b rx tx }
+abbrev pub cDid : ℕ → List ℕ → List ℕ → List ℕ → CDid
+cDid n b rx tx = record { word = n; lent = lent b rx tx }
 
 -- the world that lent buffers stand for
 abbrev pub opened : Lent → World
@@ -39,19 +39,19 @@ abbrev pub blockAfter : List ℕ → Said → State → List ℕ
 blockAfter b d s = cond (isRefusal d) b (packed s)
 
 -- what a call of the bridge did, for a caller that lent these buffers
-unfoldable pub closed : Lent → Did → Returned
-closed l d = returned (word (d .said)) (blockAfter (l .block) (d .said) (d .world .state)) (d .world .rx) (d .world .tx)
+unfoldable pub closed : Lent → Did → CDid
+closed l d = cDid (word (d .said)) (blockAfter (l .block) (d .said) (d .world .state)) (d .world .rx) (d .world .tx)
 
 -- "create: a size above is broken, or the lent block has the wrong length"
-unfoldable pub createdFor : Lent → Did → Returned
+unfoldable pub createdFor : Lent → Did → CDid
 createdFor l d = cond (eqb (length (l .block)) blockLen) (closed l d) (record { word = word (refused 1); lent = l })
 
 -- every C function is the call of its name on the world that the buffers stand for
-unfoldable pub cStep : Call → Lent → Returned
+unfoldable pub cStep : Call → Lent → CDid
 cStep (create m) l = createdFor l (step (create m) (opened l))
 cStep (show side) l = record { word = shownWord side (opened l); lent = l }
 cStep (on c) l = closed l (step (on c) (opened l))
 
 -- what every C function promises, lent these buffers: it did this
-abbrev pub CPromised : Call → Lent → Returned → Type 0
+abbrev pub CPromised : Call → Lent → CDid → Type 0
 CPromised c l x = x ≡ cStep c l

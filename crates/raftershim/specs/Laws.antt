@@ -9,10 +9,10 @@ use Rattle.state.specs.Answers.{Said, refused, isRefusal}
 use Rattle.block.specs.Packed.{blockLen}
 use Rattle.block.specs.States.{fittingBlock, Ranged}
 use Rattle.bridge.specs.Calls.{OnState, Call, create, show, on, World, step, shown}
-use Rattle.machine.specs.Machine.{AllFair, left}
+use Rattle.machine.specs.Machine.{AllFair, finally}
 use Rattle.laws.specs.Bridges.{bridge}
 use Rattle.raftershim.specs.Word.{word, kindOf, valueOf, storeOf, shownWord}
-use Rattle.raftershim.specs.Calls.{Lent, Returned, returned, opened, cStep, CPromised}
+use Rattle.raftershim.specs.Calls.{Lent, CDid, cDid, opened, cStep, CPromised}
 use Rattle.raftershim.specs.Runs.{packedWorld, answerWord, words, cWords, Typed, OfBytes, Whole}
 use Rattle.raftershim.specs.Told.{cAnswer}
 use Rattle.raftershim.specs.Seen.{cFunctions}
@@ -23,7 +23,7 @@ use Rattle.raftershim.specs.Seen.{cFunctions}
 -- buffers. It is said of `CPromised`, which the contracts of the C functions cite.
 abbrev pub OneResultInC : Type 0
 OneResultInC =
-    (c : Call) (l : Lent) (n m : ℕ) (b b′ rx rx′ tx tx′ : List ℕ) → CPromised c l (returned n b rx tx) → CPromised c l (returned m b′ rx′ tx′) →
+    (c : Call) (l : Lent) (n m : ℕ) (b b′ rx rx′ tx tx′ : List ℕ) → CPromised c l (cDid n b rx tx) → CPromised c l (cDid m b′ rx′ tx′) →
     (n ≡ m) × ((b ≡ b′) × ((rx ≡ rx′) × (tx ≡ tx′)))
 
 -- the number tells the kind and the value
@@ -43,7 +43,7 @@ MisfitShowsNothing =
 -- ---- refusals
 
 -- a call that answered this number and left the buffers as they were
-abbrev pub refusedBy : ℕ → Lent → Returned
+abbrev pub refusedBy : ℕ → Lent → CDid
 refusedBy n l = record { word = word (refused n); lent = l }
 
 -- "a block that is not a fitting state gets refusal 2", and nothing is written; a block of the wrong length is no state
@@ -67,9 +67,9 @@ RefusalKeepsAll = (c : Call) (l : Lent) → OfBytes l → isRefusal (cAnswer c l
 abbrev pub SameCall : Type 0
 SameCall = (c : Call) (w : World) → Ranged (w .state) → cStep c (packedWorld w) ≡ record { word = answerWord c w; lent = packedWorld (step c w .world) }
 
--- "each call given the state as the one before left it": the buffers at the end of a run are the world at its end
+-- each call is given the state as the one before it left it: the buffers at the end of a run are the world at its end
 abbrev pub SameEnd : Type 0
-SameEnd = (cs : List Call) (w : World) → AllFair cFunctions cs → Typed w → left cFunctions cs (packedWorld w) ≡ packedWorld (left (bridge step) cs w)
+SameEnd = (cs : List Call) (w : World) → AllFair cFunctions cs → Typed w → finally cFunctions cs (packedWorld w) ≡ packedWorld (finally (bridge step) cs w)
 
 -- the numbers that a run of C calls answers are those of the bridge's answers
 abbrev pub SameWords : Type 0
@@ -88,9 +88,9 @@ CallMeans = (c : Call) (l : Lent) → Whole l → Means c l
 
 -- the same of a run
 pub record RunMeans (cs : List Call) (l : Lent) : Type 0 where
-  pub world : opened (left cFunctions cs l) ≡ left (bridge step) cs (opened l)
+  pub world : opened (finally cFunctions cs l) ≡ finally (bridge step) cs (opened l)
   pub words : cWords cs l ≡ words cs (opened l)
-  pub whole : Whole (left cFunctions cs l)
+  pub whole : Whole (finally cFunctions cs l)
 
 -- a run of C calls is the run of the bridge's calls
 abbrev pub RunsMean : Type 0

@@ -40,12 +40,12 @@ abbrev pub placeWord : ℕ → ℕ → ℕ
 placeWord start len = 4294967296 * start + len
 
 -- side 0 is the receive store, side 1 the transmit store
-abbrev pub startOf : ℕ → State → ℕ
-startOf side s = cond (eqb side 0) (s .rx .oldest) (s .tx .oldest)
+abbrev pub placeOf : ℕ → State → ℕ
+placeOf side s = cond (eqb side 0) (s .rx .oldest) (s .tx .oldest)
 
 abbrev pub storeOf : ℕ → World → List ℕ
 storeOf side w = cond (eqb side 0) (w .rx) (w .tx)
 
 -- "an empty part if nothing is held, the state misfits or the side is neither": the number 0
 unfoldable pub shownWord : ℕ → World → ℕ
-shownWord side w = cond (eqb (length (shown side w)) 0) 0 (placeWord (startOf side (w .state)) (word (part (shown side w))))
+shownWord side w = cond (eqb (length (shown side w)) 0) 0 (placeWord (placeOf side (w .state)) (word (part (shown side w))))

@@ -6,8 +6,8 @@ ghost use lib.ListN.{length};
 ghost use Rattle.state.specs.Answers.{said, isRefusal};
 ghost use Rattle.block.specs.Packed.{blockLen};
 ghost use Rattle.bridge.specs.Calls.{create, show, on, reset, write, lineByte, lineBreak, key, nextLineByte, loopFrame};
-ghost use Rattle.raftershim.specs.Word.{ofKind, word, placeWord, startOf};
-ghost use Rattle.raftershim.specs.Calls.{lent, returned, blockAfter, CPromised};
+ghost use Rattle.raftershim.specs.Word.{ofKind, word, placeWord, placeOf};
+ghost use Rattle.raftershim.specs.Calls.{lent, cDid, blockAfter, CPromised};
 use state::Answer;
 use state::Outcome;
 use state::State;
@@ -76,7 +76,7 @@ pub extern "C" fn raftershim_block_len() -> usize
 // Makes a state for these stores in the block.
 #[no_mangle]
 pub extern "C" fn raftershim_create(block: &mut [u8], rx: &[u8], tx: &[u8], margin: u32) -> u64
-    ensures { λ r. ⌜ CPromised (create margin) (lent (now (block .entry)) (now (rx .entry)) (now (tx .entry))) (returned r (now (block .exit)) (now (rx .entry)) (now (tx .entry))) ⌝ }
+    ensures { λ r. ⌜ CPromised (create margin) (lent (now (block .entry)) (now (rx .entry)) (now (tx .entry))) (cDid r (now (block .exit)) (now (rx .entry)) (now (tx .entry))) ⌝ }
 {
     if block.len() != block::LENGTH {
         return word_of(Answer::Refused(1));
@@ -88,7 +88,7 @@ pub extern "C" fn raftershim_create(block: &mut [u8], rx: &[u8], tx: &[u8], marg
 // Resets the state.
 #[no_mangle]
 pub extern "C" fn raftershim_reset(block: &mut [u8], rx: &[u8], tx: &[u8]) -> u64
-    ensures { λ r. ⌜ CPromised (on reset) (lent (now (block .entry)) (now (rx .entry)) (now (tx .entry))) (returned r (now (block .exit)) (now (rx .entry)) (now (tx .entry))) ⌝ }
+    ensures { λ r. ⌜ CPromised (on reset) (lent (now (block .entry)) (now (rx .entry)) (now (tx .entry))) (cDid r (now (block .exit)) (now (rx .entry)) (now (tx .entry))) ⌝ }
 {
     let s = block::meaning(block);
     let o = bridge::reset(s, rx, tx);
@@ -104,7 +104,7 @@ pub extern "C" fn raftershim_write_register(
     number: u32,
     value: u32,
 ) -> u64
-    ensures { λ r. ⌜ CPromised (on (write number value)) (lent (now (block .entry)) (now (rx .entry)) (now (tx .entry))) (returned r (now (block .exit)) (now (rx .entry)) (now (tx .entry))) ⌝ }
+    ensures { λ r. ⌜ CPromised (on (write number value)) (lent (now (block .entry)) (now (rx .entry)) (now (tx .entry))) (cDid r (now (block .exit)) (now (rx .entry)) (now (tx .entry))) ⌝ }
 {
     let s = block::meaning(block);
     let o = bridge::write_register(s, rx, tx, number, value);
@@ -114,7 +114,7 @@ pub extern "C" fn raftershim_write_register(
 // Takes a line byte.
 #[no_mangle]
 pub extern "C" fn raftershim_line_byte(block: &mut [u8], rx: &mut [u8], tx: &[u8], byte: u8) -> u64
-    ensures { λ r. ⌜ CPromised (on (lineByte byte)) (lent (now (block .entry)) (now (rx .entry)) (now (tx .entry))) (returned r (now (block .exit)) (now (rx .exit)) (now (tx .entry))) ⌝ }
+    ensures { λ r. ⌜ CPromised (on (lineByte byte)) (lent (now (block .entry)) (now (rx .entry)) (now (tx .entry))) (cDid r (now (block .exit)) (now (rx .exit)) (now (tx .entry))) ⌝ }
 {
     let s = block::meaning(block);
     let o = bridge::line_byte(s, rx, tx, byte);
@@ -124,7 +124,7 @@ pub extern "C" fn raftershim_line_byte(block: &mut [u8], rx: &mut [u8], tx: &[u8
 // Takes a break on the line.
 #[no_mangle]
 pub extern "C" fn raftershim_break(block: &mut [u8], rx: &mut [u8], tx: &[u8]) -> u64
-    ensures { λ r. ⌜ CPromised (on lineBreak) (lent (now (block .entry)) (now (rx .entry)) (now (tx .entry))) (returned r (now (block .exit)) (now (rx .exit)) (now (tx .entry))) ⌝ }
+    ensures { λ r. ⌜ CPromised (on lineBreak) (lent (now (block .entry)) (now (rx .entry)) (now (tx .entry))) (cDid r (now (block .exit)) (now (rx .exit)) (now (tx .entry))) ⌝ }
 {
     let s = block::meaning(block);
     let o = bridge::take_break(s, rx, tx);
@@ -134,7 +134,7 @@ pub extern "C" fn raftershim_break(block: &mut [u8], rx: &mut [u8], tx: &[u8]) -
 // Takes a press of the MSRQ key.
 #[no_mangle]
 pub extern "C" fn raftershim_key(block: &mut [u8], rx: &[u8], tx: &[u8]) -> u64
-    ensures { λ r. ⌜ CPromised (on key) (lent (now (block .entry)) (now (rx .entry)) (now (tx .entry))) (returned r (now (block .exit)) (now (rx .entry)) (now (tx .entry))) ⌝ }
+    ensures { λ r. ⌜ CPromised (on key) (lent (now (block .entry)) (now (rx .entry)) (now (tx .entry))) (cDid r (now (block .exit)) (now (rx .entry)) (now (tx .entry))) ⌝ }
 {
     let s = block::meaning(block);
     let o = bridge::take_key(s, rx, tx);
@@ -144,7 +144,7 @@ pub extern "C" fn raftershim_key(block: &mut [u8], rx: &[u8], tx: &[u8]) -> u64
 // Gives the next line byte.
 #[no_mangle]
 pub extern "C" fn raftershim_next_line_byte(block: &mut [u8], rx: &[u8], tx: &[u8]) -> u64
-    ensures { λ r. ⌜ CPromised (on nextLineByte) (lent (now (block .entry)) (now (rx .entry)) (now (tx .entry))) (returned r (now (block .exit)) (now (rx .entry)) (now (tx .entry))) ⌝ }
+    ensures { λ r. ⌜ CPromised (on nextLineByte) (lent (now (block .entry)) (now (rx .entry)) (now (tx .entry))) (cDid r (now (block .exit)) (now (rx .entry)) (now (tx .entry))) ⌝ }
 {
     let s = block::meaning(block);
     let o = bridge::next_line_byte(s, rx, tx);
@@ -159,7 +159,7 @@ pub extern "C" fn raftershim_loop_frame(
     tx: &mut [u8],
     frame: u32,
 ) -> u64
-    ensures { λ r. ⌜ CPromised (on (loopFrame frame)) (lent (now (block .entry)) (now (rx .entry)) (now (tx .entry))) (returned r (now (block .exit)) (now (rx .entry)) (now (tx .exit))) ⌝ }
+    ensures { λ r. ⌜ CPromised (on (loopFrame frame)) (lent (now (block .entry)) (now (rx .entry)) (now (tx .entry))) (cDid r (now (block .exit)) (now (rx .entry)) (now (tx .exit))) ⌝ }
 {
     let s = block::meaning(block);
     let o = bridge::loop_frame(s, rx, tx, frame);
@@ -168,7 +168,7 @@ pub extern "C" fn raftershim_loop_frame(
 
 // Where the oldest byte of a side's store is.
 fn start_of(s: State, side: u32) -> usize
-    ensures { λ r. ⌜ r ≡ startOf side s ⌝ }
+    ensures { λ r. ⌜ r ≡ placeOf side s ⌝ }
 {
     if side == 0 { s.rx.oldest } else { s.tx.oldest }
 }
@@ -184,7 +184,7 @@ fn place_word(start: usize, len: usize) -> u64
 // Shows a store: where the longest unbroken run of bytes from the oldest one starts, and how long it is.
 #[no_mangle]
 pub extern "C" fn raftershim_show<'a>(block: &[u8], rx: &'a [u8], tx: &'a [u8], side: u32) -> u64
-    ensures { λ r. ⌜ CPromised (show side) (lent (now (block .entry)) (now (rx .entry)) (now (tx .entry))) (returned r (now (block .entry)) (now (rx .entry)) (now (tx .entry))) ⌝ }
+    ensures { λ r. ⌜ CPromised (show side) (lent (now (block .entry)) (now (rx .entry)) (now (tx .entry))) (cDid r (now (block .entry)) (now (rx .entry)) (now (tx .entry))) ⌝ }
 {
     let s = block::meaning(block);
     let part = bridge::show(s, rx, tx, side);

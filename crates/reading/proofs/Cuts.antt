@@ -6,7 +6,7 @@ use mathlib.Core.Path.{_≡_, refl, sym, ap, subst, _∙_}
 use mathlib.Core.List.{List, _++_}
 use lib.ListN.{length}
 use Rattle.reading.specs.Reading.{Cut, wait, skip, give, Reader, byCut, inCuts, byCuts}
-use Rattle.reading.specs.Lawful.{Oldest, Removes, Stays, Lawful}
+use Rattle.reading.specs.Lawful.{Oldest, Removes, StaysDecided, Lawful}
 
 module _ {A F : Type 0} (cut : List A → Cut A F) (L : Lawful cut) where
   -- what a decided cut removes
@@ -18,10 +18,10 @@ module _ {A F : Type 0} (cut : List A → Cut A F) (L : Lawful cut) where
 
   -- a decided cut with ys behind
   pub skip-stays : (xs r ys : List A) → cut xs ≡ skip r → cut (xs ++ ys) ≡ skip (r ++ ys)
-  skip-stays xs r ys e = subst (λ c. Stays ys c (cut (xs ++ ys))) e (L .stays xs ys)
+  skip-stays xs r ys e = subst (λ c. StaysDecided ys c (cut (xs ++ ys))) e (L .stays xs ys)
 
   pub give-stays : (xs : List A) (f : F) (r ys : List A) → cut xs ≡ give f r → cut (xs ++ ys) ≡ give f (r ++ ys)
-  give-stays xs f r ys e = subst (λ c. Stays ys c (cut (xs ++ ys))) e (L .stays xs ys)
+  give-stays xs f r ys e = subst (λ c. StaysDecided ys c (cut (xs ++ ys))) e (L .stays xs ys)
 
   module _ {X : Type 0} (reader : Reader A F X) where
     -- a cut asks for what is made of shorter lists only

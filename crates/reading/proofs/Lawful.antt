@@ -11,7 +11,7 @@ use Rattle.reading.specs.declared.Rule.{Rule}
 use Rattle.reading.specs.declared.Decision.{Decision}
 use Rattle.reading.specs.declared.Decision.the-variants.{Removed, End, Data, Wait}
 use Rattle.reading.specs.Reading.{skip}
-use Rattle.reading.specs.Lawful.{Oldest, Removes, Stays, Lawful}
+use Rattle.reading.specs.Lawful.{Oldest, Removes, StaysDecided, Lawful}
 use Rattle.reading.specs.Steps.{decision, takes, carried, cut}
 use Rattle.reading.proofs.Decided.{least, settled}
 
@@ -33,19 +33,19 @@ oldest-same : (xs ys : List ℕ) → 1 ≤ length xs → getD (xs ++ ys) 0 0 ≡
 oldest-same [] ys h = absurd (omega arith)
 oldest-same (x ∷ xs) ys h = refl
 
-stays : (d : Decision) (xs ys : List ℕ) → takes d ≤ length xs → Stays ys (carried d xs) (carried d (xs ++ ys))
+stays : (d : Decision) (xs ys : List ℕ) → takes d ≤ length xs → StaysDecided ys (carried d xs) (carried d (xs ++ ys))
 stays Removed xs ys h = ap skip (drop-append-le (takes Removed) xs ys h)
 stays End xs ys h = rw (oldest-same xs ys (omega arith), drop-append-le (takes End) xs ys h)
 stays Data xs ys h = rw (oldest-same xs ys (omega arith), drop-append-le (takes Data) xs ys h)
 stays Wait xs ys h = tt
 
-cut-stays : (r : Rule) (xs ys : List ℕ) → Stays ys (cut r xs) (cut r (xs ++ ys))
+cut-stays : (r : Rule) (xs ys : List ℕ) → StaysDecided ys (cut r xs) (cut r (xs ++ ys))
 unfolding cut
 cut-stays r xs ys = go (settled r xs ys)
   where
-    go : (decision r xs ≡ Wait) ⊎ (decision r (xs ++ ys) ≡ decision r xs) → Stays ys (carried (decision r xs) xs) (carried (decision r (xs ++ ys)) (xs ++ ys))
-    go (inl e) = subst (λ d. Stays ys (carried d xs) (carried (decision r (xs ++ ys)) (xs ++ ys))) (sym e) tt
-    go (inr e) = subst (λ d. Stays ys (carried (decision r xs) xs) (carried d (xs ++ ys))) (sym e) (stays (decision r xs) xs ys (least r xs))
+    go : (decision r xs ≡ Wait) ⊎ (decision r (xs ++ ys) ≡ decision r xs) → StaysDecided ys (carried (decision r xs) xs) (carried (decision r (xs ++ ys)) (xs ++ ys))
+    go (inl e) = subst (λ d. StaysDecided ys (carried d xs) (carried (decision r (xs ++ ys)) (xs ++ ys))) (sym e) tt
+    go (inr e) = subst (λ d. StaysDecided ys (carried (decision r xs) xs) (carried d (xs ++ ys))) (sym e) (stays (decision r xs) xs ys (least r xs))
 
 cut-removes : (r : Rule) (xs : List ℕ) → Removes xs (cut r xs)
 unfolding cut

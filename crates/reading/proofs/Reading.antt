@@ -2,7 +2,7 @@
 -- Assumes nothing.
 use mathlib.Core.Path.{_≡_, sym, ap, _∙_}
 use mathlib.Core.List.{List, [], _∷_, _++_}
-use Rattle.reading.specs.Reading.{Cut, wait, skip, give, none, one, sentFrames, sentRest, byCut, allFrames, oneSend, undecided, frames, send, left}
+use Rattle.reading.specs.Reading.{Cut, wait, skip, give, none, one, sentFrames, sentRest, byCut, allFrames, oneSend, undecided, frames, send, leftOver}
 use Rattle.reading.specs.Lawful.{Lawful}
 use Rattle.reading.proofs.Cuts.{skip-stays, give-stays, cut-once, at-cut, by-cuts}
 
@@ -16,7 +16,7 @@ module _ {A F : Type 0} (cut : List A → Cut A F) (L : Lawful cut) where
   send-unroll = cut-once cut L oneSend
 
   -- what stays, one cut at a time
-  pub left-unroll : (xs : List A) → left cut xs ≡ byCut undecided (left cut) xs (cut xs)
+  pub left-unroll : (xs : List A) → leftOver cut xs ≡ byCut undecided (leftOver cut) xs (cut xs)
   left-unroll = cut-once cut L undecided
 
   -- the same where the cut is known
@@ -26,7 +26,7 @@ module _ {A F : Type 0} (cut : List A → Cut A F) (L : Lawful cut) where
   pub send-at : (xs : List A) (c : Cut A F) → cut xs ≡ c → send cut xs ≡ byCut oneSend (send cut) xs c
   send-at = at-cut cut L oneSend
 
-  pub left-at : (xs : List A) (c : Cut A F) → cut xs ≡ c → left cut xs ≡ byCut undecided (left cut) xs c
+  pub left-at : (xs : List A) (c : Cut A F) → cut xs ≡ c → leftOver cut xs ≡ byCut undecided (leftOver cut) xs c
   left-at = at-cut cut L undecided
 
   -- what is decided is read at once, whatever comes after
@@ -46,18 +46,18 @@ module _ {A F : Type 0} (cut : List A → Cut A F) (L : Lawful cut) where
       xs
 
   -- all frames, and then what is read from what stays: right whatever comes after
-  pub frames-ahead : (xs ys : List A) → frames cut (xs ++ ys) ≡ frames cut xs ++ frames cut (left cut xs ++ ys)
+  pub frames-ahead : (xs ys : List A) → frames cut (xs ++ ys) ≡ frames cut xs ++ frames cut (leftOver cut xs ++ ys)
   frames-ahead xs ys =
-      by-cuts cut L (λ xs. frames cut (xs ++ ys) ≡ frames cut xs ++ frames cut (left cut xs ++ ys))
+      by-cuts cut L (λ xs. frames cut (xs ++ ys) ≡ frames cut xs ++ frames cut (leftOver cut xs ++ ys))
       (λ xs e. rw (frames-at xs wait e, left-at xs wait e))
       (λ xs r e ih. rw (frames-at xs (skip r) e, left-at xs (skip r) e) (skip-frames xs r ys e ∙ ih))
       (λ xs f r e ih. rw (frames-at xs (give f r) e, left-at xs (give f r) e) (give-frames xs f r ys e ∙ ap (λ l. f ∷ l) ih))
       xs
 
   -- no frame is left in what stays
-  pub left-none : (xs : List A) → frames cut (left cut xs) ≡ []
+  pub left-none : (xs : List A) → frames cut (leftOver cut xs) ≡ []
   left-none =
-      by-cuts cut L (λ xs. frames cut (left cut xs) ≡ [])
+      by-cuts cut L (λ xs. frames cut (leftOver cut xs) ≡ [])
       (λ xs e. rw (left-at xs wait e) (frames-at xs wait e))
       (λ xs r e ih. rw (left-at xs (skip r) e) ih)
       (λ xs f r e ih. rw (left-at xs (give f r) e) ih)
@@ -72,9 +72,9 @@ module _ {A F : Type 0} (cut : List A → Cut A F) (L : Lawful cut) where
       xs
 
   -- what it leaves is then what stays
-  pub send-none-left : (xs s : List A) → send cut xs ≡ none s → left cut xs ≡ s
+  pub send-none-left : (xs s : List A) → send cut xs ≡ none s → leftOver cut xs ≡ s
   send-none-left xs s =
-      by-cuts cut L (λ xs. send cut xs ≡ none s → left cut xs ≡ s)
+      by-cuts cut L (λ xs. send cut xs ≡ none s → leftOver cut xs ≡ s)
       (λ xs e n. let z : none xs ≡ none s = sym (send-at xs wait e) ∙ n in left-at xs wait e ∙ cc)
       (λ xs r e ih n. left-at xs (skip r) e ∙ ih (sym (send-at xs (skip r) e) ∙ n))
       (λ xs f r e ih n. let z : one f r ≡ none s = sym (send-at xs (give f r) e) ∙ n in cc)

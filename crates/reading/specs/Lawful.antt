@@ -23,12 +23,12 @@ module _ {A F : Type 0} where
   Removes xs (give f r) = Oldest xs r
 
   -- what is decided stays decided: d is the cut c with ys behind
-  abbrev pub Stays : List A → Cut A F → Cut A F → Type 0
-  Stays ys wait d = Unit {0}
-  Stays ys (skip r) d = d ≡ skip (r ++ ys)
-  Stays ys (give f r) d = d ≡ give f (r ++ ys)
+  abbrev pub StaysDecided : List A → Cut A F → Cut A F → Type 0
+  StaysDecided ys wait d = Unit {0}
+  StaysDecided ys (skip r) d = d ≡ skip (r ++ ys)
+  StaysDecided ys (give f r) d = d ≡ give f (r ++ ys)
 
 -- a rule that removes something at each cut, and whose cuts stay right whatever comes after
 pub record Lawful {A F : Type 0} (cut : List A → Cut A F) : Type 0 where
   pub removes : (xs : List A) → Removes xs (cut xs)
-  pub stays : (xs ys : List A) → Stays ys (cut xs) (cut (xs ++ ys))
+  pub stays : (xs ys : List A) → StaysDecided ys (cut xs) (cut (xs ++ ys))

@@ -70,5 +70,5 @@ module _ {A F : Type 0} (cut : List A → Cut A F) where
   send = byCuts oneSend cut
 
   -- the items that stay when all frames are taken
-  abbrev pub left : List A → List A
-  left = byCuts undecided cut
+  abbrev pub leftOver : List A → List A
+  leftOver = byCuts undecided cut

@@ -5,9 +5,9 @@ use mathlib.Core.Bool.{Bool, true, false, cond, _||_, false≢true}
 use Rattle.cases.specs.Refusals.{firstRefusal}
 use Rattle.machine.specs.Machine.{Obeys}
 use Rattle.status.specs.declared.Events.{Events}
-use Rattle.state.specs.Answers.{said, refused}
+use Rattle.state.specs.Answers.{refused}
 use Rattle.state.specs.Status.{settled, breakState, keyState}
-use Rattle.bridge.specs.Calls.{OnState, reset, write, lineByte, lineBreak, key, nextLineByte, loopFrame, Call, create, show, on, is, World, Did, checks, outcome, settledBy, rxAfter, txAfter, notRefused, step}
+use Rattle.bridge.specs.Calls.{OnState, reset, write, lineByte, lineBreak, key, nextLineByte, loopFrame, Call, create, show, on, is, World, Did, checks, outcome, settledBy, rxAfter, txAfter, notRefused}
 use Rattle.laws.specs.Bridges.{Saw}
 use Rattle.laws.specs.Observers.{taken, onOne}
 use Rattle.laws.specs.Events.{Event, broken, overrun, pressed, noted, happens, same, OnlyNoted, Alone}

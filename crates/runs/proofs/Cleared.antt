@@ -27,7 +27,7 @@ use Rattle.state.specs.Sizes.{startState}
 use Rattle.state.specs.Status.{settled, breakState, keyState, statusOf}
 use Rattle.state.specs.Status as status
 use Rattle.line.specs.HoldingOff.{isGoOrStop, flowed, lostState, storedWith, storedState, lineState, setAfresh, afterWrite, nextOut, goneState}
-use Rattle.loops.specs.LoopToLine.{leftState}
+use Rattle.loops.specs.LoopToLine.{addedState}
 use Rattle.loops.specs.Sending.{sendStatus, talking, ended}
 use Rattle.loops.specs.Frames.{cleared, returned, frameTaken, deviceClear}
 use Rattle.bridge.specs.Calls.{Call, on, create, reset, write, lineByte, lineBreak, key, nextLineByte, loopFrame, show, World, Did, checks, outcome, settledBy, refusedOr, step}
@@ -141,7 +141,7 @@ module _ (e : Event) (w : World) (f : ℕ) where
   still-way a t n = (λ i. sym (frame-taken a t) i && (isData f || eqb (controlOf f) 4)) ∙ n
 
   frame-noted : (o : Outcome) → Kind (w .state) (w .rx) f o → isFrame (said (o .answer)) ≡ true → FrameNoted o
-  unfolding sendStatus ended talking cleared leftState status.statusSent status.statusBack endsWay said
+  unfolding sendStatus ended talking cleared addedState status.afterStatus status.afterStatusBack endsWay said
   frame-noted o (isSent m) t =
       left e (on (loopFrame f)) w _ _ (no-empties _ (m .clear)) (λ h. ap (λ (n : Notes). noted e (n .seen)) (send-notes (w .state) (w .rx) f) ∙ h)
       (λ _ k. absurd (false≢true (sym (busy-talking (w .state) f k .0) ∙ m .send)))
@@ -274,7 +274,7 @@ module _ (e : Event) (g : ℕ) where
 -- it comes back
 returned-clear : (e : Event) (s : State) (rx : List ℕ) (f : ℕ) → eqb (s .role .talker) 3 ≡ true → isData f ≡ true → sameApart f (s .under .frame) ≡ true →
     noted e (acknowledged (s .notes .seen) (s .notes .again) (dataOf (s .under .frame))) ≡ false → Clear e (frameTaken s rx f .state)
-unfolding frameTaken returned ended talking status.statusBack
+unfolding frameTaken returned ended talking status.afterStatusBack
 returned-clear e s rx f T D m q =
     let a : isActive (s .role) ≡ true = le-leb 2 (s .role .talker) (omega (arith, eqb-true (s .role .talker) 3 T)) in
     rw (D, a, m, T) q
@@ -295,7 +295,7 @@ back e g w r y =
 
 -- it is sent
 status-way : (e : Event) (g : ℕ) (s : State) → dataFrame (said (sendStatus s .answer)) ≡ g ∷ [] → Way e g (sendStatus s .state)
-unfolding sendStatus talking status.statusSent
+unfolding sendStatus talking status.afterStatus
 status-way e g s q =
     let z : stripped (made 0 (statusOf s)) ∷ [] ≡ g ∷ [] = sym (status-frame s) ∙ q in
     let d : dataOf (made 0 (statusOf s)) ≡ statusOf s = omega (arith, status-small s) in

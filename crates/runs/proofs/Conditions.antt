@@ -1,7 +1,6 @@
 -- The conditions of the stores by the numbers held. Assumes nothing.
 use Prim.Native.Nat.{ℕ}
-use mathlib.Core.Path.{_≡_, sym, ap, _∙_}
-use mathlib.Core.Bool.{Bool}
+use mathlib.Core.Path.{_≡_, sym, ap}
 use lib.ListN.{length}
 use lib.Dec.{eqb, leb, ltb}
 use Rattle.store.specs.Ring.{full}

@@ -20,7 +20,7 @@ use Rattle.runs.proofs.View.{view}
 use Rattle.runs.proofs.Bytes.{sent-plain, held-all}
 use Rattle.runs.proofs.Sends.{seen-plain}
 use Rattle.runs.proofs.Runs.{first-not}
-use Rattle.runs.proofs.Steps.{answer, after, end, all, ours}
+use Rattle.runs.proofs.Steps.{answer, after, all, ours}
 use Rattle.machine.specs.Machine as machine
 use Rattle.machine.specs.Course as course
 use Rattle.machine.specs.Machine.{Obeys}

@@ -32,7 +32,7 @@ use Rattle.laws.specs.Demands.{isEleven, ElevenBits}
 use Rattle.laws.proofs.Small.{given-small}
 use Rattle.laws.proofs.Refusing.{by-refusal, frame-fitting}
 use Rattle.runs.proofs.Answered.{status-small}
-use Rattle.runs.proofs.Ways.{Way, isNext, isBack, isLast, isDamaged, isStored, isPassed, isCleared, isObeyed, isAssigned, isSendAsked, isTold, isFinishing, isReady, isIdentified, way}
+use Rattle.laws.proofs.Ways.{Way, isNext, isBack, isLast, isDamaged, isStored, isPassed, isCleared, isObeyed, isAssigned, isSendAsked, isTold, isFinishing, isReady, isIdentified, way}
 use Rattle.runs.proofs.Steps.{ours}
 
 -- an answer that is a frame of 11 bits

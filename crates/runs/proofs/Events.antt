@@ -17,7 +17,7 @@ use Rattle.bridge.specs.Calls.{Call, on, create, reset, write, lineByte, lineBr
 use Rattle.bridge.specs.Calls as calls
 use Rattle.laws.specs.Observers.{isFlow, arrived, lost, empties, any}
 use Rattle.laws.specs.StatusWay.{endsWay, newest, underWay, statusBack}
-use Rattle.laws.specs.Events.{Event, broken, overrun, pressed, bitOf, happens, Stays, noted}
+use Rattle.laws.specs.Events.{Event, broken, overrun, pressed, happens, Stays, noted}
 use Rattle.laws.specs.Demands.{OverrunStays}
 use Rattle.runs.proofs.StatusView.{Part, part, Kind, goesOn, idles, sends, returns, begins, kind}
 use Rattle.runs.proofs.Runs.{first-not}

@@ -22,10 +22,10 @@ use Rattle.state.specs.declared.Outcome.{Outcome}
 use Rattle.state.specs.declared.Answer.the-variants.{Frame}
 use Rattle.state.specs.State.{withRole}
 use Rattle.state.specs.Answers.{said}
-use Rattle.state.specs.Status.{serviced, statusBack}
+use Rattle.state.specs.Status.{serviced, afterStatusBack}
 use Rattle.state.proofs.Fits.{tests}
 use Rattle.line.specs.HoldingOff.{resumed}
-use Rattle.loops.specs.LoopToLine.{leftState}
+use Rattle.loops.specs.LoopToLine.{addedState}
 use Rattle.loops.specs.Sending.{ruleOf, removedState, sendState, sendFrom, sendStatus, talking, ended}
 use Rattle.loops.specs.Frames.{passed, isClear, orderIn, obeyed, cleared, commandState, command, finishing, readied, ready, returned, dataPassed, identify, frameTaken, deviceClear}
 use Rattle.bridge.specs.Calls.{World}
@@ -55,10 +55,10 @@ pub data Kind (s : State) (rx : List ℕ) (f : ℕ) : Outcome → Type 0 where
   isSent : Marks s f true false false false false → Kind s rx f (sendFrom s rx)
   isStatus : Marks s f false true false false false → Kind s rx f (sendStatus s)
   -- the status byte came back
-  isBack : Marks s f false false false false false → isData f ≡ true → Kind s rx f (ended (statusBack s (dataOf (s .under .frame))) 64)
+  isBack : Marks s f false false false false false → isData f ≡ true → Kind s rx f (ended (afterStatusBack s (dataOf (s .under .frame))) 64)
   isCleared : Marks s f false false false true false → eqb (controlOf f) 4 ≡ true → Kind s rx f (passed (cleared (obeyed s (orderIn s f))) f)
   -- a listener stores it
-  isKept : Marks s f false false true false true → isData f ≡ true → s .role .listener ≡ true → Kind s rx f (passed (leftState s f) (serviced s f))
+  isKept : Marks s f false false true false true → isData f ≡ true → s .role .listener ≡ true → Kind s rx f (passed (addedState s f) (serviced s f))
   isOther : (t : State) (x : ℕ) (p : Bool) → Marks s f false false p false false → Other s f p t x → Kind s rx f (passed t x)
 
 -- no data frame

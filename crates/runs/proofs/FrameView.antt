@@ -10,8 +10,6 @@ use borrow.Author.Tests.{eqb-true, ltb-false, le-ltb, lt-leb}
 use Rattle.frame.specs.Frame.{controlOf, made, isData}
 use Rattle.registers.specs.Meanings.{go}
 use Rattle.role.specs.Parts.{isActive}
-use Rattle.role.specs.Fit as role-fit
-use Rattle.role.proofs.FitLaws as role-laws
 use Rattle.reading.specs.Reading.{Sent, none, one}
 use Rattle.sending.specs.Sending.{givenOf, sendHeld}
 use Rattle.state.specs.declared.State.{State}
@@ -22,7 +20,7 @@ use Rattle.state.specs.Status.{settled}
 use Rattle.state.specs.Status as status
 use Rattle.state.proofs.Fits.{tx-room}
 use Rattle.line.specs.HoldingOff.{resumed}
-use Rattle.loops.specs.LoopToLine.{adds, busy, leftState, leftBytes}
+use Rattle.loops.specs.LoopToLine.{adds, busy, addedState, addedBytes}
 use Rattle.loops.specs.Sending.{ruleOf, removedState, sendState, sendFrom, sendStatus, talking, ended}
 use Rattle.loops.specs.Frames.{obeyed, cleared, frameTaken, deviceClear, addsBytes, frameBytes}
 use Rattle.bridge.specs.Calls.{on, loopFrame, World, outcome, settledBy, rxAfter, txAfter}
@@ -89,8 +87,8 @@ module _ (w : World) (F : Fits w) (f : ℕ) (B : busy (w .state) f ≡ false) wh
   other-sent t n true x = refl
   other-sent t n false x = no-data n (x .answer refl)
 
-  by-kind : (o : Outcome) → Kind (w .state) (w .rx) f o → FrameShaped w f (cond (isData f && w .state .role .listener) (leftBytes (w .state) (w .tx) f) (w .tx)) o
-  unfolding sendStatus ended talking cleared obeyed leftState leftBytes status.statusSent status.statusBack said
+  by-kind : (o : Outcome) → Kind (w .state) (w .rx) f o → FrameShaped w f (cond (isData f && w .state .role .listener) (addedBytes (w .state) (w .tx) f) (w .tx)) o
+  unfolding sendStatus ended talking cleared obeyed addedState addedBytes status.afterStatus status.afterStatusBack said
   by-kind o (kinds.isSent m) = rw (m .adds) (send-shape w f F m)
   by-kind o (kinds.isStatus m) = rw (m .adds) (marked w f _ _ _ _ _ _ _ _ m refl isStill)
   by-kind o (kinds.isBack m d) = rw (m .adds) (marked w f (made 5 64) _ _ _ _ _ _ _ m refl isStill)
@@ -101,7 +99,7 @@ module _ (w : World) (F : Fits w) (f : ℕ) (B : busy (w .state) f ≡ false) wh
   frame-taken : FrameShaped w f (frameBytes (w .state) (w .tx) f) (frameTaken (w .state) (w .rx) f)
   unfolding frameBytes
   frame-taken =
-      subst (λ l. FrameShaped w f (cond l (leftBytes (w .state) (w .tx) f) (w .tx)) (frameTaken (w .state) (w .rx) f)) (sym stores) (by-kind _ (kind-of f w F))
+      subst (λ l. FrameShaped w f (cond l (addedBytes (w .state) (w .tx) f) (w .tx)) (frameTaken (w .state) (w .rx) f)) (sym stores) (by-kind _ (kind-of f w F))
 
   pub frame-shape : Shaped w (on (loopFrame f)) (calls.notRefused (on (loopFrame f)) w)
   unfolding calls.notRefused outcome settledBy rxAfter txAfter settled

@@ -17,7 +17,7 @@ use Rattle.loops.specs.Sending.{ruleOf}
 use Rattle.bridge.specs.Calls.{Call, World}
 use Rattle.store.specs.Bytes.{Bytes}
 use Rattle.laws.proofs.Fitting.{keeps-bytes}
-use Rattle.laws.specs.Observers.{accepted, sent, changes}
+use Rattle.laws.specs.Observers.{changes}
 use Rattle.laws.specs.Worlds.{heldToSend, reading}
 use Rattle.laws.specs.Demands.{lineToLoop, FramesRead}
 use Rattle.runs.proofs.Shapes.{Seen, seen, Heart, heart, Fits, Shape, isStill, isBegun, isWritten, isCleared, isStored, isLost, isSent, isNone, isLeft, isHanded}

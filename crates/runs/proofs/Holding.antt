@@ -21,7 +21,7 @@ use Rattle.state.specs.Sizes.{startState}
 use Rattle.state.specs.Status.{settled, breakState, keyState}
 use Rattle.state.specs.Status as state-status
 use Rattle.line.specs.HoldingOff.{isGoOrStop, flowed, free, lostState, storedWith, storedState, lineState, lineBytes, resumed, setAfresh, afterWrite, nextOut, goneState, outAnswer}
-use Rattle.loops.specs.LoopToLine.{leftState}
+use Rattle.loops.specs.LoopToLine.{addedState}
 use Rattle.loops.specs.Sending.{ruleOf, removedState, sendState, sendFrom, sendStatus, talking, ended}
 use Rattle.loops.specs.Frames.{cleared, frameTaken, deviceClear}
 use Rattle.bridge.specs.Calls.{Call, on, create, reset, write, lineByte, lineBreak, key, nextLineByte, loopFrame, show, World, Did, outcome, settledBy, rxAfter, txAfter, refusedOr, step}
@@ -149,7 +149,7 @@ module _ (s : State) (rx : List ℕ) (f : ℕ) where
       go (one g r) = record { holding = refl; forbidden = refl }
 
   by-kind : (o : Outcome) → Kind s rx f o → Framed (deviceClear s f) (isSend s f) (o .state)
-  unfolding sendStatus ended talking cleared leftState state-status.statusSent state-status.statusBack
+  unfolding sendStatus ended talking cleared addedState state-status.afterStatus state-status.afterStatusBack
   by-kind o (isSent m) = rw (m .clear, m .send) send-framed
   by-kind o (isStatus m) = rw (m .clear, m .send) (record { holding = refl; forbidden = refl })
   by-kind o (isBack m d) = rw (m .clear, m .send) (record { holding = refl; forbidden = refl })

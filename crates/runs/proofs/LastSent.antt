@@ -26,7 +26,7 @@ use Rattle.state.specs.Status.{settled, breakState, keyState}
 use Rattle.state.specs.Status as status
 use Rattle.state.proofs.Fits.{tests}
 use Rattle.line.specs.HoldingOff.{isGoOrStop, flowed, lostState, storedWith, lineState, resumed, setAfresh, afterWrite, owed, nextOut, goneState, outAnswer}
-use Rattle.loops.specs.LoopToLine.{leftState}
+use Rattle.loops.specs.LoopToLine.{addedState}
 use Rattle.loops.specs.Sending.{ruleOf, removedState, sendState, sendFrom, sendStatus, talking, ended}
 use Rattle.loops.specs.Frames.{obeyed, cleared, deviceClear}
 use Rattle.bridge.specs.Calls.{Call, on, create, reset, write, lineByte, lineBreak, key, nextLineByte, loopFrame, show, World, Did, outcome, settledBy, refusedOr, step}
@@ -37,7 +37,7 @@ use Rattle.runs.proofs.Shapes.{Fits}
 use Rattle.runs.proofs.FrameKinds.{Kind, isSent, isStatus, isBack, isCleared, isKept, isOther, kind-of}
 use Rattle.runs.proofs.Refusals.{or-refused, next-fits, frame-fits}
 use Rattle.runs.proofs.Runs.{first-not}
-use Rattle.runs.proofs.Steps.{answer, after, end, Without, lastSent, ours}
+use Rattle.runs.proofs.Steps.{answer, after, Without, lastSent, ours}
 use Rattle.machine.specs.Machine as machine
 use Rattle.laws.specs.LastSent as last
 use Rattle.machine.specs.Course as course
@@ -68,7 +68,7 @@ module _ (s : State) (rx : List ℕ) (f : ℕ) where
       go (given.One x) = refl
 
   frame-same : (o : Outcome) → Kind s rx f o → Same s (o .state)
-  unfolding sendStatus ended talking cleared obeyed leftState status.statusSent status.statusBack
+  unfolding sendStatus ended talking cleared obeyed addedState status.afterStatus status.afterStatusBack
   frame-same o (isSent m) = send-same
   frame-same o (isStatus m) = refl
   frame-same o (isBack m d) = refl

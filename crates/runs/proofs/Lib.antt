@@ -33,7 +33,6 @@ pub mod Requests
 pub mod Holding
 pub mod NextByte
 pub mod Resuming
-pub mod Ways
 pub mod Untouched
 pub mod Settings
 pub mod ElevenBits

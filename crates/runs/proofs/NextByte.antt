@@ -24,7 +24,7 @@ use Rattle.runs.proofs.Shapes.{Fits}
 use Rattle.runs.proofs.Refusals.{if-taken, next-fits}
 use Rattle.runs.proofs.LastSent.{last-since}
 use Rattle.runs.proofs.Steps.{after, end, ours, answer, lastSent, at-call, at-left}
-use Rattle.machine.specs.Machine.{Obeys, left}
+use Rattle.machine.specs.Machine.{Obeys, finally}
 use Rattle.laws.specs.Observers.{taken, owes, ownCharacter}
 
 module _ (w : World) (F : Fits w) where
@@ -60,4 +60,4 @@ own-given c cs d w B j k b m =
     d
   where
     v : World
-    v = left ours cs (after c w)
+    v = finally ours cs (after c w)

@@ -1,31 +1,28 @@
 -- What answers the frames that pass, the commands and the address. Assumes nothing.
 use Prim.Native.Nat.{ℕ, _+_, _-_, _%_}
 use native.Mathlib.Omega.{arith}
-use mathlib.Core.Path.{_≡_, refl, sym, ap, subst, _∙_}
-use mathlib.Core.Bool.{Bool, true, false, cond, _&&_, _||_, not, true≢false, false≢true}
-use mathlib.Core.List.{List}
+use mathlib.Core.Path.{_≡_, refl, sym, _∙_}
+use mathlib.Core.Bool.{Bool, true, false, _&&_, _||_, not, true≢false, false≢true}
 use lib.Dec.{eqb, leb, ltb}
-use borrow.Author.Tests.{eqb-true, eq-eqb, ne-eqb, leb-true, le-leb, ltb-true, lt-ltb, le-ltb, ltb-false}
+use borrow.Author.Tests.{eqb-true, eq-eqb, leb-true, le-leb, ltb-true, lt-ltb, le-ltb}
 use Rattle.cases.proofs.Cases.{and-left, and-right, same-test}
 use Rattle.cases.specs.Refusals.{firstRefusal}
 use Rattle.machine.specs.Machine.{Obeys, seen}
-use Rattle.frame.specs.Frame.{controlOf, dataOf, made, isData}
+use Rattle.frame.specs.Frame.{controlOf, dataOf, made}
 use Rattle.role.specs.declared.Role.{Role}
 use Rattle.role.specs.Parts.{isActive}
 use Rattle.role.specs.ReadyFrames.{givesAddress}
-use Rattle.state.specs.declared.State.{State}
 use Rattle.state.specs.declared.Outcome.{Outcome}
 use Rattle.state.specs.Answers.{Said, said, frame}
 use Rattle.state.specs.Status.{serviced}
 use Rattle.state.specs.Status as state-status
 use Rattle.bridge.specs.Calls.{loopFrame, on, World, Did, checks, outcome, notRefused, step}
 use Rattle.loops.specs.Frames.{frameTaken}
-use Rattle.laws.specs.Bridges.{Saw}
 use Rattle.laws.specs.Observers.{taken, passesOn, isAsked}
 use Rattle.laws.specs.Roles.{assigns}
 use Rattle.laws.specs.Passing.{asFrame, PassedOn, FramesPass}
 use Rattle.runs.proofs.Refusals.{if-taken}
-use Rattle.runs.proofs.Ways.{Way, Returning, Arriving, Commanding, Readying, Identifying, isNext, isBack, isLast, isDamaged, isStored, isPassed, isCleared, isObeyed, isAssigned, isSendAsked, isTold, isFinishing, isReady, isIdentified, way}
+use Rattle.laws.proofs.Ways.{Way, Returning, Arriving, Commanding, Readying, Identifying, isNext, isBack, isLast, isDamaged, isStored, isPassed, isCleared, isObeyed, isAssigned, isSendAsked, isTold, isFinishing, isReady, isIdentified, way}
 use Rattle.runs.proofs.Steps.{answer, ours, at-call}
 
 -- the address that is given, by the numbers

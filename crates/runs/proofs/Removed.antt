@@ -2,7 +2,7 @@
 use Prim.Native.Nat.{ℕ}
 use native.Mathlib.Omega.{arith}
 use mathlib.Core.Path.{_≡_, refl, sym, ap, _∙_}
-use mathlib.Core.Bool.{Bool, true, false, cond, _&&_, not, true≢false, false≢true}
+use mathlib.Core.Bool.{Bool, true, false, cond, _&&_, not, true≢false}
 use mathlib.Core.List.{List, [], _∷_, _++_, append-nil}
 use lib.Dec.{eqb}
 use borrow.Author.Tests.{leb-false, leb-true}
@@ -18,13 +18,13 @@ use Rattle.state.specs.declared.Outcome.{Outcome}
 use Rattle.state.specs.declared.Out.{Out}
 use Rattle.state.specs.declared.Out.the-variants as out
 use Rattle.state.specs.Answers.{said, refused}
-use Rattle.state.specs.Status.{settled, breakState, keyState, statusSent, statusBack}
+use Rattle.state.specs.Status.{settled, breakState, keyState, afterStatus, afterStatusBack}
 use Rattle.state.proofs.Fits.{rx-fits}
 use Rattle.line.specs.HoldingOff.{isGoOrStop, flowed, lostState, storedState, storedWith, lineState, lineBytes, setAfresh, afterWrite, nextOut, goneState}
-use Rattle.loops.specs.LoopToLine.{leftState}
+use Rattle.loops.specs.LoopToLine.{addedState}
 use Rattle.loops.specs.Sending.{talking, ended, sendStatus}
-use Rattle.loops.specs.Frames.{deviceClear, frameTaken}
-use Rattle.bridge.specs.Calls.{OnState, reset, write, lineByte, lineBreak, key, nextLineByte, loopFrame, Call, create, show, on, World, Did, checks, outcome, settledBy, rxAfter, notRefused, step}
+use Rattle.loops.specs.Frames.{deviceClear}
+use Rattle.bridge.specs.Calls.{OnState, reset, write, lineByte, lineBreak, key, nextLineByte, loopFrame, Call, create, show, on, World, Did, checks, outcome, settledBy, rxAfter, notRefused}
 use Rattle.laws.specs.Observers.{onFrame, isSend, isFlow, arrived, accepted, restarts, clears, empties}
 use Rattle.laws.specs.Worlds.{heldToSend}
 use Rattle.laws.specs.SendRule.{NoneRemoved}
@@ -47,7 +47,7 @@ settled-rx s true u e = e
 settled-rx s false u e = e
 
 frame-rx : (s : State) (rx : List ℕ) (f : ℕ) (o : Outcome) → Kind s rx f o → isSend s f ≡ false → deviceClear s f ≡ false → o .state .rx ≡ s .rx
-unfolding sendStatus ended talking statusSent statusBack leftState
+unfolding sendStatus ended talking afterStatus afterStatusBack addedState
 frame-rx s rx f o (isSent m) e c = absurd (true≢false (sym (m .send) ∙ e))
 frame-rx s rx f o (isStatus m) e c = refl
 frame-rx s rx f o (isBack m d) e c = refl

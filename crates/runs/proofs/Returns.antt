@@ -2,15 +2,15 @@
 use Prim.Native.Nat.{ℕ, _≤_}
 use native.Mathlib.Omega.{arith}
 use mathlib.Core.Path.{_≡_, refl, sym, ap, subst, _∙_}
-use mathlib.Core.Bool.{Bool, true, false, cond, _&&_, _||_, not, and-false, true≢false, false≢true}
+use mathlib.Core.Bool.{Bool, true, false, cond, _&&_, _||_, not, true≢false, false≢true}
 use mathlib.Core.List.{List, [], _∷_, nil≢cons}
-use lib.Dec.{eqb, leb}
+use lib.Dec.{eqb}
 use borrow.Author.Tests.{eqb-true, eqb-false, eq-eqb, ne-eqb, le-leb, le-ltb}
 use Rattle.cases.specs.Refusals.{firstRefusal}
-use Rattle.cases.proofs.Cases.{by-cond, and-left, and-right}
+use Rattle.cases.proofs.Cases.{and-left, and-right}
 use Rattle.machine.specs.Machine as machine
 use Rattle.machine.specs.Course as course
-use Rattle.machine.specs.Machine.{Obeys, left}
+use Rattle.machine.specs.Machine.{Obeys, finally}
 use Rattle.frame.specs.Frame.{controlOf, dataOf, made, isData, stripped, sameApart}
 use Rattle.role.specs.declared.Role.{Role}
 use Rattle.state.specs.declared.State.{State}
@@ -42,7 +42,7 @@ use Rattle.runs.proofs.SendRule.{send-rule}
 use Rattle.laws.proofs.Answers.{frame-not-refused}
 use Rattle.runs.proofs.FrameKinds.{Kind, no-data, kind-of, address-high}
 use Rattle.runs.proofs.FrameKinds as kinds
-use Rattle.runs.proofs.Ways.{Way, isNext, isBack, isLast, isDamaged, isStored, isPassed, isCleared, isObeyed, isAssigned, isSendAsked, isTold, isFinishing, isReady, isIdentified, way}
+use Rattle.laws.proofs.Ways.{Way, isNext, isBack, isLast, isDamaged, isStored, isPassed, isCleared, isObeyed, isAssigned, isSendAsked, isTold, isFinishing, isReady, isIdentified, way}
 use Rattle.runs.proofs.Untouched.{Untouched, settled-untouched, break-untouched, key-untouched, line-untouched, gone-untouched, write-untouched}
 use Rattle.runs.proofs.Steps.{answer, after, end, some, Without, ours, at-call, at-left}
 
@@ -335,7 +335,7 @@ module _ (k : Bool) (g : ℕ) (e : Bool) (w : World) (u : Under k g e (w .state)
       record { damaged = x .0; ended = x .1; next = λ m n. send-rule (on (loopFrame r)) w B r refl t (sends m n) }
 
 pub returns-judged : Obeys ours ReturnsJudged
-unfolding left
+unfolding finally
 returns-judged c cs d w B j h k g r q n =
     at-call (λ d. isData r ≡ true → taken (answer d v) ≡ true → Judged g r k (some finishes cs (after c w)) (machine.seen ours d v)) (on (loopFrame r))
     (at-left (λ v. Bytes (v .rx) → isData r ≡ true → taken (answer (on (loopFrame r)) v) ≡ true → Judged g r k (some finishes cs (after c w)) (machine.seen ours (on (loopFrame r)) v)) cs (after c w)
@@ -344,8 +344,8 @@ returns-judged c cs d w B j h k g r q n =
     d
   where
     v : World
-    v = left ours cs (after c w)
+    v = finally ours cs (after c w)
 
-    left-bytes : (cs : List Call) (w : World) → Bytes (w .rx) → machine.AllFair ours cs → Bytes (left ours cs w .rx)
+    left-bytes : (cs : List Call) (w : World) → Bytes (w .rx) → machine.AllFair ours cs → Bytes (finally ours cs w .rx)
     left-bytes [] w b h = b
     left-bytes (c ∷ cs) w b h = left-bytes cs (after c w) (keeps-bytes c w (h .0) b) (h .1)

@@ -4,9 +4,8 @@ use native.Mathlib.Omega.{arith}
 use mathlib.Core.Path.{_≡_, refl, sym, ap, _∙_}
 use mathlib.Core.Bool.{Bool, true, false, cond, _&&_, not, true≢false}
 use mathlib.Core.List.{List}
-use lib.ListN.{length}
-use lib.Dec.{eqb, leb}
-use borrow.Author.Tests.{eqb-true, ne-eqb, leb-true}
+use lib.Dec.{eqb}
+use borrow.Author.Tests.{eqb-true, ne-eqb}
 use Rattle.cases.specs.Refusals.{firstRefusal}
 use Rattle.cases.proofs.Cases.{and-left}
 use Rattle.machine.specs.Machine.{Obeys}
@@ -17,25 +16,24 @@ use Rattle.role.specs.ReadyFrames.{givesAddress}
 use Rattle.store.specs.Bytes.{Bytes}
 use Rattle.reading.specs.Reading.{Sent, none, one}
 use Rattle.sending.specs.Sending.{givenOf, sendHeld}
-use Rattle.state.specs.declared.State.{State}
 use Rattle.state.specs.declared.Outcome.{Outcome}
 use Rattle.state.specs.Answers.{Said, said, refused}
-use Rattle.state.specs.Status.{statusSent, statusBack}
+use Rattle.state.specs.Status.{afterStatus, afterStatusBack}
 use Rattle.line.specs.HoldingOff.{resumed, nextOut}
-use Rattle.loops.specs.LoopToLine.{leftState}
+use Rattle.loops.specs.LoopToLine.{addedState}
 use Rattle.loops.specs.Sending.{ruleOf, talking, ended, removedState, sendState, sendFrom, sendStatus}
 use Rattle.loops.specs.Frames.{orderIn, obeyed, cleared, finishing, deviceClear, frameTaken}
-use Rattle.bridge.specs.Calls.{OnState, reset, write, lineByte, lineBreak, key, nextLineByte, loopFrame, Call, create, show, on, World, Did, checks, outcome, settledBy, notRefused, step}
+use Rattle.bridge.specs.Calls.{reset, write, lineByte, lineBreak, key, nextLineByte, loopFrame, Call, create, show, on, World, Did, checks, outcome, settledBy, notRefused}
 use Rattle.laws.specs.Observers.{any, taken, dataFrame, onFrame, restarts}
 use Rattle.laws.specs.Fitting.{Fits}
 use Rattle.laws.specs.Worlds.{heldToSend}
-use Rattle.laws.specs.Roles.{assigns, asked, commanded, readied, returnedTo, byFrame, RoleGoes}
+use Rattle.laws.specs.Roles.{commanded, readied, returnedTo, byFrame, RoleGoes}
 use Rattle.laws.proofs.Answers.{frame-not-refused}
 use Rattle.laws.proofs.Refusing.{by-refusal, fitting}
 use Rattle.runs.proofs.Bytes.{held-all, sent-plain}
 use Rattle.runs.proofs.Sends.{seen-plain}
 use Rattle.runs.proofs.FrameKinds.{address-high, role-fits}
-use Rattle.runs.proofs.Ways.{Way, Returning, Arriving, Commanding, Readying, Identifying, isNext, isBack, isLast, isDamaged, isStored, isPassed, isCleared, isObeyed, isAssigned, isSendAsked, isTold, isFinishing, isReady, isIdentified, way}
+use Rattle.laws.proofs.Ways.{Way, Returning, Arriving, Commanding, Readying, Identifying, isNext, isBack, isLast, isDamaged, isStored, isPassed, isCleared, isObeyed, isAssigned, isSendAsked, isTold, isFinishing, isReady, isIdentified, way}
 use Rattle.runs.proofs.Passing.{assigns-same}
 use Rattle.runs.proofs.Obeying.{obeyed-right}
 use Rattle.runs.proofs.Untouched.{settled-untouched, break-untouched, key-untouched, line-untouched, gone-untouched, write-untouched}
@@ -126,7 +124,7 @@ module _ (w : World) (B : Bytes (heldToSend w)) (F : Fits w) (f : ℕ) where
   obeyed-role = obeyed-right (w .state .role) (role-fits w F .range) (dataOf f)
 
   role-way : (o : Outcome) → Way (w .state) (w .rx) f o → Right o
-  unfolding sendStatus ended talking statusSent statusBack leftState cleared finishing said
+  unfolding sendStatus ended talking afterStatus afterStatusBack addedState cleared finishing said
   role-way o (isNext q m k e) = returned-role q _ _ send-role
   role-way o (isBack q m k) = returned-role q _ _ refl
   role-way o (isLast q m k e) = returned-role q _ _ refl

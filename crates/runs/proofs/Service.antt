@@ -8,7 +8,7 @@ use lib.Dec.{eqb, ltb}
 use borrow.Author.Tests.{eqb-true, eqb-false, ne-eqb, ltb-true, ltb-false, lt-ltb, le-ltb}
 use Rattle.cases.proofs.Cases.{by-cond, and-left}
 use Rattle.frame.specs.Frame.{controlOf, dataOf, made, isData, hasService, stripped, withService, sameApart}
-use Rattle.frame.proofs.Laws.{service-set, made-parts}
+use Rattle.frame.proofs.Laws.{service-set}
 use Rattle.role.specs.declared.Ready.{Ready}
 use Rattle.role.specs.Parts.{isActive}
 use Rattle.role.specs.ReadyFrames.{givesAddress, readyOf}
@@ -18,7 +18,7 @@ use Rattle.state.specs.declared.State.{State}
 use Rattle.state.specs.declared.Outcome.{Outcome}
 use Rattle.state.specs.declared.Answer.the-variants.{Frame}
 use Rattle.state.specs.Answers.{Said, said, frame, refused}
-use Rattle.state.specs.Status.{shows, serviced, statusOf, statusBack}
+use Rattle.state.specs.Status.{shows, serviced, statusOf, afterStatusBack}
 use Rattle.loops.specs.Sending.{ruleOf, removedState, sendState, sendFrom, sendStatus, ended}
 use Rattle.loops.specs.Frames.{command, readied, ready, returned, dataPassed, identify, frameTaken}
 use Rattle.cases.specs.Refusals.{firstRefusal}
@@ -28,7 +28,7 @@ use Rattle.store.specs.Bytes.{Bytes}
 use Rattle.laws.specs.Observers.{passesOn}
 use Rattle.laws.specs.Worlds.{heldToSend}
 use Rattle.laws.specs.Service.{carriesService, ServiceRight, ServiceBit}
-use Rattle.runs.proofs.Answered.{serviced-kind, serviced-rest, status-small}
+use Rattle.runs.proofs.Answered.{serviced-kind, status-small}
 use Rattle.runs.proofs.Bytes.{Plain, plain-data, sent-plain, held-all}
 use Rattle.machine.specs.Machine.{Obeys}
 use Rattle.runs.proofs.Steps.{ours, answer, at-call}
@@ -100,7 +100,7 @@ module _ (w : World) (f : ℕ) where
     unfolding returned
     return-right B =
         by-cond OutRight (sameApart f (w .state .under .frame)) _ _
-        (λ _. by-cond OutRight (eqb (w .state .role .talker) 3) _ _ (λ _. ended-right (statusBack (w .state) (dataOf (w .state .under .frame))) 64 (omega arith))
+        (λ _. by-cond OutRight (eqb (w .state .role .talker) 3) _ _ (λ _. ended-right (afterStatusBack (w .state) (dataOf (w .state .under .frame))) 64 (omega arith))
         (λ _. by-cond OutRight (w .state .under .finishing) _ _ (λ _. ended-right (w .state) 64 (omega arith)) (λ _. send-right B)))
         (λ _. ended-right (w .state) 65 (omega arith))
 

@@ -1,12 +1,11 @@
 -- A register write writes its register, and nothing else does; only a create or reset changes the sizes. Assumes nothing.
 use Prim.Native.Nat.{ℕ}
-use mathlib.Core.Path.{_≡_, refl, sym, ap, _∙_}
-use mathlib.Core.Bool.{Bool, true, false, cond, true≢false, false≢true}
+use mathlib.Core.Path.{_≡_, refl, ap}
+use mathlib.Core.Bool.{Bool, true, false, cond, true≢false}
 use mathlib.Core.List.{List}
 use lib.Dec.{eqb}
 use Rattle.cases.proofs.Cases.{by-cond}
 use Rattle.machine.specs.Machine.{Obeys}
-use Rattle.registers.specs.declared.Registers.{Registers}
 use Rattle.registers.specs.Writing.{written}
 use Rattle.store.specs.Ring.{full}
 use Rattle.sending.specs.declared.Given.{Given}
@@ -17,17 +16,17 @@ use Rattle.state.specs.declared.Outcome.{Outcome}
 use Rattle.state.specs.declared.Out.{Out}
 use Rattle.state.specs.declared.Out.the-variants as out
 use Rattle.state.specs.Answers.{said, refused}
-use Rattle.state.specs.Status.{settled, breakState, keyState, statusSent, statusBack}
+use Rattle.state.specs.Status.{settled, breakState, keyState, afterStatus, afterStatusBack}
 use Rattle.line.specs.HoldingOff.{isGoOrStop, flowed, lostState, storedWith, lineState, resumed, setAfresh, afterWrite, nextOut, goneState}
-use Rattle.loops.specs.LoopToLine.{leftState}
+use Rattle.loops.specs.LoopToLine.{addedState}
 use Rattle.loops.specs.Sending.{ruleOf, talking, ended, removedState, sendState, sendFrom, sendStatus}
 use Rattle.loops.specs.Frames.{obeyed, cleared, finishing, deviceClear, frameTaken}
-use Rattle.bridge.specs.Calls.{reset, write, lineByte, lineBreak, key, nextLineByte, loopFrame, Call, create, show, on, World, Did, outcome, settledBy, notRefused, step}
+use Rattle.bridge.specs.Calls.{reset, write, lineByte, lineBreak, key, nextLineByte, loopFrame, Call, create, show, on, World, Did, outcome, settledBy, notRefused}
 use Rattle.laws.specs.Observers.{taken, onWrite, restarts}
 use Rattle.laws.specs.Starting.{registerValues, SizesStay}
 use Rattle.laws.specs.Registers.{numbers, writtenTo, RegistersGo}
 use Rattle.laws.proofs.Refusing.{by-refusal}
-use Rattle.runs.proofs.Ways.{Way, isNext, isBack, isLast, isDamaged, isStored, isPassed, isCleared, isObeyed, isAssigned, isSendAsked, isTold, isFinishing, isReady, isIdentified, way}
+use Rattle.laws.proofs.Ways.{Way, isNext, isBack, isLast, isDamaged, isStored, isPassed, isCleared, isObeyed, isAssigned, isSendAsked, isTold, isFinishing, isReady, isIdentified, way}
 use Rattle.runs.proofs.Steps.{ours}
 
 -- the registers and the sizes stay
@@ -53,7 +52,7 @@ send-same s rx = go (givenOf (sendHeld (ruleOf (s .regs)) rx (s .rx)))
     go (One f) = record { regs = refl; sizes = refl }
 
 frame-same : (s : State) (rx : List ℕ) (f : ℕ) (o : Outcome) → Way s rx f o → Same s (o .state)
-unfolding sendStatus ended talking statusSent statusBack leftState cleared obeyed finishing
+unfolding sendStatus ended talking afterStatus afterStatusBack addedState cleared obeyed finishing
 frame-same s rx f o (isNext r m k e) = send-same s rx
 frame-same s rx f o (isBack r m k) = record { regs = refl; sizes = refl }
 frame-same s rx f o (isLast r m k e) = record { regs = refl; sizes = refl }

@@ -7,7 +7,7 @@ use mathlib.Core.Logic.{⊎-elim}
 use mathlib.Core.List.{[], _∷_}
 use Rattle.cases.proofs.Cases.{cond-true}
 use Rattle.cases.specs.Refusals.{firstRefusal}
-use Rattle.frame.specs.Frame.{dataOf, made}
+use Rattle.frame.specs.Frame.{made}
 use Rattle.state.specs.declared.Outcome.{Outcome}
 use Rattle.state.specs.Answers.{said}
 use Rattle.state.specs.Status.{statusOf, conditions}
@@ -25,7 +25,7 @@ use Rattle.runs.proofs.FrameKinds.{sends-status, kind-of}
 use Rattle.runs.proofs.Refusals.{if-taken, frame-fits}
 use Rattle.runs.proofs.Events.{events-stay}
 use Rattle.runs.proofs.Steps.{after, end, ours, answer, at-call, at-left}
-use Rattle.machine.specs.Machine.{Obeys, left}
+use Rattle.machine.specs.Machine.{Obeys, finally}
 use Rattle.laws.specs.Fitting.{Fits}
 use Rattle.registers.specs.Bits.{bit}
 use Rattle.runs.proofs.Bits.{worth, event-shown, weighs}
@@ -86,7 +86,7 @@ tells-until-back e c cs d w B j k h n b f =
     d
   where
     u : World
-    u = left ours cs (after c w)
+    u = finally ours cs (after c w)
 
     v : World
     v = end cs (after c w)

@@ -32,7 +32,7 @@ use Rattle.state.specs.Answers.{Said, said, refused}
 use Rattle.state.specs.Status.{settled, serviced, breakState, keyState}
 use Rattle.state.specs.Status as status
 use Rattle.line.specs.HoldingOff.{isGoOrStop, flowed, lostState, storedWith, lineState, resumed, setAfresh, afterWrite, nextOut, goneState}
-use Rattle.loops.specs.LoopToLine.{leftState}
+use Rattle.loops.specs.LoopToLine.{addedState}
 use Rattle.loops.specs.Sending.{ruleOf, removedState, sendState, sendFrom, sendStatus, talking, ended}
 use Rattle.loops.specs.Frames.{isClear, orderIn, obeyed, commandState, command, finishing, readied, ready, returned, dataPassed, identify, frameTaken, deviceClear}
 use Rattle.bridge.specs.Calls.{Call, on, create, reset, write, lineByte, lineBreak, key, nextLineByte, loopFrame, show, World, Did, outcome, settledBy, refusedOr, step}
@@ -154,7 +154,7 @@ module _ (w : World) (f : ℕ) where
       go (one g r) = idles refl (keeps _)
 
   return-kind : isData f ≡ true → FrameKind (returned (w .state) (w .rx) f)
-  unfolding returned ended talking status.statusBack statusBack said
+  unfolding returned ended talking status.afterStatusBack statusBack said
   return-kind D =
       by-cond FrameKind (sameApart f (w .state .under .frame)) _ _
       (λ m. by-cond FrameKind (eqb (w .state .role .talker) 3) _ _
@@ -166,7 +166,7 @@ module _ (w : World) (f : ℕ) where
       back m = λ i. D i && stripped-same f (stripped (w .state .under .frame)) (same-stripped f _ m ∙ sym (stripped-twice (w .state .under .frame))) i
 
   pass-kind : isActive (w .state .role) ≡ false → FrameKind (dataPassed (w .state) f)
-  unfolding dataPassed leftState
+  unfolding dataPassed addedState
   pass-kind A =
       by-cond (λ (t : State). Kind (on (loopFrame f)) w (said (Frame (serviced (w .state) f))) (part t)) (w .state .role .listener) _ _
       (λ _. idles off (keeps _))
@@ -192,7 +192,7 @@ module _ (w : World) (f : ℕ) where
   on-kind o D C e p = goesOn e (simp (D, C) (and-false (taken (said (o .answer))))) (same (w .state) (part (o .state)) p)
 
   ready-kind : isData f ≡ false → eqb (controlOf f) 4 ≡ false → eqb (controlOf f) 5 ≡ true → FrameKind (ready (w .state) (w .rx) f)
-  unfolding ready readied readyOf finishing sendStatus talking status.statusSent statusSent asksStatus
+  unfolding ready readied readyOf finishing sendStatus talking status.afterStatus statusSent asksStatus
   ready-kind D C R =
       by-cond Readied (givesAddress r d) _ _ (λ e. passes Address (λ i. ne-eqb d 97 (address-high r d 97 (omega arith) e) i && eqb (r .talker) 1) refl)
       (λ _. by-cond Readied (eqb d 96 && eqb (r .talker) 1) _ _ (λ _. send-kind)

@@ -9,7 +9,6 @@ use Rattle.machine.proofs.Course.{left-stands}
 use Rattle.state.specs.Answers.{Said}
 use Rattle.bridge.specs.Calls.{Call, on, create, reset, write, lineByte, lineBreak, key, nextLineByte, loopFrame, show, World, step}
 use Rattle.laws.specs.Observers.{onFrame}
-use Rattle.laws.specs.Bridges.{Machine, bridge}
 use Rattle.laws.specs.Spells as run
 use Rattle.laws.specs.StatusWay as way
 use Rattle.laws.specs.LastSent as last
@@ -48,7 +47,7 @@ lastSent k cs w = last.lastSent k (machine.course ours cs w)
 -- ---- laws of the bridge
 
 -- what a run leaves, by its end
-pub at-left : (P : World → Type 0) (cs : List Call) (w : World) → P (end cs w) → P (machine.left ours cs w)
+pub at-left : (P : World → Type 0) (cs : List Call) (w : World) → P (end cs w) → P (machine.finally ours cs w)
 at-left P cs w p = subst P (sym (left-stands ours cs w)) p
 
 -- a law of one call, by that call

@@ -1,15 +1,12 @@
 -- The kind of change of every call in every world. Assumes nothing.
 use Prim.Native.Nat.{ℕ}
-use native.Mathlib.Omega.{arith}
 use mathlib.Core.Path.{_≡_, refl}
 use mathlib.Core.Bool.{Bool, true, false, cond, _||_}
 use mathlib.Core.List.{[]}
-use lib.Dec.{ltb}
 use Rattle.registers.specs.Meanings.{go}
 use Rattle.state.specs.Answers.{said, done, refused}
 use Rattle.state.specs.Status.{settled, breakState, keyState}
 use Rattle.line.specs.HoldingOff.{owed}
-use Rattle.loops.specs.LoopToLine.{busy}
 use Rattle.bridge.specs.Calls.{Call, on, create, reset, write, lineByte, lineBreak, key, nextLineByte, loopFrame, show, World, Did, checks, outcome, settledBy, rxAfter, txAfter, refusedOr, step}
 use Rattle.bridge.specs.Calls as calls
 use Rattle.laws.specs.Observers.{passesOn, asksStatus, arrived, sent, added, handedOut, restarts, writes, clears}

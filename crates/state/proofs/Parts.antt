@@ -18,7 +18,7 @@ use Rattle.status.specs.Status.{statusByte, both, begins, acknowledged}
 use Rattle.state.specs.declared.State.{State}
 use Rattle.state.specs.State.{noEvents, notesWith, noFrame}
 use Rattle.state.specs.Sizes.{sizesObeyed, startState, fits}
-use Rattle.state.specs.Status.{conditions, enabledBy, asking, withRequest, settled, shows, statusOf, statusSent, statusBack}
+use Rattle.state.specs.Status.{conditions, enabledBy, asking, withRequest, settled, shows, statusOf, afterStatus, afterStatusBack}
 
 pub start-met : (m a b : ℕ) (g : Registers) (r : Role) (x y : Ring) (p q : Events) → g ≡ startRegisters → r ≡ startRole → x ≡ store-ring.emptyRing → y ≡ store-ring.emptyRing → p ≡ noEvents → q ≡ noEvents →
     record {
@@ -61,10 +61,10 @@ pub status-met : (s : State) (c : Conditions) (t : Bool) (r : ℕ) → c ≡ con
 unfolding statusOf
 status-met s c t r p q e = rw (e, p, q)
 
-pub sent-met : (s t : State) (quiet : Events) → quiet ≡ noEvents → t ≡ notesWith s (s .notes .seen) quiet false → t ≡ statusSent s
-unfolding statusSent
+pub sent-met : (s t : State) (quiet : Events) → quiet ≡ noEvents → t ≡ notesWith s (s .notes .seen) quiet false → t ≡ afterStatus s
+unfolding afterStatus
 sent-met s t quiet e q = rw (q, e)
 
-pub back-met : (s t : State) (d : ℕ) (left : Events) → left ≡ acknowledged (s .notes .seen) (s .notes .again) d → t ≡ notesWith s left (s .notes .again) (s .notes .request) → t ≡ statusBack s d
-unfolding statusBack
+pub back-met : (s t : State) (d : ℕ) (left : Events) → left ≡ acknowledged (s .notes .seen) (s .notes .again) d → t ≡ notesWith s left (s .notes .again) (s .notes .request) → t ≡ afterStatusBack s d
+unfolding afterStatusBack
 back-met s t d left e q = rw (q, e)

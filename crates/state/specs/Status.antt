@@ -63,12 +63,12 @@ unfoldable pub statusOf : State → ℕ
 statusOf s = statusByte (conditions s) (shows s)
 
 -- a request "ends when status is sent"; what happened is told from here on, and the notes that it happened again begin anew
-unfoldable pub statusSent : State → State
-statusSent s = withNotes s (record { seen = s .notes .seen; again = noEvents; request = false })
+unfoldable pub afterStatus : State → State
+afterStatus s = withNotes s (record { seen = s .notes .seen; again = noEvents; request = false })
 
 -- the status byte d came back unchanged
-unfoldable pub statusBack : State → ℕ → State
-statusBack s d = withNotes s (record { seen = acknowledged (s .notes .seen) (s .notes .again) d; again = s .notes .again; request = s .notes .request })
+unfoldable pub afterStatusBack : State → ℕ → State
+afterStatusBack s d = withNotes s (record { seen = acknowledged (s .notes .seen) (s .notes .again) d; again = s .notes .again; request = s .notes .request })
 
 -- "A break sets bit 4 and a key press bit 7, and apart from a request and the note that it happened again either changes nothing else."
 unfoldable pub breakState : State → State

@@ -1,7 +1,7 @@
 // Service requests and the status byte.
 ghost use mathlib.Core.Path.{_≡_};
 ghost use Rattle.state.specs.State.{notesWith};
-ghost use Rattle.state.specs.Status.{conditions, enabledBy, asking, settled, shows, serviced, statusOf, statusSent, statusBack, breakState, keyState};
+ghost use Rattle.state.specs.Status.{conditions, enabledBy, asking, settled, shows, serviced, statusOf, afterStatus, afterStatusBack, breakState, keyState};
 use crate::Notes;
 use crate::State;
 use registers::Registers;
@@ -93,7 +93,7 @@ pub fn with_notes(s: State, seen: Events, again: Events, request: bool) -> State
 
 // The state after a status byte was sent.
 pub fn status_sent(s: State) -> State
-    ensures { λ r. ⌜ r ≡ statusSent s ⌝ }
+    ensures { λ r. ⌜ r ≡ afterStatus s ⌝ }
 {
     let seen = s.notes.seen;
     let none = crate::fitting::no_events();
@@ -102,7 +102,7 @@ pub fn status_sent(s: State) -> State
 
 // The state after the status byte d came back unchanged.
 pub fn status_back(s: State, d: u8) -> State
-    ensures { λ r. ⌜ r ≡ statusBack s d ⌝ }
+    ensures { λ r. ⌜ r ≡ afterStatusBack s d ⌝ }
 {
     let seen = s.notes.seen;
     let again = s.notes.again;

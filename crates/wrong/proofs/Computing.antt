@@ -1,6 +1,6 @@
 -- One name that opens all that a concrete run needs: `unfolding computes` on a refutation lets the checker run the bridge. Assumes nothing.
 use Rattle.machine.specs.Course.{end, all, some}
-use Rattle.machine.specs.Machine.{course, left}
+use Rattle.machine.specs.Machine.{course, finally}
 use Rattle.frame.specs.Frame.{stripped, withService, sameApart}
 use Rattle.reading.specs.Reading.{inCuts, byCuts}
 use Rattle.reading.specs.Steps.{cut}
@@ -18,7 +18,7 @@ use Rattle.state.specs.Answers.{said}
 use Rattle.state.specs.Sizes.{sizesObeyed, startState, fits}
 use Rattle.state.specs.Status as status
 use Rattle.line.specs.HoldingOff as line
-use Rattle.loops.specs.LoopToLine.{adds, busy, leftState, leftBytes}
+use Rattle.loops.specs.LoopToLine.{adds, busy, addedState, addedBytes}
 use Rattle.loops.specs.Sending.{talking, ended, ruleOf, removedState, sendState, sendFrom, sendStatus}
 use Rattle.loops.specs.Frames as frames
 use Rattle.bridge.specs.Calls as calls
@@ -30,10 +30,14 @@ use Rattle.laws.specs.LastSent as last
 use Rattle.laws.specs.Returns.{finishes}
 use Rattle.laws.specs.Spells.{spells}
 use Rattle.laws.specs.StatusTold.{numberOf}
+use Rattle.laws.specs.Roles as roles
+use Rattle.laws.specs.CallPlaces as places
+use Rattle.laws.specs.Registers.{writtenTo}
+use Rattle.laws.specs.Requests.{comes}
 
 -- what runs are
 unfoldable runs-open : Unit {0}
-unfolding end all some course left
+unfolding end all some course finally
 runs-open = tt
 
 -- frames, the reading rule, registers, roles, stores and a send from one
@@ -59,7 +63,7 @@ unfolding said sizesObeyed startState fits status.conditions status.enabledBy st
 state-open = tt
 
 unfoldable status-open : Unit {0}
-unfolding status.statusOf status.statusSent status.statusBack status.breakState status.keyState
+unfolding status.statusOf status.afterStatus status.afterStatusBack status.breakState status.keyState
 status-open = tt
 
 unfoldable line-open : Unit {0}
@@ -67,7 +71,7 @@ unfolding line.isGoOrStop line.flowed line.storedWith line.lostState line.lineSt
 line-open = tt
 
 unfoldable out-open : Unit {0}
-unfolding line.nextOut line.goneState line.outAnswer adds busy leftState leftBytes
+unfolding line.nextOut line.goneState line.outAnswer adds busy addedState addedBytes
 out-open = tt
 
 unfoldable sends-open : Unit {0}
@@ -100,10 +104,14 @@ unfoldable laws-open : Unit {0}
 unfolding holding.sends holding.holdingAfter next.afterByte next.forbiddenAfter next.nextGiven last.lastOf last.lastSent finishes spells numberOf
 laws-open = tt
 
+unfoldable roles-said : Unit {0}
+unfolding roles.commanded roles.readied roles.returnedTo roles.byFrame places.writtenFrom places.placeAfter writtenTo comes
+roles-said = tt
+
 unfoldable bridge-open : Unit {0}
 unfolding parts-open registers-open roles-open stores-open state-open status-open line-open out-open sends-open frames-open data-open calls-open
 bridge-open = tt
 
 unfoldable pub computes : Unit {0}
-unfolding runs-open bridge-open sights-open others-open laws-open
+unfolding runs-open bridge-open sights-open others-open laws-open roles-said
 computes = tt

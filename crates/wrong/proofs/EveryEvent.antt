@@ -8,7 +8,7 @@ use mathlib.Core.List.{List, [], _∷_}
 use borrow.Author.Tests.{not-true}
 use Rattle.cases.proofs.Cases.{and-left, and-right}
 use Rattle.machine.specs.Course.{of, end, some}
-use Rattle.machine.specs.Machine.{seen, course, left}
+use Rattle.machine.specs.Machine.{seen, course, finally}
 use Rattle.registers.specs.Bits.{bit}
 use Rattle.bridge.specs.Calls.{lineByte, lineBreak, key, loopFrame, Call, on, World, Did}
 use Rattle.laws.specs.Bridges.{Saw, ByteCall, bridge}
@@ -67,7 +67,7 @@ module _ (B : Event → Call → World → Did) (w : World) (cs : List Call) whe
   rest e = course (bridge (B e)) cs (first e .after)
 
   abbrev asks : Event → Saw
-  asks e = seen (bridge (B e)) (on (loopFrame sendStatus)) (left (bridge (B e)) cs (first e .after))
+  asks e = seen (bridge (B e)) (on (loopFrame sendStatus)) (finally (bridge (B e)) cs (first e .after))
 
   -- it is not noted any more, and no status byte has come back
   pub not-kept : allBelow (w .rx) ≡ true → byteCalls cs ≡ true → ofEvery (λ e. of (happens e) (first e)) ≡ true → ofNone (λ e. some empties (rest e)) ≡ true →
@@ -108,7 +108,7 @@ module _ (B : Event → Call → World → Did) where
   pub not-cleared : ofEvery (λ e. alike (of statusSent (sends e)) (telling e ∷ [])) ≡ true →
       ofEvery (λ e. statusBack (telling e ∷ []) (returns e .call) (returns e .answer)) ≡ true → ofEvery (λ e. bitOf e (returns e .after)) ≡ true →
       (e : Event) → Breaks (B e) (Clears e)
-  unfolding some course left
+  unfolding some course finally
   not-cleared s r k e law =
       true≢false
       (sym (every _ k e)

@@ -11,7 +11,7 @@ pub mod WrongLine
 pub mod WrongHolding
 pub mod WrongGoAndStop
 pub mod WrongCounts
-pub mod ComputingMore
+pub mod Ends
 pub mod WrongRoles
 pub mod WrongRefusals
 pub mod WrongStores

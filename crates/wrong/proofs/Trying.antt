@@ -1,6 +1,6 @@
 -- What a law says of a run that is written out, for each kind of law. Assumes nothing.
 use mathlib.Core.Path.{_≡_, subst}
-use mathlib.Core.List.{List, [], _∷_, map}
+use mathlib.Core.List.{List, _∷_, map}
 use mathlib.Core.Bool.{true}
 use Rattle.machine.specs.Machine.{Obeys, ofCalls, ofRuns, ofSince, ofBetween}
 use Rattle.bridge.specs.Calls.{Call, World, Did}

@@ -2,7 +2,7 @@
 use Prim.Native.Nat.{ℕ}
 use mathlib.Core.Path.{_≡_, refl, ap, _∙_}
 use mathlib.Core.List.{List, [], _∷_, map}
-use Rattle.machine.specs.Machine.{course, left}
+use Rattle.machine.specs.Machine.{course, finally}
 use Rattle.state.specs.Answers.{done}
 use Rattle.bridge.specs.Calls.{lineByte, Call, on, World, Did}
 use Rattle.laws.specs.Bridges.{Saw, bridge}
@@ -50,11 +50,11 @@ as-written B w (t ∷ ts) e =
     ap (λ (d : Did). saw (t .call) w d ∷ course (bridge B) (map called ts) (d .world)) (e .0)
     ∙ ap (λ (ss : List Saw). saw (t .call) w (t .does) ∷ ss) (as-written B (t .does .world) ts (e .1))
 
-left-written : (B : Call → World → Did) (w : World) (ts : List Turn) → Does B w ts → left (bridge B) (map called ts) w ≡ leftSo w ts
-unfolding left
+left-written : (B : Call → World → Did) (w : World) (ts : List Turn) → Does B w ts → finally (bridge B) (map called ts) w ≡ leftSo w ts
+unfolding finally
 left-written B w [] e = refl
 left-written B w (t ∷ ts) e =
-    ap (λ (d : Did). left (bridge B) (map called ts) (d .world)) (e .0) ∙ left-written B (t .does .world) ts (e .1)
+    ap (λ (d : Did). finally (bridge B) (map called ts) (d .world)) (e .0) ∙ left-written B (t .does .world) ts (e .1)
 
 -- a call and the run after it
 pub since-written : (B : Call → World → Did) (w : World) (t : Turn) (ts : List Turn) → Does B w (t ∷ ts) →
@@ -66,8 +66,8 @@ since-written B w t ts e = (
 
 -- and a call after that
 pub then-written : (B : Call → World → Did) (w : World) (t : Turn) (ts : List Turn) (c : Call) → Does B w (t ∷ ts) →
-    saw c (left (bridge B) (map called ts) (B (t .call) w .world)) (B c (left (bridge B) (map called ts) (B (t .call) w .world)))
+    saw c (finally (bridge B) (map called ts) (B (t .call) w .world)) (B c (finally (bridge B) (map called ts) (B (t .call) w .world)))
     ≡ saw c (leftSo w (t ∷ ts)) (B c (leftSo w (t ∷ ts)))
 then-written B w t ts c e =
     ap (λ (v : World). saw c v (B c v))
-    (ap (λ (d : Did). left (bridge B) (map called ts) (d .world)) (e .0) ∙ left-written B (t .does .world) ts (e .1))
+    (ap (λ (d : Did). finally (bridge B) (map called ts) (d .world)) (e .0) ∙ left-written B (t .does .world) ts (e .1))

@@ -13,36 +13,38 @@ use Rattle.laws.specs.Bridges.{bridge}
 use Rattle.laws.specs.Events.{Event, broken, overrun, pressed, noted, happens, Alone}
 use Rattle.laws.specs.Cleared.{NotInvented, NotAtStart}
 use Rattle.wrong.specs.SmallWorlds.{fresh, holdingBytes, sendingForbidden, happened, takesCommand}
-use Rattle.wrong.specs.WrongEvents.{marked, breakEmpties, breakPresses, pressPermits, pressForgets}
+use Rattle.wrong.specs.Seeing.{noting}
+use Rattle.wrong.specs.WrongEvents.{breakEmpties, breakPresses, pressPermits, pressForgets}
 use Rattle.wrong.specs.WrongEvents.{commandSets, lineByteSets, clearKeeps, resetKeeps, createSets}
 use Rattle.wrong.specs.Broken.{Breaks}
-use Rattle.wrong.proofs.ComputingMore.{computesMore, are-bytes}
+use Rattle.wrong.proofs.Computing.{computes}
+use Rattle.wrong.proofs.Ends.{are-bytes}
 
 -- ---- a break and a press that do more
 
 pub break-empties-falls : Breaks breakEmpties (Alone broken)
-unfolding computesMore
+unfolding computes
 break-empties-falls law = true≢false (ap (λ (w : World). eqb (w .state .rx .len) 0) (law (on lineBreak) (holdingBytes 2) are-bytes refl .rest))
 
 pub break-presses-falls : Breaks breakPresses (Alone broken)
-unfolding computesMore
+unfolding computes
 break-presses-falls law = true≢false (law (on lineBreak) fresh are-bytes refl .seen pressed)
 
 pub press-permits-falls : Breaks pressPermits (Alone pressed)
-unfolding computesMore
+unfolding computes
 press-permits-falls law = false≢true (ap (λ (w : World). w .state .line .forbidden) (law (on key) sendingForbidden are-bytes refl .rest))
 
 pub press-forgets-falls : Breaks pressForgets (Alone pressed)
-unfolding computesMore
+unfolding computes
 press-forgets-falls law = false≢true (law (on key) (happened overrun) are-bytes refl .seen overrun)
 
 -- ---- every event
 
--- what is marked is noted so
-as-marked : (e : Event) (b : Bool) (x : Events) → noted e (marked e b x) ≡ b
-as-marked broken b x = refl
-as-marked overrun b x = refl
-as-marked pressed b x = refl
+-- what is set is noted
+as-noted : (e : Event) (b : Bool) (x : Events) → noted e (noting e b x) ≡ b
+as-noted broken b x = refl
+as-noted overrun b x = refl
+as-noted pressed b x = refl
 
 none-noted : (e : Event) → noted e noEvents ≡ false
 none-noted broken = refl
@@ -54,7 +56,7 @@ abbrev oneCommand : List Call
 oneCommand = takesCommand 1 ∷ []
 
 quiet-command : (e : Event) (B : Call → World → Did) → Without (happens e) (course (bridge B) oneCommand fresh)
-unfolding computesMore
+unfolding computes
 quiet-command broken B = refl
 quiet-command overrun B = refl
 quiet-command pressed B = refl
@@ -63,33 +65,33 @@ abbrev oneByte : List Call
 oneByte = (on (lineByte 60)) ∷ []
 
 quiet-byte : (e : Event) (B : Call → World → Did) → Without (happens e) (course (bridge B) oneByte fresh)
-unfolding computesMore
+unfolding computes
 quiet-byte broken B = refl
 quiet-byte overrun B = refl
 quiet-byte pressed B = refl
 
 pub command-sets-falls : (e : Event) → Breaks (commandSets e) (NotInvented e)
-unfolding computesMore
+unfolding computes
 command-sets-falls e law =
-    true≢false (sym (as-marked e true noEvents) ∙ law oneCommand fresh are-bytes (tt, tt) (none-noted e) (quiet-command e (commandSets e)))
+    true≢false (sym (as-noted e true noEvents) ∙ law oneCommand fresh are-bytes (tt, tt) (none-noted e) (quiet-command e (commandSets e)))
 
 pub line-byte-sets-falls : (e : Event) → Breaks (lineByteSets e) (NotInvented e)
-unfolding computesMore
+unfolding computes
 line-byte-sets-falls e law =
-    true≢false (sym (as-marked e true noEvents) ∙ law oneByte fresh are-bytes (omega arith, tt) (none-noted e) (quiet-byte e (lineByteSets e)))
+    true≢false (sym (as-noted e true noEvents) ∙ law oneByte fresh are-bytes (omega arith, tt) (none-noted e) (quiet-byte e (lineByteSets e)))
 
--- what was marked once, and is marked again as it was noted
-as-kept : (e : Event) (x : Events) → noted e (marked e (noted e (marked e true noEvents)) x) ≡ true
-as-kept e x = as-marked e (noted e (marked e true noEvents)) x ∙ as-marked e true noEvents
+-- what was noted, and is set again as it was
+as-kept : (e : Event) (x : Events) → noted e (noting e (noted e (noting e true noEvents)) x) ≡ true
+as-kept e x = as-noted e (noted e (noting e true noEvents)) x ∙ as-noted e true noEvents
 
 pub clear-keeps-falls : (e : Event) → Breaks (clearKeeps e) (NotAtStart e)
-unfolding computesMore
+unfolding computes
 clear-keeps-falls e law = true≢false (sym (as-kept e noEvents) ∙ law (takesCommand 20) (happened e) are-bytes refl)
 
 pub reset-keeps-falls : (e : Event) → Breaks (resetKeeps e) (NotAtStart e)
-unfolding computesMore
+unfolding computes
 reset-keeps-falls e law = true≢false (sym (as-kept e noEvents) ∙ law (on reset) (happened e) are-bytes refl)
 
 pub create-sets-falls : (e : Event) → Breaks (createSets e) (NotAtStart e)
-unfolding computesMore
-create-sets-falls e law = true≢false (sym (as-marked e true noEvents) ∙ law (create 1) fresh are-bytes refl)
+unfolding computes
+create-sets-falls e law = true≢false (sym (as-noted e true noEvents) ∙ law (create 1) fresh are-bytes refl)

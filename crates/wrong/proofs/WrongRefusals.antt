@@ -13,46 +13,47 @@ use Rattle.wrong.specs.Changing.{heedless}
 use Rattle.wrong.specs.WrongRefusals.{doneForNone, refusesToShow, swallowsCommands, swallowsStored}
 use Rattle.wrong.specs.WrongRefusals.{alwaysBusy, alwaysRefusing, refusesAndWrites, busyAndStores}
 use Rattle.wrong.specs.Broken.{Breaks}
-use Rattle.wrong.proofs.ComputingMore.{computesMore, are-bytes}
+use Rattle.wrong.proofs.Computing.{computes}
+use Rattle.wrong.proofs.Ends.{are-bytes}
 
 -- ---- answers
 
 pub done-for-none-falls : Breaks doneForNone AnswersSo
-unfolding computesMore
+unfolding computes
 done-for-none-falls law = false≢true (law (on nextLineByte) fresh are-bytes)
 
 pub refuses-to-show-falls : Breaks refusesToShow AnswersSo
-unfolding computesMore
+unfolding computes
 refuses-to-show-falls law = false≢true (law (show 0) misfitting are-bytes)
 
 pub swallows-commands-falls : Breaks swallowsCommands OneFrameOut
-unfolding computesMore
+unfolding computes
 swallows-commands-falls law = false≢true (law (takesCommand 20) fresh are-bytes (made 4 20) refl refl)
 
 pub swallows-stored-falls : Breaks swallowsStored OneFrameOut
-unfolding computesMore
+unfolding computes
 swallows-stored-falls law = false≢true (law (takes 0 68) listening are-bytes (made 0 68) refl refl)
 
 -- ---- refusals
 
 pub always-busy-falls : Breaks alwaysBusy RefusedExactly
-unfolding computesMore
+unfolding computes
 always-busy-falls law = true≢false (law (takes 0 68) fresh are-bytes .accepts refl)
 
 pub always-refusing-falls : Breaks alwaysRefusing RefusedExactly
-unfolding computesMore
+unfolding computes
 always-refusing-falls law = true≢false (law (on key) fresh are-bytes .accepts refl)
 
 -- an end byte adds three, and there is room for one
 pub never-busy-falls : Breaks (heedless 4) RefusedExactly
-unfolding computesMore
+unfolding computes
 never-busy-falls law = false≢true (ap isRefusal (law (takes 2 68) nearlyFull are-bytes .given (λ e. omega arith)))
 
 -- R11 carries no bit 2
 pub refuses-and-writes-falls : Breaks refusesAndWrites RefusedStays
-unfolding computesMore
+unfolding computes
 refuses-and-writes-falls law = true≢false (ap (λ (w : World). eqb (w .state .regs .r11) 4) (law (on (write 11 4)) fresh are-bytes refl))
 
 pub busy-and-stores-falls : Breaks busyAndStores RefusedStays
-unfolding computesMore
+unfolding computes
 busy-and-stores-falls law = true≢false (ap (λ (w : World). eqb (w .state .tx .len) 3) (law (takes 2 68) nearlyFull are-bytes refl))

@@ -7,10 +7,12 @@ use Rattle.role.specs.Parts.{isTalker, isActive, isUnassigned}
 use Rattle.laws.specs.Fitting.{KeepsFit}
 use Rattle.laws.specs.Roles.{RoleGoes}
 use Rattle.wrong.specs.SmallWorlds.{fresh, assigned, unenabled, listening, addressedTalker, activeTalker, takes, takesCommand, takesReady}
-use Rattle.wrong.specs.WrongRoles.{ignoring, passingAll, neverTalker, neverListener, listensTo31, talkerAndListener}
+use Rattle.wrong.specs.WrongSends.{passesAll}
+use Rattle.wrong.specs.WrongRoles.{ignoring, neverTalker, neverListener, listensTo31, talkerAndListener}
 use Rattle.wrong.specs.WrongRoles.{activeThroughout, neverEnds, readdressed, remoteUnasked}
 use Rattle.wrong.specs.Broken.{Breaks}
-use Rattle.wrong.proofs.ComputingMore.{computesMore, are-bytes}
+use Rattle.wrong.proofs.Computing.{computes}
+use Rattle.wrong.proofs.Ends.{are-bytes}
 
 abbrev isListener : Role → Bool
 isListener r = r .listener
@@ -24,67 +26,67 @@ isRemote r = r .remote
 -- ---- commands without notice
 
 pub ignoring-144-falls : Breaks (ignoring 144) RoleGoes
-unfolding computesMore
+unfolding computes
 ignoring-144-falls law = true≢false (ap isListener (law (takesCommand 144) listening are-bytes refl))
 
 pub ignoring-146-falls : Breaks (ignoring 146) RoleGoes
-unfolding computesMore
+unfolding computes
 ignoring-146-falls law = false≢true (ap isEnabled (law (takesCommand 146) fresh are-bytes refl))
 
 pub ignoring-147-falls : Breaks (ignoring 147) RoleGoes
-unfolding computesMore
+unfolding computes
 ignoring-147-falls law = true≢false (ap isRemote (law (takesCommand 147) listening are-bytes refl))
 
 pub ignoring-1-falls : Breaks (ignoring 1) RoleGoes
-unfolding computesMore
+unfolding computes
 ignoring-1-falls law = true≢false (ap isRemote (law (takesCommand 1) listening are-bytes refl))
 
 pub ignoring-154-falls : Breaks (ignoring 154) RoleGoes
-unfolding computesMore
+unfolding computes
 ignoring-154-falls law = false≢true (ap isUnassigned (law (takesCommand 154) listening are-bytes refl))
 
-pub passing-all-falls : Breaks passingAll RoleGoes
-unfolding computesMore
-passing-all-falls law = true≢false (ap isListener (law (takesCommand 144) listening are-bytes refl))
+pub passes-all-stays-listener : Breaks passesAll RoleGoes
+unfolding computes
+passes-all-stays-listener law = true≢false (ap isListener (law (takesCommand 144) listening are-bytes refl))
 
 -- ---- talker and listener
 
 pub never-talker-falls : Breaks neverTalker RoleGoes
-unfolding computesMore
+unfolding computes
 never-talker-falls law = false≢true (ap isTalker (law (takesCommand 69) assigned are-bytes refl))
 
 pub never-listener-falls : Breaks neverListener RoleGoes
-unfolding computesMore
+unfolding computes
 never-listener-falls law = false≢true (ap isListener (law (takesCommand 37) assigned are-bytes refl))
 
 pub listens-to-31-falls : Breaks listensTo31 RoleGoes
-unfolding computesMore
+unfolding computes
 listens-to-31-falls law = true≢false (ap isListener (law (takesCommand 63) fresh are-bytes refl))
 
 pub talker-and-listener-falls : Breaks talkerAndListener RoleGoes
-unfolding computesMore
+unfolding computes
 talker-and-listener-falls law = true≢false (ap isTalker (law (takesCommand 37) addressedTalker are-bytes refl))
 
 -- it is talker and listener at once, and so does not fit
 pub talker-and-listener-misfits : Breaks talkerAndListener KeepsFit
-unfolding computesMore
+unfolding computes
 talker-and-listener-misfits law = false≢true (law (takesCommand 37) addressedTalker are-bytes refl)
 
 pub active-throughout-falls : Breaks activeThroughout RoleGoes
-unfolding computesMore
+unfolding computes
 active-throughout-falls law = true≢false (ap isActive (law (takesCommand 20) activeTalker are-bytes refl))
 
 -- 0,49 comes back for 0,48
 pub never-ends-falls : Breaks neverEnds RoleGoes
-unfolding computesMore
+unfolding computes
 never-ends-falls law = true≢false (ap isActive (law (takes 0 49) activeTalker are-bytes refl))
 
 -- ---- address and remote
 
 pub readdressed-falls : Breaks readdressed RoleGoes
-unfolding computesMore
+unfolding computes
 readdressed-falls law = true≢false (ap (λ (r : Role). eqb (r .address) 7) (law (takesReady 135) assigned are-bytes refl))
 
 pub remote-unasked-falls : Breaks remoteUnasked RoleGoes
-unfolding computesMore
+unfolding computes
 remote-unasked-falls law = true≢false (ap isRemote (law (takesCommand 37) unenabled are-bytes refl))

@@ -14,26 +14,27 @@ use Rattle.wrong.specs.SmallWorlds.{receiveBytes, holdingBytes, misfitti
 use Rattle.wrong.specs.WrongShows.{showsNothing, showsMisfits, clearsMargin, writesMargin, wideBytes, wide}
 use Rattle.wrong.specs.Broken.{Breaks}
 use Rattle.wrong.proofs.Small.{bytes}
-use Rattle.wrong.proofs.ComputingMore.{computesMore, are-bytes, hasAt}
+use Rattle.wrong.proofs.Computing.{computes}
+use Rattle.wrong.proofs.Ends.{are-bytes, hasAt}
 
 -- two bytes are held
 pub shows-nothing-falls : Breaks showsNothing ShowsSo
-unfolding computesMore
+unfolding computes
 shows-nothing-falls law =
     let n : _≡_ {A = ℕ} 0 2 = law (show 0) (holdingBytes 2) are-bytes 0 [] refl refl .rx refl refl .longest in
     omega arith
 
 pub shows-misfits-falls : Breaks showsMisfits ShowsSo
-unfolding computesMore
+unfolding computes
 shows-misfits-falls law = true≢false (ap (hasAt 0 49) (law (show 0) misfitting are-bytes 0 receiveBytes refl refl .misfit refl))
 
 wide-bytes : Bytes wideBytes
 wide-bytes = bytes wideBytes refl
 
 pub clears-margin-falls : Breaks clearsMargin SizesStay
-unfolding computesMore
+unfolding computes
 clears-margin-falls law = true≢false (ap (λ (x : Sizes). eqb (x .margin) 1) (law (takesCommand 20) wide wide-bytes refl))
 
 pub writes-margin-falls : Breaks writesMargin SizesStay
-unfolding computesMore
+unfolding computes
 writes-margin-falls law = true≢false (ap (λ (x : Sizes). eqb (x .margin) 1) (law (on (write 11 8)) wide wide-bytes refl))

@@ -14,7 +14,8 @@ use Rattle.wrong.specs.SmallWorlds.{hiddenRequest, shownRequest, takesCo
 use Rattle.wrong.specs.WrongStatus.{showsExchanged, showsRoom, showsAfter, showsAnyRequest}
 use Rattle.wrong.specs.WrongStatus.{enablesExchanged, enablesAll, requestsOn, requestsForever}
 use Rattle.wrong.specs.Broken.{Breaks}
-use Rattle.wrong.proofs.ComputingMore.{computesMore, are-bytes, hasAt}
+use Rattle.wrong.proofs.Computing.{computes}
+use Rattle.wrong.proofs.Ends.{are-bytes, hasAt}
 
 one-held : held receiveBytes (record { oldest = 0; len = 1 }) ≡ 49 ∷ []
 one-held = held-unbroken receiveBytes (record { oldest = 0; len = 1 }) (omega arith)
@@ -26,7 +27,7 @@ all-held = held-unbroken transmitBytes (record { oldest = 0; len = 3 }) (omega a
 
 -- one byte is held: bit 3 where bit 2 is due
 pub shows-exchanged-falls : Breaks showsExchanged StatusTold
-unfolding computesMore
+unfolding computes
 shows-exchanged-falls law =
     let sent = law (takesReady 97) talkerOfOne are-bytes (made 5 97) refl refl refl in
     let z : true ≡ false = rw (one-held, held-empty transmitBytes) at (ap (hasAt 0 11) sent) in
@@ -34,7 +35,7 @@ shows-exchanged-falls law =
 
 -- the transmit store is full: no bit is due
 pub shows-room-falls : Breaks showsRoom StatusTold
-unfolding computesMore
+unfolding computes
 shows-room-falls law =
     let sent = law (takesReady 97) talkerWithoutRoom are-bytes (made 5 97) refl refl refl in
     let z : true ≡ false = rw (all-held, held-empty receiveBytes) at (ap (hasAt 0 2) sent) in
@@ -42,7 +43,7 @@ shows-room-falls law =
 
 -- bit 6 is due, since a request showed
 pub shows-after-falls : Breaks showsAfter StatusTold
-unfolding computesMore
+unfolding computes
 shows-after-falls law =
     let sent = law (takesReady 97) shownRequest are-bytes (made 5 97) refl refl refl in
     let z : true ≡ false = rw (held-empty receiveBytes, held-empty transmitBytes) at (ap (hasAt 0 3) sent) in
@@ -50,7 +51,7 @@ shows-after-falls law =
 
 -- bit 6 where R00 bit 3 is off
 pub shows-any-request-falls : Breaks showsAnyRequest StatusTold
-unfolding computesMore
+unfolding computes
 shows-any-request-falls law =
     let sent = law (takesReady 97) hiddenRequest are-bytes (made 5 97) refl refl refl in
     let z : true ≡ false = rw (held-empty receiveBytes, held-empty transmitBytes) at (ap (hasAt 0 67) sent) in
@@ -60,19 +61,19 @@ shows-any-request-falls law =
 
 -- a byte is held, and R01 bit 2 is switched on
 pub enables-exchanged-falls : Breaks enablesExchanged RequestsGo
-unfolding computesMore
+unfolding computes
 enables-exchanged-falls law =
     let z : false ≡ true = rw one-held at (law (on (write 1 4)) (holdingBytes 1) are-bytes .goes refl) in
     false≢true z
 
 pub enables-all-falls : Breaks enablesAll RequestsGo
-unfolding computesMore
+unfolding computes
 enables-all-falls law = true≢false (law (on key) fresh are-bytes .goes refl)
 
 pub requests-on-falls : Breaks requestsOn RequestsGo
-unfolding computesMore
+unfolding computes
 requests-on-falls law = true≢false (law (takesCommand 20) hiddenRequest are-bytes .starts refl)
 
 pub requests-forever-falls : Breaks requestsForever RequestsGo
-unfolding computesMore
+unfolding computes
 requests-forever-falls law = true≢false (law (takesReady 97) hiddenRequest are-bytes .goes refl)

@@ -13,13 +13,14 @@ use Rattle.wrong.specs.SmallWorlds.{fresh, holdingBytes, oneByteForLine,
 use Rattle.wrong.specs.Changing.{heedless}
 use Rattle.wrong.specs.WrongStores.{oneTooFar, clearsInPlace, wiping, growing, clearsAway, createsAlike}
 use Rattle.wrong.specs.Broken.{Breaks}
-use Rattle.wrong.proofs.ComputingMore.{computesMore, are-bytes, hasAt}
+use Rattle.wrong.proofs.Computing.{computes}
+use Rattle.wrong.proofs.Ends.{are-bytes, hasAt}
 
 -- ---- places
 
 -- the first byte goes to place 1
 pub one-too-far-falls : Breaks oneTooFar Places
-unfolding computesMore
+unfolding computes
 one-too-far-falls law =
     let z : _≡_ {A = List ℕ} (49 ∷ 60 ∷ 51 ∷ 52 ∷ []) (60 ∷ 50 ∷ 51 ∷ 52 ∷ []) =
     rw (wrap-low 4 0 (omega arith), wrap-low 4 1 (omega arith)) at (law (on (lineByte 60)) fresh are-bytes .rx .bytes) in
@@ -27,42 +28,42 @@ one-too-far-falls law =
 
 -- two bytes were held, and the next would go to place 2
 pub clears-in-place-falls : Breaks clearsInPlace Places
-unfolding computesMore
+unfolding computes
 clears-in-place-falls law =
     let z : _≡_ {A = ℕ} 2 0 = rw (wrap-low 4 2 (omega arith), wrap-low 4 2 (omega arith)) at (law (takesCommand 20) (holdingBytes 2) are-bytes .rx .next) in
     omega arith
 
 pub wiping-falls : Breaks wiping Places
-unfolding computesMore
+unfolding computes
 wiping-falls law = true≢false (ap (hasAt 0 0) (law (on nextLineByte) oneByteForLine are-bytes .tx .bytes))
 
 -- ---- the stores themselves
 
 pub growing-falls : Breaks growing KeepsStores
-unfolding computesMore
+unfolding computes
 growing-falls law = true≢false (ap (λ n. eqb n 5) (law (on (lineByte 60)) (holdingBytes 4) are-bytes .rx))
 
 pub clears-away-falls : Breaks clearsAway KeepsStores
-unfolding computesMore
+unfolding computes
 clears-away-falls law = true≢false (ap (λ n. eqb n 0) (law (takesCommand 20) fresh are-bytes .rx))
 
 -- ---- fitting
 
 -- R11 carries no bit 2
 pub takes-any-bit-falls : Breaks (heedless 7) KeepsFit
-unfolding computesMore
+unfolding computes
 takes-any-bit-falls law = false≢true (law (on (write 11 4)) fresh are-bytes refl)
 
 -- go becomes what stop is
 pub makes-go-stop-falls : Breaks (heedless 8) KeepsFit
-unfolding computesMore
+unfolding computes
 makes-go-stop-falls law = false≢true (law (on (write 20 19)) fresh are-bytes refl)
 
 -- a margin of 3 wants eight places
 pub takes-any-size-falls : Breaks (heedless 1) CreateMakesFit
-unfolding computesMore
+unfolding computes
 takes-any-size-falls law = false≢true (law (create 3) fresh are-bytes 3 refl refl)
 
 pub creates-alike-falls : Breaks createsAlike CreateMakesFit
-unfolding computesMore
+unfolding computes
 creates-alike-falls law = false≢true (law (create 1) fresh are-bytes 1 refl refl)

@@ -13,7 +13,7 @@ use Rattle.state.specs.State.{withRegisters, withRole, withUnder, withRx, withT
 use Rattle.state.specs.Status.{withRequest}
 use Rattle.bridge.specs.Calls.{Call, on, loopFrame, World, world}
 use Rattle.laws.specs.Events.{Event}
-use Rattle.wrong.specs.WrongEvents.{withEvent}
+use Rattle.wrong.specs.Seeing.{withNoted}
 
 -- the bytes of the two stores: four places, as a margin of 1 wants, and three
 abbrev pub receiveBytes : List ℕ
@@ -103,7 +103,7 @@ talkerWithoutRoom = started (λ s. withTx (withRole s talker) (record { oldest =
 -- ---- notes, counts, line
 
 abbrev pub happened : Event → World
-happened e = started (λ s. withEvent e true s)
+happened e = started (λ s. withNoted e true s)
 
 -- an addressed talker with a request that does not show, and with one that does
 abbrev pub hiddenRequest : World

@@ -1,25 +1,15 @@
 -- Bridges that note what happened wrongly: a break, a byte lost, a press of the key.
-use mathlib.Core.Bool.{Bool, true, false, cond}
+use mathlib.Core.Bool.{true, false, cond}
 use lib.Dec.{eqb}
 use Rattle.frame.specs.Frame.{controlOf}
-use Rattle.status.specs.declared.Events.{Events}
 use Rattle.store.specs.Ring.{emptyRing}
-use Rattle.state.specs.declared.State.{State}
 use Rattle.state.specs.Answers.{done}
-use Rattle.state.specs.State.{withRx, withLine, notesWith}
+use Rattle.state.specs.State.{withRx, withLine}
 use Rattle.bridge.specs.Calls.{reset, lineBreak, key, Call, World, Did}
 use Rattle.laws.specs.Observers.{onFrame, onLineByte, onOne, clears}
-use Rattle.laws.specs.Events.{Event, broken, overrun, pressed, bitOf}
+use Rattle.laws.specs.Events.{Event, overrun, pressed, bitOf}
 use Rattle.wrong.specs.Changing.{afterwards, isCreate}
-
--- the event is noted, or it is not
-abbrev pub marked : Event → Bool → Events → Events
-marked broken b x = record { brk = b; overrun = x .overrun; key = x .key }
-marked overrun b x = record { brk = x .brk; overrun = b; key = x .key }
-marked pressed b x = record { brk = x .brk; overrun = x .overrun; key = b }
-
-abbrev pub withEvent : Event → Bool → State → State
-withEvent e b s = notesWith s (marked e b (s .notes .seen)) (s .notes .again) (s .notes .request)
+use Rattle.wrong.specs.Seeing.{withNoted}
 
 -- ---- a break and a press that do more
 
@@ -29,7 +19,7 @@ breakEmpties = afterwards (λ c w s. onOne lineBreak (withRx s emptyRing) s c)
 
 -- a break sets the key's bit too
 abbrev pub breakPresses : Call → World → Did
-breakPresses = afterwards (λ c w s. onOne lineBreak (withEvent pressed true s) s c)
+breakPresses = afterwards (λ c w s. onOne lineBreak (withNoted pressed true s) s c)
 
 -- a press of the key permits our sending
 abbrev pub pressPermits : Call → World → Did
@@ -37,28 +27,28 @@ pressPermits = afterwards (λ c w s. onOne key (withLine s (record { holding = s
 
 -- a press of the key forgets that a byte was lost
 abbrev pub pressForgets : Call → World → Did
-pressForgets = afterwards (λ c w s. onOne key (withEvent overrun false s) s c)
+pressForgets = afterwards (λ c w s. onOne key (withNoted overrun false s) s c)
 
 -- ---- what did not happen
 
 -- any command sets the bit
 abbrev pub commandSets : Event → Call → World → Did
-commandSets e = afterwards (λ c w s. cond (onFrame (λ f. eqb (controlOf f) 4) false c) (withEvent e true s) s)
+commandSets e = afterwards (λ c w s. cond (onFrame (λ f. eqb (controlOf f) 4) false c) (withNoted e true s) s)
 
 -- any line byte sets the bit, also one that is stored
 abbrev pub lineByteSets : Event → Call → World → Did
-lineByteSets e = afterwards (λ c w s. onLineByte (λ b. withEvent e true s) s c)
+lineByteSets e = afterwards (λ c w s. onLineByte (λ b. withNoted e true s) s c)
 
 -- ---- what is over
 
 -- a device clear keeps the bit
 abbrev pub clearKeeps : Event → Call → World → Did
-clearKeeps e = afterwards (λ c w s. cond (clears c w done) (withEvent e (bitOf e w) s) s)
+clearKeeps e = afterwards (λ c w s. cond (clears c w done) (withNoted e (bitOf e w) s) s)
 
 -- a reset keeps the bit
 abbrev pub resetKeeps : Event → Call → World → Did
-resetKeeps e = afterwards (λ c w s. onOne reset (withEvent e (bitOf e w) s) s c)
+resetKeeps e = afterwards (λ c w s. onOne reset (withNoted e (bitOf e w) s) s c)
 
 -- a create sets the bit
 abbrev pub createSets : Event → Call → World → Did
-createSets e = afterwards (λ c w s. cond (isCreate c) (withEvent e true s) s)
+createSets e = afterwards (λ c w s. cond (isCreate c) (withNoted e true s) s)

@@ -1,4 +1,5 @@
 -- Bridges that answer frames wrongly.
+use Prim.Native.Nat.{_+_}
 use mathlib.Core.Bool.{_&&_, not}
 use lib.Dec.{eqb}
 use Rattle.frame.specs.Frame.{controlOf, dataOf, made, hasService, stripped, withService}
@@ -39,3 +40,11 @@ onService (part xs) = part xs
 -- gives the frame that it sends the service bit of the one that came back
 abbrev pub carriesServiceOver : Call → World → Did
 carriesServiceOver = answeringFrame (λ w f. isSend (w .state) f && hasService f) (λ w f a. onService a)
+
+-- adds 1 to the data of a ready frame that passes, also to 255: the data no longer fits eight bits
+abbrev pub countsReadyOn : Call → World → Did
+countsReadyOn = answeringFrame (λ w f. eqb (controlOf f) 5) (λ w f a. frame 5 (dataOf f + 1))
+
+-- answers a data frame with its control bits and its data in one number, as one that packs them for a register of its own
+abbrev pub packsControl : Call → World → Did
+packsControl = answeringFrame (λ w f. passesOn (w .state) f) (λ w f a. frame 0 f)

@@ -7,9 +7,8 @@ use Rattle.role.specs.declared.Role.{Role}
 use Rattle.role.specs.Parts.{isUnassigned, isActive, withAddress, withTalker, withListener, withRemote}
 use Rattle.role.specs.Orders.{numberOf}
 use Rattle.state.specs.State.{withRole}
-use Rattle.bridge.specs.Calls.{Call, World, Did, step}
+use Rattle.bridge.specs.Calls.{Call, World, Did}
 use Rattle.laws.specs.Observers.{onFrame}
-use Rattle.laws.specs.Passing.{asFrame}
 use Rattle.wrong.specs.Changing.{afterwards, isCommand}
 
 -- ours, with the role changed by the role before and after the call
@@ -60,6 +59,3 @@ readdressed = turning (λ c before after. onFrame (λ f. cond (offersAddress f) 
 abbrev pub remoteUnasked : Call → World → Did
 remoteUnasked = turning (λ c before after. cond (isCommand (32 + before .address) c) (withRemote after true) after)
 
--- passes every frame and does nothing
-abbrev pub passingAll : Call → World → Did
-passingAll c w = onFrame (λ f. record { said = asFrame f; world = w }) (step c w) c

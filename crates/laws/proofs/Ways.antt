@@ -13,8 +13,8 @@ use Rattle.role.specs.ReadyFrames.{givesAddress, readyOf, assignedRole}
 use Rattle.state.specs.declared.State.{State}
 use Rattle.state.specs.declared.Outcome.{Outcome}
 use Rattle.state.specs.State.{withRole}
-use Rattle.state.specs.Status.{serviced, statusBack}
-use Rattle.loops.specs.LoopToLine.{leftState}
+use Rattle.state.specs.Status.{serviced, afterStatusBack}
+use Rattle.loops.specs.LoopToLine.{addedState}
 use Rattle.loops.specs.Sending.{sendFrom, sendStatus, ended}
 use Rattle.loops.specs.Frames.{passed, isClear, orderIn, obeyed, cleared, commandState, command, finishing, readied, ready, returned, dataPassed, identify, frameTaken}
 
@@ -44,11 +44,11 @@ pub record Identifying (f : ℕ) : Type 0 where
 pub data Way (s : State) (rx : List ℕ) (f : ℕ) : Outcome → Type 0 where
   -- returns: the next frame, the status byte back, the last frame of all, damage
   isNext : Returning s f → sameApart f (s .under .frame) ≡ true → eqb (s .role .talker) 3 ≡ false → s .under .finishing ≡ false → Way s rx f (sendFrom s rx)
-  isBack : Returning s f → sameApart f (s .under .frame) ≡ true → eqb (s .role .talker) 3 ≡ true → Way s rx f (ended (statusBack s (dataOf (s .under .frame))) 64)
+  isBack : Returning s f → sameApart f (s .under .frame) ≡ true → eqb (s .role .talker) 3 ≡ true → Way s rx f (ended (afterStatusBack s (dataOf (s .under .frame))) 64)
   isLast : Returning s f → sameApart f (s .under .frame) ≡ true → eqb (s .role .talker) 3 ≡ false → s .under .finishing ≡ true → Way s rx f (ended s 64)
   isDamaged : Returning s f → sameApart f (s .under .frame) ≡ false → Way s rx f (ended s 65)
   -- other data frames: stored by a listener, or only passed
-  isStored : Arriving s f → s .role .listener ≡ true → Way s rx f (passed (leftState s f) (serviced s f))
+  isStored : Arriving s f → s .role .listener ≡ true → Way s rx f (passed (addedState s f) (serviced s f))
   isPassed : Arriving s f → s .role .listener ≡ false → Way s rx f (passed s (serviced s f))
   -- commands: a device clear, and any other
   isCleared : Commanding f → isClear (orderIn s f) ≡ true → Way s rx f (passed (cleared (obeyed s (orderIn s f))) f)
