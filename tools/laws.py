@@ -1,6 +1,7 @@
-"""Holds every law of a bridge to two wrong bridges that are proved to break it, and docs/PROMISES.md to its tables of laws and of wrong bridges.
+"""Holds every law of a bridge to two wrong bridges that are proved to break it, and the documents to their tables and numbers of these.
 
-Usage: python3 tools/laws.py           fails where a law has fewer than two, and where a table of docs/PROMISES.md is not the repository's
+Usage: python3 tools/laws.py           fails where a law has fewer than two, where a table of docs/PROMISES.md is not the repository's, and
+                                       where a number of docs/CHECKS.md is not
        python3 tools/laws.py --table   prints the table of wrong bridges of docs/PROMISES.md
 The laws are the list of crates/laws/specs/Laws.antt. A refutation is a theorem of a file of crates/wrong/proofs in one of these forms:
     pub NAME : Breaks BRIDGE LAW
@@ -22,6 +23,7 @@ LAWS = "crates/laws/specs/Laws.antt"
 PROOFS = "crates/wrong/proofs"
 SPECS = "crates/wrong/specs"
 PROMISES = "docs/PROMISES.md"
+CHECKS = "docs/CHECKS.md"
 STATED = "| Law | What it says | Stated by | Proved by |"
 WRONG = "| Law | Wrong bridge | What it does | Refuted by |"
 LEAST = 2
@@ -175,6 +177,18 @@ def wrong_tables(laws, found):
     return differing("wrong bridges", bridges, [one.row() for one in found]) + differing("laws", stated, [(law,) for law in families(laws)])
 
 
+def numbers(laws, found):
+    """How many laws, wrong bridges and refutations there are."""
+    return {"laws": len(families(laws)), "wrong bridges": len({one.bridge for one in found}), "refutations": len(found)}
+
+
+def wrong_numbers(laws, found):
+    """Numbers that docs/CHECKS.md does not have."""
+    said = listing.read(CHECKS)
+    lines = [f"- {what.capitalize()}: {count}." for what, count in numbers(laws, found).items()]
+    return [f"{CHECKS}: it does not say '{line}'" for line in lines if line not in said]
+
+
 def main():
     """Prints the table, or every fault and the numbers; 1 if there is a fault."""
     laws = listed()
@@ -183,10 +197,10 @@ def main():
         print(table(laws, found))
         return 0
     wrong += [] if laws else [f"{LAWS}: no list of laws"]
-    wrong += unlisted(laws, found) + too_few(laws, found) + unread(found) + undefined(found) + wrong_tables(laws, found)
+    wrong += unlisted(laws, found) + too_few(laws, found) + unread(found) + undefined(found)
+    wrong += wrong_tables(laws, found) + wrong_numbers(laws, found)
     print("".join(f"{fault}\n" for fault in wrong), end="")
-    bridges = {one.bridge for one in found}
-    print(f"{len(families(laws))} laws, {len(bridges)} wrong bridges, {len(found)} refutations, {len(wrong)} faults")
+    print(", ".join(f"{count} {what}" for what, count in {**numbers(laws, found), "faults": len(wrong)}.items()))
     return 1 if wrong else 0
 
 

@@ -7,6 +7,7 @@ LIB = "crates/wrong/proofs/Lib.antt"
 SPECS = "crates/wrong/specs/Wrong.antt"
 PROOFS = "crates/wrong/proofs/Wrong.antt"
 PROMISES = "docs/PROMISES.md"
+CHECKS = "docs/CHECKS.md"
 STATED = "| Law | What it says | Stated by | Proved by |\n|---|---|---|---|\n| `First` | one | | |\n| `Stays` | two | | |\n"
 BRIDGES = """-- says no
 abbrev pub naysayer : Call → World → Did
@@ -35,6 +36,7 @@ def build(room):
     room.write(LIB, "pub mod Wrong\n")
     room.write(SPECS, BRIDGES)
     room.write(PROOFS, THEOREMS)
+    room.write(CHECKS, "- Laws: 2. Two.\n- Wrong bridges: 3. Three.\n- Refutations: 4.\n")
     room.write(PROMISES, f"{STATED}\n{room.run(TOOL + ['--table'])[1]}\nThe end.\n")
 
 
@@ -72,6 +74,8 @@ def tables(room):
     room.finds(TOOL, "no row of laws for Stays", (PROMISES, "| `Stays` | two | | |\n", ""))
     room.finds(TOOL, "a row of laws for Third", (PROMISES, "| `Stays` | two", "| `Third` | three | | |\n| `Stays` | two"))
     room.finds(TOOL, "no row of wrong bridges", (PROMISES, "| Wrong bridge |", "| Bridge |"))
+    for line in ("Laws: 2.", "Wrong bridges: 3.", "Refutations: 4."):
+        room.finds(TOOL, f"it does not say '- {line}'", (CHECKS, line, line.replace(":", ": 1")))
 
 
 def run():
