@@ -31,6 +31,8 @@ REMARK = re.compile(r"--[^\n]*")
 LIST = re.compile(r"^laws =(.*?)∷ \[\]", re.M | re.S)
 THEOREM = re.compile(r"^pub (\S+) :(?=[^\n]*\bBreaks)([^\n]*(?:\n[ \t]+[^\n]*)*)", re.M)
 TERM = r"([\w']+|\([^()]*\))"
+USE = re.compile(r"^use ([^\s{]+)\.\{([^}]*)\}", re.M)
+DECLARED = re.compile(r"^ *(?:(?:abbrev|unfoldable|pub|record|data) )*(\w+)(?: [^=:\n]*)? :", re.M)
 FORM = re.compile(rf"(?:\((\w+) : Event\) → )?Breaks(?:As)? {TERM} {TERM}")
 
 
@@ -105,6 +107,23 @@ def unread(found):
     brought = re.findall(r"^pub mod (\w+)", listing.read(f"{PROOFS}/Lib.antt"), re.M)
     names = sorted({one.path for one in found})
     return [f"{path}: {PROOFS}/Lib.antt does not bring it in" for path in names if os.path.splitext(os.path.basename(path))[0] not in brought]
+
+
+def own_meaning(laws):
+    """Files of the crate in which Breaks or a law's name means something of their own."""
+    home = {law: "Rattle.laws.specs." for law in families(laws)}
+    home |= {name: "Rattle.wrong.specs.Broken" for name in ("Breaks", "BreaksAs")}
+    wrong = []
+    for path in sorted(glob.glob(f"{PROOFS}/*.antt") + glob.glob(f"{SPECS}/*.antt")):
+        text = REMARK.sub("", listing.read(path))
+        for module, names in USE.findall(text):
+            for name in (one.strip() for one in names.split(",")):
+                old, _, new = name.partition(" as ")
+                if new in home or not module.startswith(home.get(old, "")):
+                    wrong.append(f"{path}: {name} is taken from {module}")
+        if path != f"{SPECS}/Broken.antt":
+            wrong += [f"{path}: it declares {name}" for name in DECLARED.findall(text) if name in home]
+    return wrong
 
 
 def described():
@@ -197,7 +216,7 @@ def main():
         print(table(laws, found))
         return 0
     wrong += [] if laws else [f"{LAWS}: no list of laws"]
-    wrong += unlisted(laws, found) + too_few(laws, found) + unread(found) + undefined(found)
+    wrong += unlisted(laws, found) + too_few(laws, found) + unread(found) + undefined(found) + own_meaning(laws)
     wrong += wrong_tables(laws, found) + wrong_numbers(laws, found)
     print("".join(f"{fault}\n" for fault in wrong), end="")
     print(", ".join(f"{count} {what}" for what, count in {**numbers(laws, found), "faults": len(wrong)}.items()))

@@ -5,6 +5,7 @@ TOOL = ["python3", "tools/laws.py"]
 LAWS = "crates/laws/specs/Laws.antt"
 LIB = "crates/wrong/proofs/Lib.antt"
 SPECS = "crates/wrong/specs/Wrong.antt"
+BROKEN = "crates/wrong/specs/Broken.antt"
 PROOFS = "crates/wrong/proofs/Wrong.antt"
 PROMISES = "docs/PROMISES.md"
 CHECKS = "docs/CHECKS.md"
@@ -17,7 +18,9 @@ naysayer = refusing 2
 abbrev pub without : ℕ → Call → World → Did
 without d = leaving d
 """
-THEOREMS = """-- in words: Breaks nothing First
+THEOREMS = """use Rattle.laws.specs.Laws.{First, Stays}
+use Rattle.wrong.specs.Broken.{Breaks, BreaksAs}
+-- in words: Breaks nothing First
 pub naysayer-falls : Breaks naysayer First
 naysayer-falls law = law
 pub without-7-falls : BreaksAs (without 7) First
@@ -35,6 +38,7 @@ def build(room):
     room.write(LAWS, "-- all of them\nlaws =\n    First ∷ Stays broken\n    ∷ Stays pressed\n    ∷ []\n")
     room.write(LIB, "pub mod Wrong\n")
     room.write(SPECS, BRIDGES)
+    room.write(BROKEN, "abbrev pub Breaks : (Call → World → Did) → Law → Type 0\n")
     room.write(PROOFS, THEOREMS)
     room.write(CHECKS, "- Laws: 2. Two.\n- Wrong bridges: 3. Three.\n- Refutations: 4.\n")
     room.write(PROMISES, f"{STATED}\n{room.run(TOOL + ['--table'])[1]}\nThe end.\n")
@@ -58,6 +62,10 @@ def odd(room):
     room.finds(TOOL, "every-one is of First e, which is not in the list", (PROOFS, "(Stays e)", "(First e)"))
     room.finds(TOOL, "naysayer-falls is of nobody, which no file", (PROOFS, "Breaks naysayer First", "Breaks nobody First"))
     room.finds(TOOL, "naysayer-falls is of none of the three forms", (PROOFS, "Breaks naysayer First", "⊥ → Breaks naysayer First"))
+    room.finds(TOOL, f"{PROOFS}: it declares Breaks", (PROOFS, THEOREMS + "abbrev Breaks : Type 0\nBreaks = Unit\n"))
+    room.finds(TOOL, f"{SPECS}: it declares First", (SPECS, BRIDGES + "abbrev pub First : Law\nFirst = other\n"))
+    room.finds(TOOL, "First is taken from Rattle.other.specs.Laws", (PROOFS, "use Rattle.other.specs.Laws.{First}\n" + THEOREMS))
+    room.finds(TOOL, "Other as Stays is taken from", (PROOFS, "use Rattle.laws.specs.Laws.{Other as Stays}\n" + THEOREMS))
     room.finds(TOOL, "Lib.antt does not bring it in", (LIB, "pub mod Other\n"))
 
 
