@@ -1,7 +1,7 @@
 -- A break and a key press change nothing but the notes. Assumes nothing.
 use Prim.Native.Nat.{ℕ}
 use mathlib.Core.Path.{_≡_, refl, sym, _∙_}
-use mathlib.Core.Bool.{Bool, true, false, cond, _||_, false≢true}
+use mathlib.Core.Bool.{true, false, _||_, or-true, or-false, false≢true}
 use Rattle.cases.specs.Refusals.{firstRefusal}
 use Rattle.machine.specs.Machine.{Obeys}
 use Rattle.status.specs.declared.Events.{Events}
@@ -12,36 +12,25 @@ use Rattle.laws.specs.Bridges.{Saw}
 use Rattle.laws.specs.Observers.{taken, onOne}
 use Rattle.laws.specs.Events.{Event, broken, overrun, pressed, noted, happens, same, OnlyNoted, Alone}
 use Rattle.laws.proofs.Refusing.{by-refusal}
+use Rattle.runs.proofs.Quiet.{same-either}
 use Rattle.runs.proofs.Steps.{ours}
-
-or-true : (x : Bool) → true ≡ (x || true)
-or-true true = refl
-or-true false = refl
-
-or-false : (x : Bool) → x ≡ (x || false)
-or-false true = refl
-or-false false = refl
 
 -- one more note
 set-broken : (x : Events) (d : Event) → noted d (record { brk = true; overrun = x .overrun; key = x .key }) ≡ (noted d x || same d broken)
-set-broken x broken = or-true (x .brk)
-set-broken x overrun = or-false (x .overrun)
-set-broken x pressed = or-false (x .key)
+set-broken x broken = sym (or-true (x .brk))
+set-broken x overrun = sym (or-false (x .overrun))
+set-broken x pressed = sym (or-false (x .key))
 
 set-pressed : (x : Events) (d : Event) → noted d (record { brk = x .brk; overrun = x .overrun; key = true }) ≡ (noted d x || same d pressed)
-set-pressed x broken = or-false (x .brk)
-set-pressed x overrun = or-false (x .overrun)
-set-pressed x pressed = or-true (x .key)
+set-pressed x broken = sym (or-false (x .brk))
+set-pressed x overrun = sym (or-false (x .overrun))
+set-pressed x pressed = sym (or-true (x .key))
 
 -- a refused call is none
 none-refused : (n : ℕ) (d : OnState) (c : Call) → onOne d (taken (refused n)) false c ≡ true → ⊥
 none-refused n d (create m) h = false≢true h
 none-refused n d (show side) h = false≢true h
-none-refused n d (on c) h = false≢true (sym (neither (is d c)) ∙ h)
-  where
-    neither : (t : Bool) → cond t false false ≡ false
-    neither true = refl
-    neither false = refl
+none-refused n d (on c) h = false≢true (sym (same-either (is d c) false) ∙ h)
 
 -- what a call did, as it is seen
 abbrev saw : Call → World → Did → Saw

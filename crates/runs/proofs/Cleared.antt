@@ -2,7 +2,7 @@
 use Prim.Native.Nat.{ℕ}
 use native.Mathlib.Omega.{arith}
 use mathlib.Core.Path.{_≡_, refl, sym, ap, subst, _∙_}
-use mathlib.Core.Bool.{Bool, true, false, cond, _&&_, _||_, not, false≢true, and-false}
+use mathlib.Core.Bool.{Bool, true, false, cond, _&&_, _||_, not, false≢true, and-false, or-true}
 use mathlib.Core.List.{List, [], _∷_}
 use lib.Dec.{eqb}
 use borrow.Author.Tests.{eqb-true, ne-eqb, le-leb}
@@ -114,10 +114,6 @@ module _ (e : Event) where
 
 -- ---- loop frames
 
-or-true : (a b : Bool) → b ≡ true → (a || b) ≡ true
-or-true true b e = refl
-or-true false b e = e
-
 -- while a status byte is under way, nothing is asked for
 busy-talking : (s : State) (f : ℕ) → eqb (s .role .talker) 3 ≡ true → (isSend s f ≡ false) × (asksStatus s f ≡ false)
 unfolding isSend asksStatus
@@ -151,7 +147,7 @@ module _ (e : Event) (w : World) (f : ℕ) where
   frame-noted o (isBack m d) t =
       left e (on (loopFrame f)) w _ _ (no-empties _ (m .clear)) (never-noted (w .state .notes .seen) (w .state .notes .again) (dataOf (w .state .under .frame)) e)
       (λ n _. absurd (false≢true (sym n ∙ (λ i. d i || eqb (controlOf f) 4))))
-  frame-noted o (isCleared m c) t = begun e (on (loopFrame f)) w _ _ (or-true (isData f) _ c) (none-noted e)
+  frame-noted o (isCleared m c) t = begun e (on (loopFrame f)) w _ _ ((λ i. isData f || c i) ∙ or-true (isData f)) (none-noted e)
   frame-noted o (isKept m d l) t =
       left e (on (loopFrame f)) w _ _ (no-empties _ (m .clear)) (λ h. h) (λ n _. absurd (false≢true (sym n ∙ (λ i. d i || eqb (controlOf f) 4))))
   frame-noted o (isOther u k p m x) t =

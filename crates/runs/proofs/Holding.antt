@@ -37,7 +37,7 @@ use Rattle.machine.specs.Machine.{Obeys}
 use Rattle.runs.proofs.Steps.{ours}
 
 none-any : (t : Bool) → any (cond t [] []) ≡ false
-none-any t = ap any (same-either t)
+none-any t = ap any (same-either t [])
 
 record Goes (c : Call) (w : World) (d : Did) : Type 0 where
   holding : d .world .state .line .holding ≡ holdingAfter c w (d .said) (d .world)

@@ -35,6 +35,7 @@ use Rattle.laws.specs.Observers.{restarts, startsAnew}
 use Rattle.laws.specs.LastSent.{afterOwn, lastOf, recorded, LastKept, LastSince}
 use Rattle.runs.proofs.Shapes.{Fits}
 use Rattle.runs.proofs.FrameKinds.{Kind, isSent, isStatus, isBack, isCleared, isKept, isOther, kind-of}
+use Rattle.runs.proofs.Quiet.{same-either}
 use Rattle.runs.proofs.Refusals.{or-refused, next-fits, frame-fits}
 use Rattle.runs.proofs.Runs.{first-not}
 use Rattle.runs.proofs.Steps.{answer, after, Without, lastSent, ours}
@@ -121,10 +122,6 @@ module _ (c : Call) (w : World) where
   refused-or : (n : ℕ) (d : Did) → LastRight (record { said = refused n; world = w }) → (n ≡ 0 → LastRight d) → LastRight (refusedOr n d w)
   refused-or n d = or-refused LastRight n d w
 
-same-either : (t k : Bool) → k ≡ cond t k k
-same-either true k = refl
-same-either false k = refl
-
 last-right : (c : Call) (w : World) → LastRight c w (step c w)
 unfolding step calls.notRefused outcome settledBy settled said lastOf restarts startState breakState keyState
 last-right (create m) w = refused-or (create m) w _ _ refl (λ _. refl)
@@ -133,7 +130,7 @@ last-right (on (write n v)) w = refused-or (on (write n v)) w _ _ refl (λ _. wr
 last-right (on (lineByte b)) w = refused-or (on (lineByte b)) w _ _ refl (λ _. line-same (w .state) b)
 last-right (on lineBreak) w = refused-or (on lineBreak) w _ _ refl (λ _. refl)
 last-right (on key) w = refused-or (on key) w _ _ refl (λ _. refl)
-last-right (on nextLineByte) w = refused-or (on nextLineByte) w _ _ (same-either (owed (w .state .line)) (recorded w)) (λ e. next-same w (next-fits w e))
+last-right (on nextLineByte) w = refused-or (on nextLineByte) w _ _ (sym (same-either (owed (w .state .line)) (recorded w))) (λ e. next-same w (next-fits w e))
 last-right (on (loopFrame f)) w =
     refused-or (on (loopFrame f)) w _ _ refl
     (λ e. settled-same (w .state) (w .rx) f (deviceClear (w .state) f) _ (frame-same (w .state) (w .rx) f _ (kind-of f w (frame-fits f w e))))

@@ -2,7 +2,7 @@
 use Prim.Native.Nat.{ℕ, _+_, _-_, _%_}
 use native.Mathlib.Omega.{arith}
 use mathlib.Core.Path.{_≡_, refl, sym, _∙_}
-use mathlib.Core.Bool.{Bool, true, false, _&&_, _||_, not, true≢false, false≢true}
+use mathlib.Core.Bool.{true, false, _&&_, _||_, not, or-true, true≢false, false≢true}
 use lib.Dec.{eqb, leb, ltb}
 use borrow.Author.Tests.{eqb-true, eq-eqb, leb-true, le-leb, ltb-true, lt-ltb, le-ltb}
 use Rattle.cases.proofs.Cases.{and-left, and-right, same-test}
@@ -40,10 +40,6 @@ assigns-same r d = λ i. numbers i && eqb (r .address) 31
         let a = eqb-true (d - d % 32) 128 (and-left (eqb (d - d % 32) 128) (leb (d % 32) 30) h) in
         let b = leb-true (d % 32) 30 (and-right (eqb (d - d % 32) 128) (leb (d % 32) 30) h) in
         λ i. le-leb 128 d (omega arith) i && lt-ltb d 159 (omega arith) i)
-
-or-true : (x : Bool) → true ≡ (x || true)
-or-true true = refl
-or-true false = refl
 
 module _ (w : World) (f : ℕ) where
   -- what is answered, by the outcome
@@ -130,7 +126,7 @@ module _ (w : World) (f : ℕ) where
   pass-way o (isSendAsked r a x) =
       readies _ r (λ n. absurd (true≢false (sym n ∙ a))) (λ _ n. absurd (true≢false (sym (λ i. asked r 96 x i || isAsked 97 (w .state) f) ∙ n)))
   pass-way o (isTold r a x y) =
-      readies _ r (λ n. absurd (true≢false (sym n ∙ a))) (λ _ n. absurd (true≢false (or-true (isAsked 96 (w .state) f) ∙ (λ i. isAsked 96 (w .state) f || sym (asked r 97 y) i) ∙ n)))
+      readies _ r (λ n. absurd (true≢false (sym n ∙ a))) (λ _ n. absurd (true≢false (sym (or-true (isAsked 96 (w .state) f)) ∙ (λ i. isAsked 96 (w .state) f || sym (asked r 97 y) i) ∙ n)))
   pass-way o (isFinishing r a x y z) = readies _ r (λ n. absurd (true≢false (sym n ∙ a))) (λ _ _. refl)
   pass-way o (isReady r a x y z) = readies _ r (λ n. absurd (true≢false (sym n ∙ a))) (λ _ _. refl)
   pass-way o (isIdentified r) = identifies _ r refl

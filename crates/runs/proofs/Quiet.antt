@@ -13,11 +13,12 @@ use Rattle.runs.proofs.Shapes.{Seen, seen, Heart, heart, Shape}
 abbrev pub Shaped : (w : World) → Call → Did → Type 0
 Shaped w c d = Shape w (seen c w (d .said)) (heart (d .world .state)) (d .world .rx) (d .world .tx)
 
--- ---- nothing arrives
+-- a test that changes nothing
+pub same-either : {A : Type 0} (t : Bool) (x : A) → cond t x x ≡ x
+same-either true x = refl
+same-either false x = refl
 
-pub same-either : (t : Bool) → _≡_ {A = List ℕ} (cond t [] []) []
-same-either true = refl
-same-either false = refl
+-- ---- nothing arrives
 
 -- where no byte arrives, none is accepted and none is lost
 abbrev pub quiet : Call → World → Said → Seen
@@ -37,11 +38,11 @@ quiet c w a =
 module _ (c : Call) (w : World) (a : Said) (e : arrived c w a ≡ []) where
   none-accepted : accepted c w a ≡ []
   unfolding accepted
-  none-accepted = rw e (same-either (full (w .state .sizes .rx) (w .state .rx)))
+  none-accepted = rw e (same-either (full (w .state .sizes .rx) (w .state .rx)) [])
 
   none-lost : lost c w a ≡ []
   unfolding lost
-  none-lost = rw e (same-either (full (w .state .sizes .rx) (w .state .rx)))
+  none-lost = rw e (same-either (full (w .state .sizes .rx) (w .state .rx)) [])
 
 pub quietly : (c : Call) (w : World) (a : Said) (h : Heart) (rx tx : List ℕ) → arrived c w a ≡ [] → Shape w (quiet c w a) h rx tx → Shape w (seen c w a) h rx tx
 quietly c w a h rx tx e = subst (λ x. Shape w x h rx tx) same

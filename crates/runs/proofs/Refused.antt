@@ -3,14 +3,7 @@ use Prim.Native.Nat.{ℕ}
 use mathlib.Core.Path.{_≡_, refl, sym, _∙_}
 use mathlib.Core.Bool.{true, false, false≢true}
 use mathlib.Core.List.{List}
-use lib.Dec.{eqb}
 use Rattle.cases.specs.Refusals.{firstRefusal}
-use Rattle.cases.proofs.Cases.{by-cond}
-use Rattle.frame.specs.Frame.{controlOf, isData, sameApart}
-use Rattle.role.specs.declared.Ready.{Ready}
-use Rattle.role.specs.declared.Ready.the-variants.{Pass, Address, Data, Status, Finish}
-use Rattle.role.specs.Parts.{isActive}
-use Rattle.role.specs.ReadyFrames.{readyOf}
 use Rattle.sending.specs.declared.Given.{Given}
 use Rattle.sending.specs.declared.Given.the-variants as given
 use Rattle.state.specs.declared.State.{State}
@@ -20,11 +13,12 @@ use Rattle.state.specs.declared.Outcome.{Outcome}
 use Rattle.state.specs.Answers.{Said, said, done, none, byte, frame, refused, part}
 use Rattle.line.specs.HoldingOff.{nextOut, outAnswer}
 use Rattle.loops.specs.Sending.{sendState, sendFrom, sendStatus, ended}
-use Rattle.loops.specs.Frames.{command, readied, ready, returned, dataPassed, identify, frameTaken}
+use Rattle.loops.specs.Frames.{frameTaken}
 use Rattle.bridge.specs.Calls.{on, create, reset, write, lineByte, lineBreak, key, nextLineByte, loopFrame, show, World, Did, checks, outcome, refusedOr, step}
 use Rattle.bridge.specs.Calls as calls
 use Rattle.laws.specs.Observers.{taken, isFrame}
 use Rattle.laws.specs.Demands.{RefusedStays, OneFrameOut}
+use Rattle.laws.proofs.Ways.{Way, isNext, isBack, isLast, isDamaged, isStored, isPassed, isCleared, isObeyed, isAssigned, isSendAsked, isTold, isFinishing, isReady, isIdentified, way}
 use Rattle.runs.proofs.Refusals.{or-refused, if-taken}
 use Rattle.runs.proofs.Steps.{after, ours, answer, at-call}
 use Rattle.machine.specs.Machine.{Obeys}
@@ -38,29 +32,25 @@ unfolding sendState ended said
 send-answers before after given.Nothing = refl
 send-answers before after (given.One f) = refl
 
-ready-answers : (s : State) (rx : List ℕ) (f : ℕ) (r : Ready) → Answers (readied s rx f r)
-unfolding readied sendFrom sendStatus said
-ready-answers s rx f Address = refl
-ready-answers s rx f Data = send-answers s _ _
-ready-answers s rx f Status = refl
-ready-answers s rx f Finish = refl
-ready-answers s rx f Pass = refl
-
-return-answers : (s : State) (rx : List ℕ) (f : ℕ) → Answers (returned s rx f)
-unfolding returned sendFrom ended said
-return-answers s rx f =
-    by-cond Answers (sameApart f (s .under .frame)) _ _
-    (λ _. by-cond Answers (eqb (s .role .talker) 3) _ _ (λ _. refl)
-    (λ _. by-cond Answers (s .under .finishing) _ _ (λ _. refl) (λ _. send-answers s _ _)))
-    (λ _. refl)
+way-answers : (s : State) (rx : List ℕ) (f : ℕ) (o : Outcome) → Way s rx f o → Answers o
+unfolding sendFrom sendStatus ended said
+way-answers s rx f o (isNext r m k e) = send-answers s _ _
+way-answers s rx f o (isBack r m k) = refl
+way-answers s rx f o (isLast r m k e) = refl
+way-answers s rx f o (isDamaged r m) = refl
+way-answers s rx f o (isStored r l) = refl
+way-answers s rx f o (isPassed r l) = refl
+way-answers s rx f o (isCleared r c) = refl
+way-answers s rx f o (isObeyed r c) = refl
+way-answers s rx f o (isAssigned r a) = refl
+way-answers s rx f o (isSendAsked r a x) = send-answers s _ _
+way-answers s rx f o (isTold r a x y) = refl
+way-answers s rx f o (isFinishing r a x y z) = refl
+way-answers s rx f o (isReady r a x y z) = refl
+way-answers s rx f o (isIdentified r) = refl
 
 pub frame-answers : (s : State) (rx : List ℕ) (f : ℕ) → Answers (frameTaken s rx f)
-unfolding frameTaken command ready identify dataPassed said
-frame-answers s rx f =
-    by-cond Answers (isData f) _ _
-    (λ _. by-cond Answers (isActive (s .role)) _ _ (λ _. return-answers s rx f) (λ _. refl))
-    (λ _. by-cond Answers (eqb (controlOf f) 4) _ _ (λ _. refl)
-    (λ _. by-cond Answers (eqb (controlOf f) 5) _ _ (λ _. ready-answers s rx f (readyOf (s .role) _)) (λ _. refl)))
+frame-answers s rx f = way-answers s rx f (frameTaken s rx f) (way s rx f)
 
 -- a frame is no refusal
 pub frame-taken : (a : Said) → isFrame a ≡ true → taken a ≡ true

@@ -1,7 +1,7 @@
 -- When a request begins and ends. Assumes nothing.
 use Prim.Native.Nat.{ℕ}
 use mathlib.Core.Path.{_≡_, refl, sym, ap, subst, _∙_}
-use mathlib.Core.Bool.{Bool, true, false, cond, _&&_, _||_, not, false≢true}
+use mathlib.Core.Bool.{Bool, true, false, cond, _&&_, _||_, not, and-true, and-false, or-false, false≢true}
 use mathlib.Core.List.{List, [], _∷_}
 use lib.Dec.{eqb}
 use Rattle.cases.proofs.Cases.{by-cond, and-right, cond-true, cond-false}
@@ -54,18 +54,6 @@ no-begins : (c : Conditions) → status.begins c c ≡ false
 no-begins c =
     λ i. (((((no-comes (c .txempty) i || no-comes (c .txnotfull) i) || no-comes (c .rxnotempty) i) || no-comes (c .rxfull) i) || no-comes (c .brk) i) || no-comes (c .overrun) i) || no-comes (c .key) i
 
-or-false : (x : Bool) → x ≡ (x || false)
-or-false true = refl
-or-false false = refl
-
-and-true : (x : Bool) → x ≡ (x && true)
-and-true true = refl
-and-true false = refl
-
-and-false : (x : Bool) → false ≡ (x && false)
-and-false true = refl
-and-false false = refl
-
 -- what a call did, with requests settled
 abbrev Goes : Call → World → Did → Type 0
 Goes c w d = d .world .state .notes .request ≡ ((w .state .notes .request && not (any (statusSent c w (d .said)))) || status.begins (asking (w .state)) (asking (d .world .state)))
@@ -75,14 +63,14 @@ quiet : (c : Call) (w : World) (a : Said) (t : State) → t .notes .request ≡ 
 unfolding settled asking conditions
 quiet c w a t e = λ i. e i || status.begins (both (enabledBy (w .state .regs)) (conditions (w .state))) (both (enabledBy (t .regs)) (conditions t))
 
-refused-goes : (c : Call) (w : World) (n : ℕ) → statusSent c w (refused n) ≡ [] → Goes c w (record { said = refused n; world = w })
-refused-goes c w n e =
-    and-true (w .state .notes .request) ∙ or-false (w .state .notes .request && true)
+still-goes : (c : Call) (w : World) (a : Said) → statusSent c w a ≡ [] → Goes c w (record { said = a; world = w })
+still-goes c w a e =
+    sym (and-true (w .state .notes .request)) ∙ sym (or-false (w .state .notes .request && true))
     ∙ (λ i. (w .state .notes .request && not (any (sym e i))) || sym (no-begins (asking (w .state))) i)
 
 goes-or : (c : Call) (w : World) (n : ℕ) (d : Did) → statusSent c w (refused n) ≡ [] → (n ≡ 0 → empties c w (d .said) ≡ false → Goes c w d) →
     empties c w (refusedOr n d w .said) ≡ false → Goes c w (refusedOr n d w)
-goes-or c w n d e = or-refused (λ (x : Did). empties c w (x .said) ≡ false → Goes c w x) n d w (λ _. refused-goes c w n e)
+goes-or c w n d e = or-refused (λ (x : Did). empties c w (x .said) ≡ false → Goes c w x) n d w (λ _. still-goes c w (refused n) e)
 
 gone-kept : (s : State) (o : Out) → goneState s o .notes .request ≡ s .notes .request
 unfolding goneState
@@ -108,12 +96,12 @@ module _ (s : State) (rx : List ℕ) (f : ℕ) where
 
   -- a frame that asks for no status byte
   stays : (o : Outcome) → asksStatus s f ≡ false → o .state .notes .request ≡ s .notes .request → Request o
-  stays o a e = e ∙ and-true (s .notes .request) ∙ (λ i. s .notes .request && not (any (cond (sym a i) (dataFrame (said (o .answer))) [])))
+  stays o a e = e ∙ sym (and-true (s .notes .request)) ∙ (λ i. s .notes .request && not (any (cond (sym a i) (dataFrame (said (o .answer))) [])))
 
   request-kind : (o : Outcome) → Kind s rx f o → deviceClear s f ≡ false → Request o
   unfolding sendStatus talking ended addedState state-status.afterStatus state-status.afterStatusBack
   request-kind o (isSent m) n = stays (sendFrom s rx) (m .status) (ap (λ (x : Notes). x .request) (send-notes s rx f))
-  request-kind o (isStatus m) n = and-false (s .notes .request) ∙ (λ i. s .notes .request && not (any (cond (sym (m .status) i) (sym (status-frame s) i) [])))
+  request-kind o (isStatus m) n = sym (and-false (s .notes .request)) ∙ (λ i. s .notes .request && not (any (cond (sym (m .status) i) (sym (status-frame s) i) [])))
   request-kind o (isBack m d) n = stays (ended (state-status.afterStatusBack s (dataOf (s .under .frame))) 64) (m .status) refl
   request-kind o (isCleared m c) n = absurd (false≢true (sym n ∙ m .clear))
   request-kind o (isKept m d l) n = stays (passed (addedState s f) (state-status.serviced s f)) (m .status) refl
@@ -123,7 +111,7 @@ module _ (w : World) (f : ℕ) where
   frame-goes : empties (on (loopFrame f)) w (answer (on (loopFrame f)) w) ≡ false → Goes (on (loopFrame f)) w (step (on (loopFrame f)) w)
   unfolding step calls.notRefused outcome settledBy statusSent restarts clears
   frame-goes =
-      goes-or (on (loopFrame f)) w (firstRefusal (checks (on (loopFrame f)) w)) (calls.notRefused (on (loopFrame f)) w) (same-either (asksStatus (w .state) f))
+      goes-or (on (loopFrame f)) w (firstRefusal (checks (on (loopFrame f)) w)) (calls.notRefused (on (loopFrame f)) w) (same-either (asksStatus (w .state) f) [])
       (λ e q. go (kind-of f w (frame-fits f w e)) (not-clear q))
     where
       o : Outcome
@@ -144,13 +132,15 @@ goes : (c : Call) (w : World) → empties c w (answer c w) ≡ false → Goes c 
 unfolding step calls.notRefused outcome settledBy said statusSent restarts breakState keyState afterWrite setAfresh clears
 goes (create m) w = goes-or (create m) w _ _ refl (λ _ q. absurd (false≢true (sym q)))
 goes (on reset) w = goes-or (on reset) w _ _ refl (λ _ q. absurd (false≢true (sym q)))
-goes (on (write n v)) w = goes-or (on (write n v)) w _ _ refl (λ _ _. quiet (on (write n v)) w done _ (write-kept (w .state) n _ _ refl refl ∙ and-true (w .state .notes .request)))
-goes (on (lineByte b)) w = goes-or (on (lineByte b)) w _ _ refl (λ _ _. quiet (on (lineByte b)) w done _ (line-kept (w .state) b ∙ and-true (w .state .notes .request)))
-goes (on lineBreak) w = goes-or (on lineBreak) w _ _ refl (λ _ _. quiet (on lineBreak) w done _ (and-true (w .state .notes .request)))
-goes (on key) w = goes-or (on key) w _ _ refl (λ _ _. quiet (on key) w done _ (and-true (w .state .notes .request)))
-goes (on nextLineByte) w = goes-or (on nextLineByte) w _ _ refl (λ _ _. quiet (on nextLineByte) w done _ (gone-kept (w .state) (nextOut (w .state) (w .tx)) ∙ and-true (w .state .notes .request)))
+goes (on (write n v)) w = goes-or (on (write n v)) w _ _ refl (λ _ _. quiet (on (write n v)) w done _ (write-kept (w .state) n _ _ refl refl ∙ sym (and-true (w .state .notes .request))))
+goes (on (lineByte b)) w = goes-or (on (lineByte b)) w _ _ refl (λ _ _. quiet (on (lineByte b)) w done _ (line-kept (w .state) b ∙ sym (and-true (w .state .notes .request))))
+goes (on lineBreak) w = goes-or (on lineBreak) w _ _ refl (λ _ _. quiet (on lineBreak) w done _ (sym (and-true (w .state .notes .request))))
+goes (on key) w = goes-or (on key) w _ _ refl (λ _ _. quiet (on key) w done _ (sym (and-true (w .state .notes .request))))
+goes (on nextLineByte) w =
+    goes-or (on nextLineByte) w _ _ refl
+    (λ _ _. quiet (on nextLineByte) w done _ (gone-kept (w .state) (nextOut (w .state) (w .tx)) ∙ sym (and-true (w .state .notes .request))))
 goes (on (loopFrame f)) w = frame-goes w f
-goes (show side) w = goes-or (show side) w _ _ refl (λ _ _. and-true (w .state .notes .request) ∙ or-false (w .state .notes .request && true) ∙ (λ i. (w .state .notes .request && true) || sym (no-begins (asking (w .state))) i))
+goes (show side) w = goes-or (show side) w _ _ refl (λ _ _. still-goes (show side) w (calls.notRefused (show side) w .said) refl)
 
 -- ---- a create, reset or device clear
 
@@ -192,7 +182,7 @@ or-seven false false true d e f g = refl
 or-seven false false false true e f g = refl
 or-seven false false false false true f g = refl
 or-seven false false false false false true g = refl
-or-seven false false false false false false g = sym (or-false g)
+or-seven false false false false false false g = or-false g
 
 comes-so : (b a : Conditions) → comes (asks b) (asks a) ≡ status.begins b a
 unfolding comes

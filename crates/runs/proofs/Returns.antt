@@ -2,7 +2,7 @@
 use Prim.Native.Nat.{ℕ, _≤_}
 use native.Mathlib.Omega.{arith}
 use mathlib.Core.Path.{_≡_, refl, sym, ap, subst, _∙_}
-use mathlib.Core.Bool.{Bool, true, false, cond, _&&_, _||_, not, true≢false, false≢true}
+use mathlib.Core.Bool.{Bool, true, false, cond, _&&_, _||_, not, or-true, or-false, or-assoc, true≢false, false≢true}
 use mathlib.Core.List.{List, [], _∷_, nil≢cons}
 use lib.Dec.{eqb}
 use borrow.Author.Tests.{eqb-true, eqb-false, eq-eqb, ne-eqb, le-leb, le-ltb}
@@ -37,6 +37,7 @@ use Rattle.role.specs.Parts.{isActive}
 use Rattle.laws.proofs.Fitting.{keeps-bytes}
 use Rattle.laws.proofs.Refusing.{by-refusal, fitting}
 use Rattle.runs.proofs.Refusals.{if-taken}
+use Rattle.runs.proofs.Quiet.{same-either}
 use Rattle.runs.proofs.Runs.{first-not}
 use Rattle.runs.proofs.SendRule.{send-rule}
 use Rattle.laws.proofs.Answers.{frame-not-refused}
@@ -52,14 +53,6 @@ record Under (k : Bool) (g : ℕ) (e : Bool) (s : State) : Type 0 where
   frame : stripped (s .under .frame) ≡ g
   finishing : k ≡ false → s .under .finishing ≡ e
 
-or-false : (x : Bool) → x ≡ (x || false)
-or-false true = refl
-or-false false = refl
-
-or-true : (x : Bool) → true ≡ (x || true)
-or-true true = refl
-or-true false = refl
-
 module _ (k : Bool) (g : ℕ) (e : Bool) where
   -- nothing of it changes
   moved : {x : Bool} (s t : State) → Untouched s t → Under k g x s → Under k g x t
@@ -74,7 +67,7 @@ module _ (k : Bool) (g : ℕ) (e : Bool) where
   same : (s t : State) (x : Bool) → Untouched s t → x ≡ false → Under k g e s → Under k g (e || x) t
   same s t x v n u =
       let m = moved s t v u in
-      record { talker = m .talker; frame = m .frame; finishing = λ h. m .finishing h ∙ or-false e ∙ (λ i. e || sym n i) }
+      record { talker = m .talker; frame = m .frame; finishing = λ h. m .finishing h ∙ sym (or-false e) ∙ (λ i. e || sym n i) }
 
   both : (s t v : State) → Untouched s t → Untouched t v → Untouched s v
   both s t v p q = record { role = q .role ∙ p .role; under = q .under ∙ p .under }
@@ -106,7 +99,7 @@ module _ (k : Bool) (g : ℕ) (e : Bool) where
         record {
           talker = u .talker;
           frame = u .frame;
-          finishing = λ h. u .finishing h ∙ or-false e ∙ (λ i. e || sym (unlike (address-high (w .state .role) (dataOf f) 66 (omega arith) a)) i);
+          finishing = λ h. u .finishing h ∙ sym (or-false e) ∙ (λ i. e || sym (unlike (address-high (w .state .role) (dataOf f) 66 (omega arith) a)) i);
         }
     frame-on o (isSendAsked r a x) = absurd (not-addressed (w .state) u (and-right (eqb (dataOf f) 96) _ x))
     frame-on o (isTold r a x y) = absurd (not-addressed (w .state) u (and-right (eqb (dataOf f) 97) _ y))
@@ -114,15 +107,19 @@ module _ (k : Bool) (g : ℕ) (e : Bool) where
         record {
           talker = u .talker;
           frame = u .frame;
-          finishing = λ _. or-true e ∙ (λ i. e || sym (eq-eqb f (made 5 66) (omega (arith, eqb-true (controlOf f) 5 (r .five), eqb-true (dataOf f) 66 (and-left _ _ z)))) i);
+          finishing = λ _. sym (or-true e) ∙ (λ i. e || sym (eq-eqb f (made 5 66) (omega (arith, eqb-true (controlOf f) 5 (r .five), eqb-true (dataOf f) 66 (and-left _ _ z)))) i);
         }
     frame-on o (isReady r a x y z) = record { talker = u .talker; frame = u .frame; finishing = λ h. u .finishing h ∙ go h (eqb (dataOf f) 66) refl }
       where
         go : k ≡ false → (t : Bool) → eqb (dataOf f) 66 ≡ t → e ≡ (e || eqb f (made 5 66))
         go h true q = absurd (true≢false (sym (λ i. q i && eq-eqb (w .state .role .talker) 2 (u .talker ∙ (λ j. cond (h j) 3 2)) i) ∙ z))
-        go h false q = or-false e ∙ (λ i. e || sym (unlike (eqb-false (dataOf f) 66 q)) i)
+        go h false q = sym (or-false e) ∙ (λ i. e || sym (unlike (eqb-false (dataOf f) 66 q)) i)
     frame-on o (isIdentified r) =
-        record { talker = u .talker; frame = u .frame; finishing = λ h. u .finishing h ∙ or-false e ∙ (λ i. e || sym (ne-eqb f (made 5 66) (λ q. eqb-false (controlOf f) 5 (r .five) (omega arith))) i) }
+        record {
+          talker = u .talker;
+          frame = u .frame;
+          finishing = λ h. u .finishing h ∙ sym (or-false e) ∙ (λ i. e || sym (ne-eqb f (made 5 66) (λ q. eqb-false (controlOf f) 5 (r .five) (omega arith))) i);
+        }
 
   -- a call that does not end its way leaves it under way
   abbrev On : Call → World → Did → Type 0
@@ -215,14 +212,7 @@ module _ (w : World) (B : Bytes (w .rx)) (f g : ℕ) where
 
 -- where nothing is seen, nothing is sent
 none-either : (k x y : Bool) → _≡_ {A = List ℕ} (cond k (cond x [] []) (cond y [] [])) []
-none-either true true y = refl
-none-either true false y = refl
-none-either false x true = refl
-none-either false x false = refl
-
-none-else : (k : Bool) → _≡_ {A = List ℕ} (cond k [] []) []
-none-else true = refl
-none-else false = refl
+none-either k x y = (λ i. cond k (same-either x [] i) (same-either y [] i)) ∙ same-either k []
 
 -- what a call of ours sends is under way after it
 own-under : (k : Bool) (g : ℕ) (c : Call) (w : World) → Bytes (w .rx) → ownFrame k c w (answer c w) ≡ g ∷ [] → Under k g false (after c w .state)
@@ -232,38 +222,34 @@ own-under k g c w B =
     (λ _ q. absurd (nil≢cons (sym (refused-none c (firstRefusal (checks c w))) ∙ q)))
   where
     refused-none : (c : Call) (n : ℕ) → ownFrame k c w (refused n) ≡ []
-    refused-none (create m) n = none-else k
-    refused-none (show side) n = none-else k
-    refused-none (on reset) n = none-else k
-    refused-none (on (write a v)) n = none-else k
-    refused-none (on (lineByte b)) n = none-else k
-    refused-none (on lineBreak) n = none-else k
-    refused-none (on key) n = none-else k
-    refused-none (on nextLineByte) n = none-else k
+    refused-none (create m) n = same-either k []
+    refused-none (show side) n = same-either k []
+    refused-none (on reset) n = same-either k []
+    refused-none (on (write a v)) n = same-either k []
+    refused-none (on (lineByte b)) n = same-either k []
+    refused-none (on lineBreak) n = same-either k []
+    refused-none (on key) n = same-either k []
+    refused-none (on nextLineByte) n = same-either k []
     refused-none (on (loopFrame f)) n = none-either k (asksStatus (w .state) f) (passesOn (w .state) f || asksStatus (w .state) f)
 
     done : (c : Call) → firstRefusal (checks c w) ≡ 0 → ownFrame k c w (notRefused c w .said) ≡ g ∷ [] → Under k g false (notRefused c w .world .state)
-    done (create m) e q = absurd (nil≢cons (sym (none-else k) ∙ q))
-    done (show side) e q = absurd (nil≢cons (sym (none-else k) ∙ q))
-    done (on reset) e q = absurd (nil≢cons (sym (none-else k) ∙ q))
-    done (on (write a v)) e q = absurd (nil≢cons (sym (none-else k) ∙ q))
-    done (on (lineByte b)) e q = absurd (nil≢cons (sym (none-else k) ∙ q))
-    done (on lineBreak) e q = absurd (nil≢cons (sym (none-else k) ∙ q))
-    done (on key) e q = absurd (nil≢cons (sym (none-else k) ∙ q))
-    done (on nextLineByte) e q = absurd (nil≢cons (sym (none-else k) ∙ q))
+    done (create m) e q = absurd (nil≢cons (sym (same-either k []) ∙ q))
+    done (show side) e q = absurd (nil≢cons (sym (same-either k []) ∙ q))
+    done (on reset) e q = absurd (nil≢cons (sym (same-either k []) ∙ q))
+    done (on (write a v)) e q = absurd (nil≢cons (sym (same-either k []) ∙ q))
+    done (on (lineByte b)) e q = absurd (nil≢cons (sym (same-either k []) ∙ q))
+    done (on lineBreak) e q = absurd (nil≢cons (sym (same-either k []) ∙ q))
+    done (on key) e q = absurd (nil≢cons (sym (same-either k []) ∙ q))
+    done (on nextLineByte) e q = absurd (nil≢cons (sym (same-either k []) ∙ q))
     done (on (loopFrame f)) e q =
         moved k g false _ _ (settled-untouched (w .state) (deviceClear (w .state) f) _)
         (kind-under w B f g k (frameTaken (w .state) (w .rx) f) (kind-of f w (fitting (loopFrame f) w e .0)) q)
 
 -- ---- the run after it
 
-or-assoc : (x y z : Bool) → ((x || y) || z) ≡ (x || (y || z))
-or-assoc true y z = refl
-or-assoc false y z = refl
-
 run-on : (k : Bool) (g : ℕ) (e : Bool) (cs : List Call) (w : World) → Without (λ c w a. endsWay c a) cs w → Under k g e (w .state) → Under k g (e || some finishes cs w) (end cs w .state)
 unfolding course.end course.some machine.course
-run-on k g e [] w n u = subst (λ (x : Bool). Under k g x (w .state)) (or-false e) u
+run-on k g e [] w n u = subst (λ (x : Bool). Under k g x (w .state)) (sym (or-false e)) u
 run-on k g e (c ∷ cs) w n u =
     let m = first-not (λ c w a. endsWay c a) c cs w n in
     subst (λ (x : Bool). Under k g x (end cs (after c w) .state)) (or-assoc e (finishes c w (answer c w)) (some finishes cs (after c w)))
@@ -298,7 +284,7 @@ module _ (k : Bool) (g : ℕ) (e : Bool) (w : World) (u : Under k g e (w .state)
       let x = neither k e n in
       let two : w .state .role .talker ≡ 2 = u .talker ∙ (λ i. cond (x .0 i) 3 2) in
       (λ i. isAsked 96 (w .state) r || (((D i && active i) && (sym apart ∙ m) i) && (eq-eqb (w .state .role .talker) 2 two i && not ((u .finishing (x .0) ∙ x .1) i))))
-      ∙ sym (or-true (isAsked 96 (w .state) r))
+      ∙ or-true (isAsked 96 (w .state) r)
 
   abbrev Ends : Said → Type 0
   Ends a = (sameApart r g ≡ false → a ≡ frame 5 65) × (sameApart r g ≡ true → (k || e) ≡ true → a ≡ frame 5 64)

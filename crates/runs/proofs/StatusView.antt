@@ -13,11 +13,8 @@ use Rattle.registers.specs.Writing.{written}
 use Rattle.role.specs.declared.Role.{Role}
 use Rattle.role.specs.declared.Order.{Order}
 use Rattle.role.specs.declared.Order.the-variants.{Unlisten, Listen, Untalk, Talk, Clear, Deselect, Enable, Disable, Local, Unassign, Nothing}
-use Rattle.role.specs.declared.Ready.{Ready}
-use Rattle.role.specs.declared.Ready.the-variants.{Pass, Address, Finish}
 use Rattle.role.specs.Parts.{addressed, isActive}
 use Rattle.role.specs.Commands.{merelyAddressed, changedRole, obeyedRole}
-use Rattle.role.specs.ReadyFrames.{givesAddress, readyOf}
 use Rattle.store.specs.Ring.{full}
 use Rattle.status.specs.declared.Events.{Events}
 use Rattle.status.specs.Status.{showed, stays, acknowledged}
@@ -29,12 +26,12 @@ use Rattle.state.specs.declared.Out.{Out}
 use Rattle.state.specs.declared.Out.the-variants as out
 use Rattle.state.specs.declared.Answer.the-variants.{Frame}
 use Rattle.state.specs.Answers.{Said, said, refused}
-use Rattle.state.specs.Status.{settled, serviced, breakState, keyState}
+use Rattle.state.specs.Status.{settled, breakState, keyState}
 use Rattle.state.specs.Status as status
 use Rattle.line.specs.HoldingOff.{isGoOrStop, flowed, lostState, storedWith, lineState, resumed, setAfresh, afterWrite, nextOut, goneState}
 use Rattle.loops.specs.LoopToLine.{addedState}
 use Rattle.loops.specs.Sending.{ruleOf, removedState, sendState, sendFrom, sendStatus, talking, ended}
-use Rattle.loops.specs.Frames.{isClear, orderIn, obeyed, commandState, command, finishing, readied, ready, returned, dataPassed, identify, frameTaken, deviceClear}
+use Rattle.loops.specs.Frames.{isClear, orderIn, obeyed, finishing, frameTaken, deviceClear}
 use Rattle.bridge.specs.Calls.{Call, on, create, reset, write, lineByte, lineBreak, key, nextLineByte, loopFrame, show, World, Did, outcome, settledBy, refusedOr, step}
 use Rattle.bridge.specs.Calls as calls
 use Rattle.laws.specs.Observers.{taken, dataFrame, asksStatus, statusSent, restarts, clears, empties}
@@ -44,6 +41,7 @@ use Rattle.runs.proofs.Refusals.{or-refused}
 use Rattle.runs.proofs.Quiet.{same-either}
 use Rattle.runs.proofs.Answered.{status-frame}
 use Rattle.loops.proofs.Clears.{clear-order}
+use Rattle.laws.proofs.Ways as ways
 use Rattle.runs.proofs.FrameKinds.{address-high}
 use Rattle.runs.proofs.Steps.{answer, after}
 
@@ -153,83 +151,48 @@ module _ (w : World) (f : ℕ) where
       go (none r) = idles refl (keeps _)
       go (one g r) = idles refl (keeps _)
 
-  return-kind : isData f ≡ true → FrameKind (returned (w .state) (w .rx) f)
-  unfolding returned ended talking status.afterStatusBack statusBack said
-  return-kind D =
-      by-cond FrameKind (sameApart f (w .state .under .frame)) _ _
-      (λ m. by-cond FrameKind (eqb (w .state .role .talker) 3) _ _
-      (λ k. returns k (back m) refl (still-noted (w .state .notes .seen) (w .state .notes .again) (dataOf (w .state .under .frame))))
-      (λ _. by-cond FrameKind (w .state .under .finishing) _ _ (λ _. idles refl (keeps _)) (λ _. send-kind)))
-      (λ _. idles refl (keeps _))
-    where
-      back : sameApart f (w .state .under .frame) ≡ true → statusBack (stripped (w .state .under .frame) ∷ []) (on (loopFrame f)) (said (Frame (made 5 64))) ≡ true
-      back m = λ i. D i && stripped-same f (stripped (w .state .under .frame)) (same-stripped f _ m ∙ sym (stripped-twice (w .state .under .frame))) i
+  -- the status byte under way came back
+  back-kind : ways.Returning (w .state) f → sameApart f (w .state .under .frame) ≡ true → statusBack (stripped (w .state .under .frame) ∷ []) (on (loopFrame f)) (said (Frame (made 5 64))) ≡ true
+  unfolding statusBack said
+  back-kind r m = λ i. r .isdata i && stripped-same f (stripped (w .state .under .frame)) (same-stripped f _ m ∙ sym (stripped-twice (w .state .under .frame))) i
 
-  pass-kind : isActive (w .state .role) ≡ false → FrameKind (dataPassed (w .state) f)
-  unfolding dataPassed addedState
-  pass-kind A =
-      by-cond (λ (t : State). Kind (on (loopFrame f)) w (said (Frame (serviced (w .state) f))) (part t)) (w .state .role .listener) _ _
-      (λ _. idles off (keeps _))
-      (λ _. idles off (keeps _))
-    where
-      off : eqb (w .state .role .talker) 3 ≡ false
-      off = ne-eqb (w .state .role .talker) 3 (λ h. omega (arith, leb-false 2 (w .state .role .talker) A))
+  -- no active talker
+  off : ways.Arriving (w .state) f → eqb (w .state .role .talker) 3 ≡ false
+  off r = ne-eqb (w .state .role .talker) 3 (λ h. omega (arith, leb-false 2 (w .state .role .talker) (r .idle)))
 
-  command-kind : eqb (controlOf f) 4 ≡ true → FrameKind (command (w .state) f)
-  unfolding command commandState obeyed restarts clears deviceClear said
-  command-kind C =
-      by-cond (λ (t : State). Kind (on (loopFrame f)) w (said (Frame f)) (part t)) (isClear (orderIn (w .state) f)) _ _
-      (λ e. begins (clear e))
-      (λ _. idles (obeyed-idle (w .state .role) (orderIn (w .state) f)) (keeps _))
-    where
-      clear : isClear (orderIn (w .state) f) ≡ true → empties (on (loopFrame f)) w (said (Frame f)) ≡ true
-      clear e = (λ i. C i && sym (clear-order (w .state .role) (dataOf f)) i) ∙ e
+  clear : ways.Commanding f → isClear (orderIn (w .state) f) ≡ true → empties (on (loopFrame f)) w (said (Frame f)) ≡ true
+  unfolding restarts clears deviceClear said
+  clear r e = (λ i. r .four i && sym (clear-order (w .state .role) (dataOf f)) i) ∙ e
 
-  -- a frame that is neither data nor a command leaves what is under way
-  on-kind : (o : Outcome) → isData f ≡ false → eqb (controlOf f) 4 ≡ false → statusSent (on (loopFrame f)) w (said (o .answer)) ≡ [] → part (o .state) ≡ part (w .state) →
-      FrameKind o
-  unfolding endsWay
-  on-kind o D C e p = goesOn e (simp (D, C) (and-false (taken (said (o .answer))))) (same (w .state) (part (o .state)) p)
+  -- a frame that is neither data nor a command, and does not ask for status, leaves what is under way
+  on-kind : (o : Outcome) → isData f ≡ false → eqb (controlOf f) 4 ≡ false → asksStatus (w .state) f ≡ false → part (o .state) ≡ part (w .state) → FrameKind o
+  unfolding endsWay statusSent
+  on-kind o D C e p = goesOn (λ i. cond (e i) (dataFrame (said (o .answer))) []) (simp (D, C) (and-false (taken (said (o .answer))))) (same (w .state) (part (o .state)) p)
 
-  ready-kind : isData f ≡ false → eqb (controlOf f) 4 ≡ false → eqb (controlOf f) 5 ≡ true → FrameKind (ready (w .state) (w .rx) f)
-  unfolding ready readied readyOf finishing sendStatus talking status.afterStatus statusSent asksStatus
-  ready-kind D C R =
-      by-cond Readied (givesAddress r d) _ _ (λ e. passes Address (λ i. ne-eqb d 97 (address-high r d 97 (omega arith) e) i && eqb (r .talker) 1) refl)
-      (λ _. by-cond Readied (eqb d 96 && eqb (r .talker) 1) _ _ (λ _. send-kind)
-      (λ _. by-cond Readied (eqb d 97 && eqb (r .talker) 1) _ _
-      (λ e. sends ((λ i. cond (R i && e i) (dataFrame (said (sendStatus (w .state) .answer))) []) ∙ status-frame (w .state)) (keeps _))
-      (λ n. by-cond Readied (eqb d 66 && eqb (r .talker) 2) _ _ (λ _. passes Finish n refl) (λ _. passes Pass n refl))))
-    where
-      r : Role
-      r = w .state .role
+  ready-kind : (o : Outcome) → ways.Readying f → (eqb (dataOf f) 97 && eqb (w .state .role .talker) 1) ≡ false → part (o .state) ≡ part (w .state) → FrameKind o
+  unfolding asksStatus
+  ready-kind o r n = on-kind o (r .isdata) (r .four) (λ i. r .five i && n i)
 
-      d : ℕ
-      d = dataOf f
-
-      Readied : Ready → Type 0
-      Readied x = FrameKind (readied (w .state) (w .rx) f x)
-
-      passes : (x : Ready) → (eqb d 97 && eqb (r .talker) 1) ≡ false → part (readied (w .state) (w .rx) f x .state) ≡ part (w .state) → Readied x
-      passes x n =
-          on-kind (readied (w .state) (w .rx) f x) D C
-          (λ i. cond (R i && n i) (dataFrame (said (readied (w .state) (w .rx) f x .answer))) [])
-
-  identify-kind : isData f ≡ false → eqb (controlOf f) 4 ≡ false → eqb (controlOf f) 5 ≡ false → FrameKind (identify (w .state) f)
-  unfolding identify statusSent asksStatus
-  identify-kind D C R =
-      on-kind (identify (w .state) f) D C (λ i. cond (R i && (eqb (dataOf f) 97 && eqb (w .state .role .talker) 1)) (dataFrame (said (Frame (serviced (w .state) f)))) []) refl
-
-  frame-taken : FrameKind (frameTaken (w .state) (w .rx) f)
-  unfolding frameTaken
-  frame-taken =
-      by-cond FrameKind (isData f) _ _
-      (λ D. by-cond FrameKind (isActive (w .state .role)) _ _ (λ _. return-kind D) pass-kind)
-      (λ D. by-cond FrameKind (eqb (controlOf f) 4) _ _ command-kind
-      (λ C. by-cond FrameKind (eqb (controlOf f) 5) _ _ (ready-kind D C) (identify-kind D C)))
+  frame-way : (o : Outcome) → ways.Way (w .state) (w .rx) f o → FrameKind o
+  unfolding ended talking finishing obeyed addedState sendStatus status.afterStatus status.afterStatusBack statusSent asksStatus
+  frame-way o (ways.isNext r m k e) = send-kind
+  frame-way o (ways.isBack r m k) = returns k (back-kind r m) refl (still-noted (w .state .notes .seen) (w .state .notes .again) (dataOf (w .state .under .frame)))
+  frame-way o (ways.isLast r m k e) = idles refl (keeps _)
+  frame-way o (ways.isDamaged r m) = idles refl (keeps _)
+  frame-way o (ways.isStored r l) = idles (off r) (keeps _)
+  frame-way o (ways.isPassed r l) = idles (off r) (keeps _)
+  frame-way o (ways.isCleared r c) = begins (clear r c)
+  frame-way o (ways.isObeyed r c) = idles (obeyed-idle (w .state .role) (orderIn (w .state) f)) (keeps _)
+  frame-way o (ways.isAssigned r a) = ready-kind o r (λ i. ne-eqb (dataOf f) 97 (address-high (w .state .role) (dataOf f) 97 (omega arith) a) i && eqb (w .state .role .talker) 1) refl
+  frame-way o (ways.isSendAsked r a x) = send-kind
+  frame-way o (ways.isTold r a x y) = sends ((λ i. cond (r .five i && y i) (dataFrame (said (sendStatus (w .state) .answer))) []) ∙ status-frame (w .state)) (keeps _)
+  frame-way o (ways.isFinishing r a x y z) = ready-kind o r y refl
+  frame-way o (ways.isReady r a x y z) = ready-kind o r y refl
+  frame-way o (ways.isIdentified r) = on-kind o (r .isdata) (r .four) (λ i. r .five i && (eqb (dataOf f) 97 && eqb (w .state .role .talker) 1)) refl
 
   frame-kind : Kind (on (loopFrame f)) w (calls.notRefused (on (loopFrame f)) w .said) (part (calls.notRefused (on (loopFrame f)) w .world .state))
   unfolding calls.notRefused outcome settledBy settled
-  frame-kind = by-clear (deviceClear (w .state) f) frame-taken
+  frame-kind = by-clear (deviceClear (w .state) f) (frame-way o (ways.way (w .state) (w .rx) f))
     where
       o : Outcome
       o = frameTaken (w .state) (w .rx) f
@@ -267,7 +230,7 @@ refused-kind (on (lineByte b)) w n = goesOn refl refl (same _ _ refl)
 refused-kind (on lineBreak) w n = goesOn refl refl (same _ _ refl)
 refused-kind (on key) w n = goesOn refl refl (same _ _ refl)
 refused-kind (on nextLineByte) w n = goesOn refl refl (same _ _ refl)
-refused-kind (on (loopFrame f)) w n = goesOn (same-either (asksStatus (w .state) f)) refl (same _ _ refl)
+refused-kind (on (loopFrame f)) w n = goesOn (same-either (asksStatus (w .state) f) []) refl (same _ _ refl)
 refused-kind (show side) w n = goesOn refl refl (same _ _ refl)
 
 abbrev Did-kind : Call → World → Did → Type 0
