@@ -3,97 +3,66 @@ use Prim.Native.Nat.{ℕ}
 use mathlib.Core.Path.{_≡_, refl, sym, ap, _∙_}
 use mathlib.Core.Bool.{true, false, false≢true}
 use mathlib.Core.List.{List}
-use lib.Dec.{eqb}
 use Rattle.cases.specs.Refusals.{firstRefusal}
-use Rattle.cases.proofs.Cases.{by-cond}
 use Rattle.machine.specs.Machine.{Obeys}
-use Rattle.frame.specs.Frame.{controlOf, isData, dataOf, sameApart}
-use Rattle.role.specs.declared.Ready.{Ready}
-use Rattle.role.specs.declared.Ready.the-variants.{Pass, Address, Data, Status, Finish}
-use Rattle.role.specs.Parts.{isActive, activeStatus}
-use Rattle.role.specs.ReadyFrames.{readyOf}
 use Rattle.sending.specs.declared.Given.{Given}
 use Rattle.sending.specs.declared.Given.the-variants.{Nothing, One}
-use Rattle.sending.specs.Sending.{givenOf, sendHeld}
 use Rattle.state.specs.declared.State.{State}
 use Rattle.state.specs.declared.Outcome.{Outcome}
 use Rattle.state.specs.declared.Out.{Out}
 use Rattle.state.specs.declared.Out.the-variants as out
 use Rattle.state.specs.Answers.{Said, frame, refused, said, isRefusal}
 use Rattle.line.specs.HoldingOff.{nextOut, outAnswer}
-use Rattle.loops.specs.Sending.{ended, ruleOf, removedState, sendState, sendFrom, sendStatus}
-use Rattle.loops.specs.Frames.{command, readied, ready, returned, dataPassed, identify, frameTaken}
+use Rattle.loops.specs.Sending.{ended, sendState, sendFrom, sendStatus}
+use Rattle.loops.specs.Frames.{frameTaken}
 use Rattle.bridge.specs.Calls.{Call, create, show, on, reset, write, lineByte, lineBreak, key, nextLineByte, loopFrame, World, outcome, checks, notRefused, step}
 use Rattle.laws.specs.Bridges.{bridge}
+use Rattle.laws.specs.Observers.{isFrame}
 use Rattle.laws.specs.Answers.{byteOrRefused, frameOrRefused, canAnswer, AnswersSo, Refuses, RefusedExactly}
 use Rattle.laws.proofs.Refusing.{by-refusal}
+use Rattle.laws.proofs.Ways.{Way, isNext, isBack, isLast, isDamaged, isStored, isPassed, isCleared, isObeyed, isAssigned, isSendAsked, isTold, isFinishing, isReady, isIdentified, way}
 
 -- ---- a frame for a frame
 
--- an outcome that gives a frame
-abbrev Gives : Outcome → Type 0
-Gives o = frameOrRefused (said (o .answer)) ≡ true
+-- an answer that is a frame: it is one that a loop frame can have, and no refusal
+record Framed (x : Said) : Type 0 where
+  frame : isFrame x ≡ true
+  answer : frameOrRefused x ≡ true
+  taken : isRefusal x ≡ false
 
--- both: a frame, and no refusal
-record Framed (o : Outcome) : Type 0 where
-  frame : Gives o
-  taken : isRefusal (said (o .answer)) ≡ false
+framed : (k d : ℕ) → Framed (frame k d)
+framed k d = record { frame = refl; answer = refl; taken = refl }
 
-send-frame : (s t : State) (g : Given) → Framed (sendState s t g)
+send-framed : (s t : State) (g : Given) → Framed (said (sendState s t g .answer))
 unfolding sendState ended said
-send-frame s t Nothing = record { frame = refl; taken = refl }
-send-frame s t (One f) = record { frame = refl; taken = refl }
+send-framed s t Nothing = framed _ _
+send-framed s t (One f) = framed _ _
 
-sent-frame : (s : State) (rx : List ℕ) → Framed (sendFrom s rx)
-unfolding sendFrom
-sent-frame s rx = send-frame s (removedState s rx) (givenOf (sendHeld (ruleOf (s .regs)) rx (s .rx)))
+way-framed : (s : State) (rx : List ℕ) (f : ℕ) (o : Outcome) → Way s rx f o → Framed (said (o .answer))
+unfolding sendFrom sendStatus ended said
+way-framed s rx f o (isNext r m k e) = send-framed s _ _
+way-framed s rx f o (isBack r m k) = framed _ _
+way-framed s rx f o (isLast r m k e) = framed _ _
+way-framed s rx f o (isDamaged r m) = framed _ _
+way-framed s rx f o (isStored r l) = framed _ _
+way-framed s rx f o (isPassed r l) = framed _ _
+way-framed s rx f o (isCleared r c) = framed _ _
+way-framed s rx f o (isObeyed r c) = framed _ _
+way-framed s rx f o (isAssigned r a) = framed _ _
+way-framed s rx f o (isSendAsked r a x) = send-framed s _ _
+way-framed s rx f o (isTold r a x y) = framed _ _
+way-framed s rx f o (isFinishing r a x y z) = framed _ _
+way-framed s rx f o (isReady r a x y z) = framed _ _
+way-framed s rx f o (isIdentified r) = framed _ _
 
-ended-frame : (s : State) (d : ℕ) → Framed (ended s d)
-unfolding ended said
-ended-frame s d = record { frame = refl; taken = refl }
+frame-framed : (s : State) (rx : List ℕ) (f : ℕ) → Framed (said (frameTaken s rx f .answer))
+frame-framed s rx f = way-framed s rx f (frameTaken s rx f) (way s rx f)
 
-status-frame : (s : State) → Framed (sendStatus s)
-unfolding sendStatus said
-status-frame s = record { frame = refl; taken = refl }
-
-ready-frame : (s : State) (rx : List ℕ) (f : ℕ) (k : Ready) → Framed (readied s rx f k)
-unfolding readied said
-ready-frame s rx f Address = record { frame = refl; taken = refl }
-ready-frame s rx f Data = sent-frame s rx
-ready-frame s rx f Status = status-frame s
-ready-frame s rx f Finish = record { frame = refl; taken = refl }
-ready-frame s rx f Pass = record { frame = refl; taken = refl }
-
-back-frame : (s : State) (rx : List ℕ) (f : ℕ) → Framed (returned s rx f)
-unfolding returned
-back-frame s rx f =
-    by-cond Framed (sameApart f (s .under .frame)) _ _
-    (λ _. by-cond Framed (eqb (s .role .talker) activeStatus) _ _ (λ _. ended-frame _ 64)
-    (λ _. by-cond Framed (s .under .finishing) _ _ (λ _. ended-frame s 64) (λ _. sent-frame s rx)))
-    (λ _. ended-frame s 65)
-
-taken-frame : (s : State) (rx : List ℕ) (f : ℕ) → Framed (frameTaken s rx f)
-unfolding frameTaken
-taken-frame s rx f =
-    by-cond Framed (isData f) _ _
-    (λ _. by-cond Framed (isActive (s .role)) _ _ (λ _. back-frame s rx f) (λ _. passed))
-    (λ _. by-cond Framed (eqb (controlOf f) 4) _ _ (λ _. commanded)
-    (λ _. by-cond Framed (eqb (controlOf f) 5) _ _ (λ _. readied-so) (λ _. identified)))
-  where
-    passed : Framed (dataPassed s f)
-    passed = unfold dataPassed said in record { frame = refl; taken = refl }
-
-    commanded : Framed (command s f)
-    commanded = unfold command said in record { frame = refl; taken = refl }
-
-    readied-so : Framed (ready s rx f)
-    readied-so = unfold ready in ready-frame s rx f (readyOf (s .role) (dataOf f))
-
-    identified : Framed (identify s f)
-    identified = unfold identify said in record { frame = refl; taken = refl }
+pub frame-answered : (s : State) (rx : List ℕ) (f : ℕ) → isFrame (said (frameTaken s rx f .answer)) ≡ true
+frame-answered s rx f = frame-framed s rx f .frame
 
 pub frame-not-refused : (s : State) (rx : List ℕ) (f : ℕ) → isRefusal (said (frameTaken s rx f .answer)) ≡ false
-frame-not-refused s rx f = taken-frame s rx f .taken
+frame-not-refused s rx f = frame-framed s rx f .taken
 
 -- ---- every call that is accepted
 
@@ -127,8 +96,8 @@ accepted (on nextLineByte) w =
     let o = nextOut (w .state) (w .tx) in
     record { answer = out-said o; taken = out-taken o }
 accepted (on (loopFrame f)) w =
-    let h = taken-frame (w .state) (w .rx) f in
-    record { answer = h .frame; taken = h .taken }
+    let h = frame-framed (w .state) (w .rx) f in
+    record { answer = h .answer; taken = h .taken }
 
 -- every call can answer a refusal but showing, which has no checks
 can-refuse : (c : Call) (w : World) → (firstRefusal (checks c w) ≡ 0 → ⊥) → (n : ℕ) → canAnswer c (refused n) ≡ true

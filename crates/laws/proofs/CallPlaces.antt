@@ -26,7 +26,8 @@ use Rattle.line.specs.HoldingOff.{isGoOrStop, flowed, lostState, storedWith, st
 use Rattle.line.proofs.Parts.{gone-some}
 use Rattle.loops.specs.LoopToLine.{adds, busy, addedBytes}
 use Rattle.loops.specs.Frames.{frameTaken, deviceClear, addsBytes, frameBytes}
-use Rattle.bridge.specs.Calls.{OnState, reset, write, lineByte, lineBreak, key, nextLineByte, loopFrame, Call, create, show, on, World, world, Did, outcome, settledBy, rxAfter, txAfter, notRefused, checks, step}
+use Rattle.bridge.specs.Calls.{reset, write, lineByte, lineBreak, key, nextLineByte, loopFrame, Call, create, show, on}
+use Rattle.bridge.specs.Calls.{World, world, Did, outcome, settledBy, rxAfter, txAfter, notRefused, checks, step}
 use Rattle.state.specs.Answers.{refused, said}
 use Rattle.laws.specs.Fitting.{Fits}
 use Rattle.laws.specs.Places.{nextPlace}
@@ -49,7 +50,9 @@ module _ (w : World) (e : Fits w) where
   g : TxFits (w .state) (w .tx)
   g = tx-fits (w .state) (w .rx) (w .tx) e
 
-  line-rx : (b : ℕ) → Placed false (cond (full (w .state .sizes .rx) (w .state .rx)) [] (cond (not (isGoOrStop (w .state .regs) b)) (b ∷ []) [])) (w .rx) (w .state .rx) (lineBytes (w .state) (w .rx) b) (lineState (w .state) b .rx)
+  line-rx : (b : ℕ) →
+      Placed false (cond (full (w .state .sizes .rx) (w .state .rx)) [] (cond (not (isGoOrStop (w .state .regs) b)) (b ∷ []) []))
+      (w .rx) (w .state .rx) (lineBytes (w .state) (w .rx) b) (lineState (w .state) b .rx)
   unfolding lineBytes lineState flowed lostState storedWith putsBytes putsRing
   line-rx b = go (isGoOrStop (w .state .regs) b) (full (w .state .sizes .rx) (w .state .rx)) refl
     where
@@ -57,7 +60,8 @@ module _ (w : World) (e : Fits w) where
       r = w .state .rx
 
       go : (i u : Bool) → full (w .state .sizes .rx) r ≡ u →
-          Placed false (cond u [] (cond (not i) (b ∷ []) [])) (w .rx) r (cond i (w .rx) (putBytes (w .rx) r b)) (cond i (flowed (w .state) b) (cond u (lostState (w .state)) (storedState (w .state))) .rx)
+          Placed false (cond u [] (cond (not i) (b ∷ []) [])) (w .rx) r (cond i (w .rx) (putBytes (w .rx) r b))
+          (cond i (flowed (w .state) b) (cond u (lostState (w .state)) (storedState (w .state))) .rx)
       go true true h = stays-same (w .rx) r r refl
       go true false h = stays-same (w .rx) r r refl
       go false true h = rw (put-full (w .rx) r b (omega (arith, f .size, leb-true (w .state .sizes .rx) (r .len) h))) (stays-same (w .rx) r r refl)
@@ -122,27 +126,23 @@ abbrev PlacesOf : Call → World → Did → Type 0
 PlacesOf c w d = BothPlaced (empties c w (d .said)) (accepted c w (d .said)) (added c w (d .said)) w (d .world)
 
 -- where nothing arrives, nothing is accepted
-none-accepted : (w : World) (x : Bool) (e : Bool) (v : World) → BothPlaced e [] [] w v → BothPlaced e (cond x [] []) [] w v
-none-accepted w true e v p = p
-none-accepted w false e v p = p
+none : (w : World) {c : Bool} {l : List ℕ} {v : World} → BothPlaced c [] l w v → BothPlaced c (cond (full (w .state .sizes .rx) (w .state .rx)) [] []) l w v
+none w {c} {l} {v} p = by-cond (λ (x : List ℕ). BothPlaced c x l w v) (full (w .state .sizes .rx) (w .state .rx)) [] [] (λ _. p) (λ _. p)
+
+same : (w : World) → BothPlaced false (cond (full (w .state .sizes .rx) (w .state .rx)) [] []) [] w w
+same w = none w (quiet w (w .state) refl refl)
 
 refused-places : (c : Call) (w : World) (n : ℕ) → PlacesOf c w (record { said = refused n; world = w })
 unfolding see.restarts see.clears accepted see.arrived added
-refused-places (create m) w n = none-accepted w (full (w .state .sizes .rx) (w .state .rx)) false w (quiet w (w .state) refl refl)
-refused-places (show side) w n = none-accepted w (full (w .state .sizes .rx) (w .state .rx)) false w (quiet w (w .state) refl refl)
-refused-places (on c) w n = still c
-  where
-    F : Bool
-    F = full (w .state .sizes .rx) (w .state .rx)
-
-    still : (c : OnState) → PlacesOf (on c) w (record { said = refused n; world = w })
-    still reset = none-accepted w F false w (quiet w (w .state) refl refl)
-    still (write k v) = none-accepted w F false w (quiet w (w .state) refl refl)
-    still (lineByte b) = none-accepted w F false w (quiet w (w .state) refl refl)
-    still lineBreak = none-accepted w F false w (quiet w (w .state) refl refl)
-    still key = none-accepted w F false w (quiet w (w .state) refl refl)
-    still nextLineByte = none-accepted w F false w (quiet w (w .state) refl refl)
-    still (loopFrame f) = none-accepted w F false w (quiet w (w .state) refl refl)
+refused-places (create m) w n = same w
+refused-places (show side) w n = same w
+refused-places (on reset) w n = same w
+refused-places (on (write k v)) w n = same w
+refused-places (on (lineByte b)) w n = same w
+refused-places (on lineBreak) w n = same w
+refused-places (on key) w n = same w
+refused-places (on nextLineByte) w n = same w
+refused-places (on (loopFrame f)) w n = same w
 
 -- a listener is no active talker
 stores-same : (w : World) → Fits w → (f : ℕ) → addsBytes (w .state) f ≡ (isData f && w .state .role .listener)
@@ -158,37 +158,27 @@ stores-same w e f = go (isData f) (w .state .role .listener) refl
     go false l e = refl
 
 done-places : (c : Call) (w : World) → firstRefusal (checks c w) ≡ 0 → PlacesOf c w (notRefused c w)
-unfolding notRefused outcome settledBy settled rxAfter txAfter startState breakState keyState afterWrite setAfresh frameBytes see.restarts see.clears accepted see.arrived see.isFlow isGoOrStop added adds said
-done-places c w h = go c h
-  where
-    F : Bool
-    F = full (w .state .sizes .rx) (w .state .rx)
-
-    accept : (x : Bool) {c : Bool} {l : List ℕ} {v : World} → BothPlaced c [] l w v → BothPlaced c (cond x [] []) l w v
-    accept true p = p
-    accept false p = p
-
-    go : (c : Call) → firstRefusal (checks c w) ≡ 0 → PlacesOf c w (notRefused c w)
-    go (create m) h = none-accepted w F true _ (empty w _ refl refl)
-    go (show side) h = none-accepted w F false w (quiet w (w .state) refl refl)
-    go (on reset) h = none-accepted w F true _ (empty w _ refl refl)
-    go (on (write n v)) h =
-        none-accepted w F false _
-        (by-cond (λ (t : State). BothPlaced false [] [] w (world (settled (w .state) t) (w .rx) (w .tx))) (eqb n 11) _ _ (λ _. quiet w _ refl refl) (λ _. quiet w _ refl refl))
-    go (on (lineByte b)) h =
-        let e : Fits w = fitting (lineByte b) w h .0 in
-        record { rx = line-rx w e b; tx = stays-same (w .tx) (w .state .tx) _ (line-tx w e b) }
-    go (on lineBreak) h = none-accepted w F false _ (quiet w _ refl refl)
-    go (on key) h = none-accepted w F false _ (quiet w _ refl refl)
-    go (on nextLineByte) h =
-        let e : Fits w = fitting nextLineByte w h .0 in
-        let o : Out = nextOut (w .state) (w .tx) in
-        none-accepted w F false _ (record { rx = stays-same (w .rx) (w .state .rx) _ (gone-rx w e o); tx = stays (w .tx) (w .state .tx) _ (gone-tx w e o refl) })
-    go (on (loopFrame n)) h =
-        let x = frame-fitting n w h in
-        let t : State = frameTaken (w .state) (w .rx) n .state in
-        rw (frame-not-refused (w .state) (w .rx) n, ← stores-same w (x .0) n)
-        (accept F (by-kind w (x .0) n t (x .1 .1) (frame-kind (w .rx) (w .state) (rx-fits (w .state) (w .rx) (w .tx) (x .0) .ring) n)))
+unfolding notRefused outcome settledBy settled rxAfter txAfter startState breakState keyState frameBytes see.restarts see.clears accepted see.arrived see.isFlow isGoOrStop added adds said
+done-places (create m) w h = none w (empty w _ refl refl)
+done-places (show side) w h = same w
+done-places (on reset) w h = none w (empty w _ refl refl)
+done-places (on (write n v)) w h =
+    unfold afterWrite setAfresh in
+    none w (by-cond (λ (t : State). BothPlaced false [] [] w (world (settled (w .state) t) (w .rx) (w .tx))) (eqb n 11) _ _ (λ _. quiet w _ refl refl) (λ _. quiet w _ refl refl))
+done-places (on (lineByte b)) w h =
+    let e : Fits w = fitting (lineByte b) w h .0 in
+    record { rx = line-rx w e b; tx = stays-same (w .tx) (w .state .tx) _ (line-tx w e b) }
+done-places (on lineBreak) w h = none w (quiet w _ refl refl)
+done-places (on key) w h = none w (quiet w _ refl refl)
+done-places (on nextLineByte) w h =
+    let e : Fits w = fitting nextLineByte w h .0 in
+    let o : Out = nextOut (w .state) (w .tx) in
+    none w (record { rx = stays-same (w .rx) (w .state .rx) _ (gone-rx w e o); tx = stays (w .tx) (w .state .tx) _ (gone-tx w e o refl) })
+done-places (on (loopFrame n)) w h =
+    let x = frame-fitting n w h in
+    let t : State = frameTaken (w .state) (w .rx) n .state in
+    rw (frame-not-refused (w .state) (w .rx) n, ← stores-same w (x .0) n)
+    (none w (by-kind w (x .0) n t (x .1 .1) (frame-kind (w .rx) (w .state) (rx-fits (w .state) (w .rx) (w .tx) (x .0) .ring) n)))
 
 pub places : Obeys (bridge step) Places
 places c w _ = by-refusal (PlacesOf c w) c w (done-places c w) (λ _. refused-places c w _)

@@ -2,23 +2,17 @@
 use Prim.Native.Nat.{ℕ, _≤_, _<_}
 use native.Mathlib.Omega.{arith}
 use mathlib.Core.Path.{_≡_, refl, sym, subst}
-use mathlib.Core.Bool.{Bool, true, false, cond, not}
+use mathlib.Core.Bool.{Bool, true, false, cond, _&&_, not}
 use mathlib.Core.List.{List}
 use lib.Dec.{eqb}
 use lib.ListN.{length}
-use borrow.Author.Tests.{leb-true}
+use borrow.Author.Tests.{eqb-true, leb-true}
 use Rattle.cases.specs.Refusals.{firstRefusal}
-use Rattle.cases.proofs.Cases.{by-cond}
+use Rattle.cases.proofs.Cases.{and-right, by-cond}
 use Rattle.machine.specs.Machine.{Obeys}
-use Rattle.frame.specs.Frame.{made, controlOf, dataOf, isData, sameApart}
+use Rattle.frame.specs.Frame.{made, dataOf}
 use Rattle.registers.specs.Writing.{writeChecks, written}
 use Rattle.registers.proofs.Fits.{fit-written}
-use Rattle.role.specs.declared.Order.{Order}
-use Rattle.role.specs.declared.Ready.{Ready}
-use Rattle.role.specs.declared.Ready.the-variants.{Pass, Address, Data, Status, Finish}
-use Rattle.role.specs.Parts.{activeStatus, isActive}
-use Rattle.role.specs.ReadyFrames.{readyOf}
-use Rattle.role.proofs.ReadyLaws.{Told, told}
 use Rattle.store.specs.declared.Ring.{Ring}
 use Rattle.store.specs.Ring as store-ring
 use Rattle.store.proofs.Laws as store-laws
@@ -39,12 +33,15 @@ use Rattle.line.specs.HoldingOff.{isGoOrStop, flowed, storedWith, storedState, 
 use Rattle.line.proofs.Parts.{gone-some}
 use Rattle.loops.specs.LoopToLine.{adds, addedState, addedBytes}
 use Rattle.loops.specs.Sending.{ruleOf, talking, ended, removedState, sendState, sendFrom, sendStatus}
-use Rattle.loops.specs.Frames.{isClear, orderIn, cleared, obeyed, commandState, command, finishing, readied, ready, returned, dataPassed, identify, frameTaken, deviceClear, addsBytes, frameBytes}
-use Rattle.bridge.specs.Calls.{OnState, reset, write, lineByte, lineBreak, key, nextLineByte, loopFrame, Call, create, show, on, ofFrame, World, Did, outcome, settledBy, rxAfter, txAfter, notRefused, checks, step}
+use Rattle.loops.specs.Frames.{orderIn, finishing, frameTaken, deviceClear, addsBytes, frameBytes}
+use Rattle.bridge.specs.Calls.{OnState, reset, write, lineByte, lineBreak, key, nextLineByte, loopFrame, Call, create, show, on}
+use Rattle.bridge.specs.Calls.{ofFrame, World, Did, outcome, settledBy, rxAfter, txAfter, notRefused, checks, step}
 use Rattle.laws.specs.Bridges.{ByteOn, ByteCall, bridge}
 use Rattle.laws.specs.Fitting.{Fits, SameStores, KeepsFit, CreateMakesFit, KeepsStores}
 use Rattle.laws.proofs.Refusing.{by-refusal, write-fitting}
 use Rattle.store.specs.Bytes.{Bytes}
+use Rattle.laws.proofs.Ways.{Returning, Way, way}
+use Rattle.laws.proofs.Ways.{isNext, isBack, isLast, isDamaged, isStored, isPassed, isCleared, isObeyed, isAssigned, isSendAsked, isTold, isFinishing, isReady, isIdentified}
 use Rattle.laws.proofs.Small.{put-bytes, given-small, status-small}
 use Rattle.laws.proofs.States.{tested, start-fits, with-registers, with-rx, with-tx, talking-tests, obeyed-tests, cleared-tests, assigned-tests}
 
@@ -85,22 +82,44 @@ abbrev Good : List ℕ → List ℕ → State → Type 0
 Good rx tx s = fits s (length rx) (length tx) ≡ true
 
 module _ (rx tx : List ℕ) where
+  abbrev G : State → Type 0
+  G = Good rx tx
+
+  abbrev T : State → Type 0
+  T s = Tests s (length rx) (length tx)
+
+  good : (s : State) → T s → G s
+  good s = tested s (length rx) (length tx)
+
   -- requests, what happened, the line's flags and the counts have no part in fitting: where only these change, `fits` unfolds to the same
-  settled-good : (s q : State) → Good rx tx q → Good rx tx (settled s q)
+  settled-good : (s q : State) → G q → G (settled s q)
   unfolding fits settled
   settled-good s q e = e
 
-  module _ (s : State) (bytes : Bytes rx) (e : fits s (length rx) (length tx) ≡ true) where
-    t : Tests s (length rx) (length tx)
+  -- a talker in another phase
+  talking-good : (q : State) (phase f : ℕ) → G q → 1 ≤ q .role .talker → phase ≤ 3 → f < 1024 → G (talking q phase f)
+  talking-good q phase f e h p k = good _ (talking-tests q (length rx) (length tx) (tests q (length rx) (length tx) e) phase f h p k)
+
+  ended-good : (q : State) (d : ℕ) → G q → 1 ≤ q .role .talker → G (ended q d .state)
+  unfolding ended
+  ended-good q d e h = talking-good q 1 0 e h (omega arith) (omega arith)
+
+  given-good : (p q : State) (d : Given) → G q → 1 ≤ q .role .talker → ((g : ℕ) → d ≡ One g → g < 1024) → G (sendState p q d .state)
+  unfolding sendState
+  given-good p q Nothing e h k = ended-good q 64 e h
+  given-good p q (One g) e h k = unfold fits in talking-good q 2 g e h (omega arith) (k g refl)
+
+  module _ (s : State) (e : G s) where
+    t : T s
     t = tests s (length rx) (length tx) e
 
-    fits-with-rx : (r : Ring) → store-ring.Fit rx r → Good rx tx (withRx s r)
-    fits-with-rx r h = tested (withRx s r) (length rx) (length tx) (with-rx s (length rx) (length tx) t r (store-laws.fit-test rx r h))
+    fits-with-rx : (r : Ring) → store-ring.Fit rx r → G (withRx s r)
+    fits-with-rx r h = good _ (with-rx s (length rx) (length tx) t r (store-laws.fit-test rx r h))
 
-    fits-with-tx : (r : Ring) → store-ring.Fit tx r → Good rx tx (withTx s r)
-    fits-with-tx r h = tested (withTx s r) (length rx) (length tx) (with-tx s (length rx) (length tx) t r (store-laws.fit-test tx r h))
+    fits-with-tx : (r : Ring) → store-ring.Fit tx r → G (withTx s r)
+    fits-with-tx r h = good _ (with-tx s (length rx) (length tx) t r (store-laws.fit-test tx r h))
 
-    stored-good : Good rx tx (storedState s)
+    stored-good : G (storedState s)
     unfolding fits storedWith
     stored-good =
         fits-with-rx (store-ring.putRing (s .sizes .rx) (s .rx))
@@ -112,31 +131,28 @@ module _ (rx tx : List ℕ) where
             let n : length (store-ring.putBytes rx (s .rx) 0) ≡ length rx = store-laws.put-size rx (s .rx) 0 in
             record { oldest = omega (arith, n, h .oldest); len = omega (arith, n, h .len); small = omega (arith, n, h .small) }
 
-    line-good : (x : ℕ) → Good rx tx (lineState s x)
+    line-good : (x : ℕ) → G (lineState s x)
     unfolding lineState
     line-good x =
-        by-cond (Good rx tx) (isGoOrStop (s .regs) x) _ _ (λ _. unfold fits flowed in e)
-        (λ _. by-cond (Good rx tx) (store-ring.full (s .sizes .rx) (s .rx)) _ _ (λ _. unfold fits lostState in e) (λ _. stored-good))
+        by-cond G (isGoOrStop (s .regs) x) _ _ (λ _. unfold fits flowed in e)
+        (λ _. by-cond G (store-ring.full (s .sizes .rx) (s .rx)) _ _ (λ _. unfold fits lostState in e) (λ _. stored-good))
 
-    write-good : (n v : ℕ) → firstRefusal (writeChecks (s .regs) n v) ≡ 0 → Good rx tx (afterWrite s n (written (s .regs) n v))
+    write-good : (n v : ℕ) → firstRefusal (writeChecks (s .regs) n v) ≡ 0 → G (afterWrite s n (written (s .regs) n v))
     unfolding afterWrite
-    write-good n v h = by-cond (Good rx tx) (eqb n 11) _ _ (λ _. unfold fits setAfresh in changed) (λ _. changed)
+    write-good n v h = by-cond G (eqb n 11) _ _ (λ _. unfold fits setAfresh in changed) (λ _. changed)
       where
-        changed : Good rx tx (withRegisters s (written (s .regs) n v))
-        changed = tested (withRegisters s (written (s .regs) n v)) (length rx) (length tx) (with-registers s (length rx) (length tx) t (written (s .regs) n v) (fit-written (s .regs) n v (t .regs) h))
+        changed : G (withRegisters s (written (s .regs) n v))
+        changed = good _ (with-registers s (length rx) (length tx) t (written (s .regs) n v) (fit-written (s .regs) n v (t .regs) h))
 
-    gone-good : (o : Out) → o ≡ nextOut s tx → Good rx tx (goneState s o)
+    gone-good : (o : Out) → o ≡ nextOut s tx → G (goneState s o)
     unfolding goneState
-    gone-good (out.Own x) h = kept
-      where
-        kept : Good rx tx (goneState s (out.Own x))
-        kept = unfold fits goneState in e
+    gone-good (out.Own x) h = unfold fits in e
     gone-good (out.Held x) h =
         fits-with-tx (store-ring.dropRing (s .sizes .tx) (s .tx) 1)
         (subst (λ (n : ℕ). store-ring.Fit tx (store-ring.dropRing n (s .tx) 1)) (sym (t .txSize)) (store-laws.drop-fit tx (s .tx) 1 (tx-fits s rx tx e .ring) (gone-some s tx x h)))
     gone-good out.Nothing h = e
 
-    left-good : (f : ℕ) → Good rx tx (addedState s f)
+    left-good : (f : ℕ) → G (addedState s f)
     unfolding addedState
     left-good f =
         fits-with-tx (store-ring.putsRing (s .sizes .tx) (s .tx) (adds (s .regs) f))
@@ -149,98 +165,46 @@ module _ (rx tx : List ℕ) where
             let n : length (store-ring.putsBytes tx (s .tx) l) ≡ length tx = puts-size tx (s .tx) l in
             record { oldest = omega (arith, n, h .oldest); len = omega (arith, n, h .len); small = omega (arith, n, h .small) }
 
-    command-good : (o : Order) → Good rx tx (commandState s o)
-    unfolding commandState
-    command-good o =
-        let q : Tests (obeyed s o) (length rx) (length tx) = obeyed-tests s (length rx) (length tx) t o in
-        by-cond (Good rx tx) (isClear o) _ _
-        (λ _. tested (cleared (obeyed s o)) (length rx) (length tx) (cleared-tests (obeyed s o) (length rx) (length tx) q))
-        (λ _. tested (obeyed s o) (length rx) (length tx) q)
-
-    removed-good : Good rx tx (removedState s rx)
+    removed-good : G (removedState s rx)
     unfolding removedState sentRing
     removed-good =
         unfold fits resumed in
         (fits-with-rx (sentRing (ruleOf (s .regs)) rx (s .rx)) (store-laws.drop-fit rx (s .rx) _ (rx-fits s rx tx e .ring) (omega arith)))
 
-  -- a talker in another phase
-  talking-good : (q : State) (phase f : ℕ) → Good rx tx q → 1 ≤ q .role .talker → phase ≤ 3 → f < 1024 → Good rx tx (talking q phase f)
-  talking-good q phase f e h p k = tested (talking q phase f) (length rx) (length tx) (talking-tests q (length rx) (length tx) (tests q (length rx) (length tx) e) phase f h p k)
-
-  ended-good : (q : State) (d : ℕ) → Good rx tx q → 1 ≤ q .role .talker → Good rx tx (ended q d .state)
-  unfolding ended
-  ended-good q d e h = talking-good q 1 0 e h (omega arith) (omega arith)
-
-  counted-good : (q : State) (f : ℕ) (d : Given) (p : State) → Good rx tx q → 1 ≤ q .role .talker → ((g : ℕ) → d ≡ One g → g < 1024) → Good rx tx (sendState p q d .state)
-  unfolding sendState
-  counted-good q f Nothing p e h k = ended-good q 64 e h
-  counted-good q f (One g) p e h k = more
-    where
-      more : Good rx tx (sendState p q (One g) .state)
-      more = unfold fits sendState in talking-good q 2 g e h (omega arith) (k g refl)
-
-  module _ (s : State) (bytes : Bytes rx) (e : fits s (length rx) (length tx) ≡ true) where
-    send-good : 1 ≤ s .role .talker → Good rx tx (sendFrom s rx .state)
+    send-good : Bytes rx → 1 ≤ s .role .talker → G (sendFrom s rx .state)
     unfolding sendFrom
-    send-good h =
-        counted-good (removedState s rx) 0 (givenOf (sendHeld (ruleOf (s .regs)) rx (s .rx))) s (removed-good s bytes e) talker
-        (λ g k. given-small (ruleOf (s .regs)) rx (s .rx) g (rx-fits s rx tx e .ring) bytes k)
-      where
-        talker : 1 ≤ removedState s rx .role .talker
-        talker = unfold removedState resumed in h
+    send-good b h =
+        given-good s (removedState s rx) (givenOf (sendHeld (ruleOf (s .regs)) rx (s .rx))) removed-good (unfold removedState resumed in h)
+        (λ g k. given-small (ruleOf (s .regs)) rx (s .rx) g (rx-fits s rx tx e .ring) b k)
 
-    status-good : 1 ≤ s .role .talker → Good rx tx (sendStatus s .state)
+    status-good : 1 ≤ s .role .talker → G (sendStatus s .state)
     unfolding sendStatus statusOf
-    status-good h = talking-good (afterStatus s) 3 (made 0 (statusOf s)) (unfold fits afterStatus in e) talker (omega arith) (omega (arith, status-small (conditions s) (shows s)))
-      where
-        talker : 1 ≤ afterStatus s .role .talker
-        talker = unfold afterStatus in h
+    status-good h =
+        talking-good (afterStatus s) 3 (made 0 (statusOf s)) (unfold fits afterStatus in e) (unfold afterStatus in h) (omega arith)
+        (omega (arith, status-small (conditions s) (shows s)))
 
-    ready-good : (f : ℕ) → Good rx tx (ready s rx f .state)
-    unfolding ready
-    ready-good f = go (readyOf (s .role) (dataOf f)) (told (s .role) (dataOf f))
-      where
-        go : (k : Ready) → Told (s .role) (dataOf f) k → Good rx tx (readied s rx f k .state)
-        go Address h = unfold readied in tested _ (length rx) (length tx) (assigned-tests s (length rx) (length tx) (tests s (length rx) (length tx) e) (dataOf f))
-        go Data h = unfold readied in send-good (omega (arith, h .phase))
-        go Status h = unfold readied in status-good (omega (arith, h .phase))
-        go Finish h = unfold fits readied finishing in e
-        go Pass h = unfold readied in e
+    -- an active talker, and one that is asked to send
+    active : (f : ℕ) → Returning s f → 1 ≤ s .role .talker
+    active f r = omega (arith, leb-true 2 (s .role .talker) (r .active))
 
-    returned-good : (f : ℕ) → 2 ≤ s .role .talker → Good rx tx (returned s rx f .state)
-    unfolding returned
-    returned-good f h =
-        by-cond G (sameApart f (s .under .frame)) _ _
-        (λ _. by-cond G (eqb (s .role .talker) activeStatus) _ _ (λ _. ended-good (afterStatusBack s (dataOf (s .under .frame))) 64 (unfold fits afterStatusBack in e) talker)
-        (λ _. by-cond G (s .under .finishing) _ _ (λ _. ended-good s 64 e (omega arith)) (λ _. send-good (omega arith))))
-        (λ _. ended-good s 65 e (omega arith))
-      where
-        G : Outcome → Type 0
-        G o = Good rx tx (o .state)
+    asked : (d : Bool) → (d && eqb (s .role .talker) 1) ≡ true → 1 ≤ s .role .talker
+    asked d x = omega (arith, eqb-true (s .role .talker) 1 (and-right d (eqb (s .role .talker) 1) x))
 
-        talker : 1 ≤ afterStatusBack s (dataOf (s .under .frame)) .role .talker
-        talker = unfold afterStatusBack in omega arith
-
-    passed-good : (f : ℕ) → Good rx tx (dataPassed s f .state)
-    unfolding dataPassed
-    passed-good f = by-cond (Good rx tx) (s .role .listener) _ _ (λ _. left-good s bytes e f) (λ _. e)
-
-    frame-good : (f : ℕ) → Good rx tx (frameTaken s rx f .state)
-    unfolding frameTaken
-    frame-good f =
-        by-cond G (isData f) _ _
-        (λ _. by-cond G (isActive (s .role)) _ _ (λ h. returned-good f (leb-true 2 (s .role .talker) h)) (λ _. passed-good f))
-        (λ _. by-cond G (eqb (controlOf f) 4) _ _ (λ _. commanded)
-        (λ _. by-cond G (eqb (controlOf f) 5) _ _ (λ _. ready-good f) (λ _. identified)))
-      where
-        G : Outcome → Type 0
-        G o = Good rx tx (o .state)
-
-        commanded : Good rx tx (command s f .state)
-        commanded = unfold command in command-good s bytes e (orderIn s f)
-
-        identified : Good rx tx (identify s f .state)
-        identified = unfold identify in e
+    way-good : Bytes rx → (f : ℕ) (o : Outcome) → Way s rx f o → G (o .state)
+    way-good b f o (isNext r m k n) = send-good b (active f r)
+    way-good b f o (isBack r m k) = ended-good (afterStatusBack s (dataOf (s .under .frame))) 64 (unfold fits afterStatusBack in e) (unfold afterStatusBack in active f r)
+    way-good b f o (isLast r m k n) = ended-good s 64 e (active f r)
+    way-good b f o (isDamaged r m) = ended-good s 65 e (active f r)
+    way-good b f o (isStored r l) = left-good f
+    way-good b f o (isPassed r l) = e
+    way-good b f o (isCleared r c) = good _ (cleared-tests _ (length rx) (length tx) (obeyed-tests s (length rx) (length tx) t (orderIn s f)))
+    way-good b f o (isObeyed r c) = good _ (obeyed-tests s (length rx) (length tx) t (orderIn s f))
+    way-good b f o (isAssigned r a) = good _ (assigned-tests s (length rx) (length tx) t (dataOf f))
+    way-good b f o (isSendAsked r a x) = send-good b (asked (eqb (dataOf f) 96) x)
+    way-good b f o (isTold r a x y) = status-good (asked (eqb (dataOf f) 97) y)
+    way-good b f o (isFinishing r a x y z) = unfold fits finishing in e
+    way-good b f o (isReady r a x y z) = e
+    way-good b f o (isIdentified r) = e
 
 -- ---- every call
 
@@ -257,12 +221,12 @@ module _ (w : World) (b : Bytes (w .rx)) (e : Fits w) where
   outcome-good : (c : OnState) → firstRefusal (checks (on c) w) ≡ 0 → Good (w .rx) (w .tx) (outcome c w .state)
   unfolding outcome
   outcome-good reset h = start-fits (w .state .sizes .margin) (length (w .rx)) (length (w .tx)) (tests (w .state) (length (w .rx)) (length (w .tx)) e .sizes)
-  outcome-good (write n v) h = write-good (w .rx) (w .tx) (w .state) b e n v (write-fitting n v w h .1)
-  outcome-good (lineByte x) h = line-good (w .rx) (w .tx) (w .state) b e x
+  outcome-good (write n v) h = write-good (w .rx) (w .tx) (w .state) e n v (write-fitting n v w h .1)
+  outcome-good (lineByte x) h = line-good (w .rx) (w .tx) (w .state) e x
   outcome-good lineBreak h = unfold fits breakState in e
   outcome-good key h = unfold fits keyState in e
-  outcome-good nextLineByte h = gone-good (w .rx) (w .tx) (w .state) b e (nextOut (w .state) (w .tx)) refl
-  outcome-good (loopFrame f) h = frame-good (w .rx) (w .tx) (w .state) b e f
+  outcome-good nextLineByte h = gone-good (w .rx) (w .tx) (w .state) e (nextOut (w .state) (w .tx)) refl
+  outcome-good (loopFrame f) h = way-good (w .rx) (w .tx) (w .state) e b f (frameTaken (w .state) (w .rx) f) (way (w .state) (w .rx) f)
 
   -- requests are settled or not, and the stores keep their lengths
   pub state-good : (c : OnState) → firstRefusal (checks (on c) w) ≡ 0 → Fits (notRefused (on c) w .world)

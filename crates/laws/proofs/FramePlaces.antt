@@ -2,18 +2,12 @@
 use Prim.Native.Nat.{ℕ}
 use native.Mathlib.Omega.{arith}
 use mathlib.Core.Path.{_≡_, refl, sym, _∙_}
-use mathlib.Core.Bool.{Bool, true, false, cond, _&&_}
+use mathlib.Core.Bool.{true, false, _&&_}
 use mathlib.Core.List.{List}
 use lib.Dec.{eqb}
 use lib.ListN.{length}
 use borrow.Author.Tests.{ltb-true, ne-eqb}
-use Rattle.cases.proofs.Cases.{by-cond}
-use Rattle.frame.specs.Frame.{controlOf, dataOf, isData, sameApart}
-use Rattle.role.specs.declared.Order.{Order}
-use Rattle.role.specs.declared.Ready.{Ready}
-use Rattle.role.specs.declared.Ready.the-variants.{Pass, Address, Data, Status, Finish}
-use Rattle.role.specs.Parts.{activeStatus, isActive}
-use Rattle.role.specs.ReadyFrames.{readyOf}
+use Rattle.frame.specs.Frame.{controlOf, dataOf, isData}
 use Rattle.store.specs.Ring.{Fit, emptyRing, putsRing}
 use Rattle.sending.specs.declared.Given.{Given}
 use Rattle.sending.specs.declared.Given.the-variants.{Nothing, One}
@@ -24,10 +18,12 @@ use Rattle.state.specs.Status.{afterStatus, afterStatusBack}
 use Rattle.line.specs.HoldingOff.{resumed}
 use Rattle.loops.specs.LoopToLine.{adds, addedState}
 use Rattle.loops.specs.Sending.{ruleOf, talking, ended, removedState, sendState, sendFrom, sendStatus}
-use Rattle.loops.specs.Frames.{isClear, orderIn, cleared, obeyed, commandState, command, finishing, readied, ready, returned, dataPassed, identify, frameTaken, deviceClear, addsBytes}
+use Rattle.loops.specs.Frames.{isClear, orderIn, cleared, obeyed, finishing, frameTaken, deviceClear, addsBytes}
 use Rattle.loops.proofs.Clears.{clear-order}
 use Rattle.laws.specs.Places.{nextPlace}
 use Rattle.laws.proofs.OneStore.{left}
+use Rattle.laws.proofs.Ways.{Returning, Readying, Way, way}
+use Rattle.laws.proofs.Ways.{isNext, isBack, isLast, isDamaged, isStored, isPassed, isCleared, isObeyed, isAssigned, isSendAsked, isTold, isFinishing, isReady, isIdentified}
 
 -- nothing is added: the receive store's next place and the transmit store's ring stay
 pub record Still (n : ℕ) (s t : State) : Type 0 where
@@ -42,83 +38,57 @@ pub data Kind (n : ℕ) (s : State) (f : ℕ) (t : State) : Type 0 where
   other : deviceClear s f ≡ false → addsBytes s f ≡ false → Still n s t → Kind n s f t
 
 module _ (rx : List ℕ) (s : State) (fit : Fit rx (s .rx)) where
-  abbrev S : Outcome → Type 0
-  S o = Still (length rx) s (o .state)
+  abbrev S : State → Type 0
+  S = Still (length rx) s
 
-  send-still : S (sendFrom s rx)
-  unfolding sendFrom
+  send-still : S (sendFrom s rx .state)
+  unfolding sendFrom removedState resumed sentRing
   send-still = go (givenOf (sendHeld (ruleOf (s .regs)) rx (s .rx)))
     where
       removed : nextPlace (length rx) (removedState s rx .rx) ≡ nextPlace (length rx) (s .rx)
-      removed = unfold removedState resumed sentRing in left rx (s .rx) _ (length rx) fit refl (omega arith)
+      removed = left rx (s .rx) _ (length rx) fit refl (omega arith)
 
-      kept : removedState s rx .tx ≡ s .tx
-      kept = unfold removedState resumed in refl
+      go : (g : Given) → S (sendState s (removedState s rx) g .state)
+      go Nothing = unfold sendState ended talking in record { place = removed; ring = refl }
+      go (One g) = unfold sendState talking in record { place = removed; ring = refl }
 
-      go : (g : Given) → S (sendState s (removedState s rx) g)
-      go Nothing = unfold sendState ended talking in record { place = removed; ring = kept }
-      go (One g) = unfold sendState talking in record { place = removed; ring = kept }
+  module _ (f : ℕ) where
+    abbrev K : State → Type 0
+    K = Kind (length rx) s f
 
-  ended-still : (d : ℕ) → S (ended s d)
-  unfolding ended talking
-  ended-still d = record { place = refl; ring = refl }
+    -- a data frame is no command
+    no-clear : isData f ≡ true → deviceClear s f ≡ false
+    unfolding deviceClear
+    no-clear d = rw (ne-eqb (controlOf f) 4 (λ h. omega (arith, ltb-true (controlOf f) 4 d)))
 
-  back-still : (d : ℕ) → S (ended (afterStatusBack s d) 64)
-  unfolding ended talking afterStatusBack
-  back-still d = record { place = refl; ring = refl }
+    clear-same : eqb (controlOf f) 4 ≡ true → deviceClear s f ≡ isClear (orderIn s f)
+    unfolding deviceClear
+    clear-same e = λ i. e i && sym (clear-order (s .role) (dataOf f)) i
 
-  returned-still : (f : ℕ) → S (returned s rx f)
-  unfolding returned
-  returned-still f =
-      by-cond S (sameApart f (s .under .frame)) _ _
-      (λ _. by-cond S (eqb (s .role .talker) activeStatus) _ _ (λ _. back-still _)
-      (λ _. by-cond S (s .under .finishing) _ _ (λ _. ended-still 64) (λ _. send-still)))
-      (λ _. ended-still 65)
+    return-kind : (t : State) → Returning s f → S t → K t
+    unfolding addsBytes
+    return-kind t r k = other (no-clear (r .isdata)) (rw (r .isdata, r .active)) k
 
-  readied-still : (f : ℕ) (k : Ready) → S (readied s rx f k)
-  unfolding readied sendStatus talking afterStatus finishing
-  readied-still f Address = record { place = refl; ring = refl }
-  readied-still f Data = send-still
-  readied-still f Status = record { place = refl; ring = refl }
-  readied-still f Finish = record { place = refl; ring = refl }
-  readied-still f Pass = record { place = refl; ring = refl }
+    ready-kind : (t : State) → Readying f → S t → K t
+    unfolding addsBytes deviceClear
+    ready-kind t r k = other (rw (r .four)) (rw (r .isdata)) k
 
-  -- a data frame is no command
-  no-clear : (f : ℕ) → isData f ≡ true → deviceClear s f ≡ false
-  unfolding deviceClear
-  no-clear f e = rw (ne-eqb (controlOf f) 4 (λ h. omega (arith, ltb-true (controlOf f) 4 e)))
+    way-kind : (o : Outcome) → Way s rx f o → K (o .state)
+    unfolding sendStatus ended talking afterStatus afterStatusBack addedState cleared obeyed finishing addsBytes deviceClear
+    way-kind o (isNext r m k e) = return-kind _ r send-still
+    way-kind o (isBack r m k) = return-kind _ r (record { place = refl; ring = refl })
+    way-kind o (isLast r m k e) = return-kind _ r (record { place = refl; ring = refl })
+    way-kind o (isDamaged r m) = return-kind _ r (record { place = refl; ring = refl })
+    way-kind o (isStored r l) = stores (no-clear (r .isdata)) (rw (r .isdata, r .idle, l)) (r .isdata) l refl refl
+    way-kind o (isPassed r l) = other (no-clear (r .isdata)) (rw (r .isdata, r .idle, l)) (record { place = refl; ring = refl })
+    way-kind o (isCleared r c) = clears (clear-same (r .four) ∙ c) (rw (r .isdata)) refl refl
+    way-kind o (isObeyed r c) = other (clear-same (r .four) ∙ c) (rw (r .isdata)) (record { place = refl; ring = refl })
+    way-kind o (isAssigned r a) = ready-kind _ r (record { place = refl; ring = refl })
+    way-kind o (isSendAsked r a x) = ready-kind _ r send-still
+    way-kind o (isTold r a x y) = ready-kind _ r (record { place = refl; ring = refl })
+    way-kind o (isFinishing r a x y z) = ready-kind _ r (record { place = refl; ring = refl })
+    way-kind o (isReady r a x y z) = ready-kind _ r (record { place = refl; ring = refl })
+    way-kind o (isIdentified r) = other (rw (r .four)) (rw (r .isdata)) (record { place = refl; ring = refl })
 
-  command-kind : (f : ℕ) → isData f ≡ false → eqb (controlOf f) 4 ≡ true → Kind (length rx) s f (command s f .state)
-  unfolding command commandState deviceClear addsBytes
-  command-kind f d e = go (isClear (orderIn s f)) refl
-    where
-      o : Order
-      o = orderIn s f
-
-      same : deviceClear s f ≡ isClear o
-      same = λ i. e i && sym (clear-order (s .role) (dataOf f)) i
-
-      go : (t : Bool) → isClear o ≡ t → Kind (length rx) s f (cond (isClear o) (cleared (obeyed s o)) (obeyed s o))
-      go true h = unfold cleared in clears (same ∙ h) (rw d) (rw h) (rw h)
-      go false h = unfold obeyed in other (same ∙ h) (rw d) (record { place = rw h; ring = rw h })
-
-  passed-kind : (f : ℕ) → isData f ≡ true → isActive (s .role) ≡ false → Kind (length rx) s f (dataPassed s f .state)
-  unfolding dataPassed addsBytes addedState
-  passed-kind f d a = go (s .role .listener) refl
-    where
-      go : (t : Bool) → s .role .listener ≡ t → Kind (length rx) s f (cond t (addedState s f) s)
-      go true h = stores (no-clear f d) (rw (d, a, h)) d h refl refl
-      go false h = other (no-clear f d) (rw (d, a, h)) (record { place = refl; ring = refl })
-
-  pub frame-kind : (f : ℕ) → Kind (length rx) s f (frameTaken s rx f .state)
-  unfolding frameTaken ready identify addsBytes deviceClear
-  frame-kind f =
-      by-cond K (isData f) _ _
-      (λ d. by-cond K (isActive (s .role)) _ _ (λ a. other (no-clear f d) (rw (d, a)) (returned-still f)) (λ a. passed-kind f d a))
-      (λ d. by-cond K (eqb (controlOf f) 4) _ _ (λ e. command-kind f d e)
-      (λ e. by-cond K (eqb (controlOf f) 5) _ _
-      (λ _. other (rw e) (rw d) (readied-still f (readyOf (s .role) (dataOf f))))
-      (λ _. other (rw e) (rw d) (record { place = refl; ring = refl }))))
-    where
-      K : Outcome → Type 0
-      K o = Kind (length rx) s f (o .state)
+    pub frame-kind : K (frameTaken s rx f .state)
+    frame-kind = way-kind (frameTaken s rx f) (way s rx f)

@@ -1,5 +1,5 @@
--- `Refusing` tells what is refused from what is done, `Small` bounds the frames that are sent, `States` has each change of a state that fits, `OneStore` and `FramePlaces` serve `CallPlaces`;
--- the others prove the specs of their names.
+-- `Refusing` tells what is refused from what is done, `Ways` has every way out of a frame, `Small` bounds the frames that are sent, `States` has
+-- each change of a state that fits, `OneStore` and `FramePlaces` serve `CallPlaces`; the others prove the specs of their names.
 pub mod Refusing
 pub mod Ways
 pub mod Small

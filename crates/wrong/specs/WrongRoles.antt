@@ -58,4 +58,3 @@ readdressed = turning (λ c before after. onFrame (λ f. cond (offersAddress f) 
 -- becomes remote at its listen address though that is not enabled
 abbrev pub remoteUnasked : Call → World → Did
 remoteUnasked = turning (λ c before after. cond (isCommand (32 + before .address) c) (withRemote after true) after)
-
