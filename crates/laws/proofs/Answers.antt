@@ -15,12 +15,14 @@ use Rattle.state.specs.Answers.{Said, frame, refused, said, isRefusal}
 use Rattle.line.specs.HoldingOff.{nextOut, outAnswer}
 use Rattle.loops.specs.Sending.{ended, sendState, sendFrom, sendStatus}
 use Rattle.loops.specs.Frames.{frameTaken}
-use Rattle.bridge.specs.Calls.{Call, create, show, on, reset, write, lineByte, lineBreak, key, nextLineByte, loopFrame, World, outcome, checks, notRefused, step}
+use Rattle.bridge.specs.Calls.{Call, create, show, on, reset, write, lineByte, lineBreak}
+use Rattle.bridge.specs.Calls.{key, nextLineByte, loopFrame, World, outcome, checks, notRefused, step}
 use Rattle.laws.specs.Bridges.{bridge}
 use Rattle.laws.specs.Observers.{isFrame}
 use Rattle.laws.specs.Answers.{byteOrRefused, frameOrRefused, canAnswer, AnswersSo, Refuses, RefusedExactly}
 use Rattle.laws.proofs.Refusing.{by-refusal}
-use Rattle.laws.proofs.Ways.{Way, isNext, isBack, isLast, isDamaged, isStored, isPassed, isCleared, isObeyed, isAssigned, isSendAsked, isTold, isFinishing, isReady, isIdentified, way}
+use Rattle.laws.proofs.Ways.{Way, isNext, isBack, isLast, isDamaged, isStored, isPassed, isCleared}
+use Rattle.laws.proofs.Ways.{isObeyed, isAssigned, isSendAsked, isTold, isFinishing, isReady, isIdentified, way}
 
 -- ---- a frame for a frame
 

@@ -65,11 +65,13 @@ module _ (w : World) (e : Fits w) where
       go true true h = stays-same (w .rx) r r refl
       go true false h = stays-same (w .rx) r r refl
       go false true h = rw (put-full (w .rx) r b (omega (arith, f .size, leb-true (w .state .sizes .rx) (r .len) h))) (stays-same (w .rx) r r refl)
-      go false false h = one-store.added (w .rx) r (b ∷ []) (w .state .sizes .rx) (f .ring) (f .size) (omega (arith, f .size, leb-false (w .state .sizes .rx) (r .len) h))
+      go false false h =
+          one-store.added (w .rx) r (b ∷ []) (w .state .sizes .rx) (f .ring) (f .size) (omega (arith, f .size, leb-false (w .state .sizes .rx) (r .len) h))
 
   line-tx : (b : ℕ) → lineState (w .state) b .tx ≡ w .state .tx
   unfolding lineState flowed lostState storedWith
-  line-tx b = by-cond T (isGoOrStop (w .state .regs) b) _ _ (λ _. refl) (λ _. by-cond T (full (w .state .sizes .rx) (w .state .rx)) _ _ (λ _. refl) (λ _. refl))
+  line-tx b = by-cond T (isGoOrStop (w .state .regs) b) _ _ (λ _. refl)
+      (λ _. by-cond T (full (w .state .sizes .rx) (w .state .rx)) _ _ (λ _. refl) (λ _. refl))
     where
       T : State → Type 0
       T t = t .tx ≡ w .state .tx
@@ -90,7 +92,8 @@ module _ (w : World) (e : Fits w) where
 
   -- ---- a frame
 
-  room : (n : ℕ) → isData n ≡ true → w .state .role .listener ≡ true → busy (w .state) n ≡ false → w .state .tx .len + length (adds (w .state .regs) n) ≤ length (w .tx)
+  room : (n : ℕ) → isData n ≡ true → w .state .role .listener ≡ true → busy (w .state) n ≡ false →
+      w .state .tx .len + length (adds (w .state .regs) n) ≤ length (w .tx)
   unfolding busy
   room n d l b =
       let r : ltb (w .state .sizes .tx - w .state .tx .len) (length (adds (w .state .regs) n)) ≡ false =
@@ -99,9 +102,12 @@ module _ (w : World) (e : Fits w) where
 
   -- by whether the frame is a device clear, and whether it leaves bytes
   abbrev Framed : ℕ → State → Bool → Bool → Type 0
-  Framed n t c l = BothPlaced c [] (cond l (adds (w .state .regs) n) []) w (world (cond c t (settled (w .state) t)) (w .rx) (cond l (addedBytes (w .state) (w .tx) n) (w .tx)))
+  Framed n t c l =
+      BothPlaced c [] (cond l (adds (w .state .regs) n) []) w
+      (world (cond c t (settled (w .state) t)) (w .rx) (cond l (addedBytes (w .state) (w .tx) n) (w .tx)))
 
-  by-kind : (n : ℕ) (t : State) → busy (w .state) n ≡ false → Kind (length (w .rx)) (w .state) n t → Framed n t (deviceClear (w .state) n) (addsBytes (w .state) n)
+  by-kind : (n : ℕ) (t : State) → busy (w .state) n ≡ false → Kind (length (w .rx)) (w .state) n t →
+      Framed n t (deviceClear (w .state) n) (addsBytes (w .state) n)
   unfolding settled addedBytes
   by-kind n t b (clears c l x y) = rw (c, l) (record { rx = emptied (w .rx) (w .state .rx) (t .rx) x; tx = emptied (w .tx) (w .state .tx) (t .tx) y })
   by-kind n t b (stores c l d h x y) =
@@ -150,7 +156,8 @@ unfolding addsBytes
 stores-same w e f = go (isData f) (w .state .role .listener) refl
   where
     idle : w .state .role .listener ≡ true → isActive (w .state .role) ≡ false
-    idle l = lt-leb 2 (w .state .role .talker) (omega (arith, role-laws.fit-true (w .state .role) (tests (w .state) (length (w .rx)) (length (w .tx)) e .role) .apart l))
+    idle l = lt-leb 2 (w .state .role .talker)
+        (omega (arith, role-laws.fit-true (w .state .role) (tests (w .state) (length (w .rx)) (length (w .tx)) e .role) .apart l))
 
     go : (d l : Bool) → w .state .role .listener ≡ l → ((d && not (isActive (w .state .role))) && l) ≡ (d && l)
     go true true e = λ i. not (idle e i) && true
@@ -164,7 +171,8 @@ done-places (show side) w h = same w
 done-places (on reset) w h = none w (empty w _ refl refl)
 done-places (on (write n v)) w h =
     unfold afterWrite setAfresh in
-    none w (by-cond (λ (t : State). BothPlaced false [] [] w (world (settled (w .state) t) (w .rx) (w .tx))) (eqb n 11) _ _ (λ _. quiet w _ refl refl) (λ _. quiet w _ refl refl))
+    none w (by-cond (λ (t : State). BothPlaced false [] [] w (world (settled (w .state) t) (w .rx) (w .tx))) (eqb n 11) _ _ (λ _. quiet w _ refl refl)
+    (λ _. quiet w _ refl refl))
 done-places (on (lineByte b)) w h =
     let e : Fits w = fitting (lineByte b) w h .0 in
     record { rx = line-rx w e b; tx = stays-same (w .tx) (w .state .tx) _ (line-tx w e b) }

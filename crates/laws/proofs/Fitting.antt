@@ -29,7 +29,8 @@ use Rattle.state.specs.State.{withRegisters, withRx, withTx}
 use Rattle.state.specs.Sizes.{sizesObeyed, fits}
 use Rattle.state.specs.Status.{settled, conditions, shows, statusOf, afterStatus, afterStatusBack, breakState, keyState}
 use Rattle.state.proofs.Fits.{Tests, tests, rx-fits, tx-fits}
-use Rattle.line.specs.HoldingOff.{isGoOrStop, flowed, storedWith, storedState, lostState, lineState, lineBytes, resumed, setAfresh, afterWrite, nextOut, goneState}
+use Rattle.line.specs.HoldingOff.{isGoOrStop, flowed, storedWith, storedState, lostState, lineState}
+use Rattle.line.specs.HoldingOff.{lineBytes, resumed, setAfresh, afterWrite, nextOut, goneState}
 use Rattle.line.proofs.Parts.{gone-some}
 use Rattle.loops.specs.LoopToLine.{adds, addedState, addedBytes}
 use Rattle.loops.specs.Sending.{ruleOf, talking, ended, removedState, sendState, sendFrom, sendStatus}
@@ -41,7 +42,8 @@ use Rattle.laws.specs.Fitting.{Fits, SameStores, KeepsFit, CreateMakesFi
 use Rattle.laws.proofs.Refusing.{by-refusal, write-fitting}
 use Rattle.store.specs.Bytes.{Bytes}
 use Rattle.laws.proofs.Ways.{Returning, Way, way}
-use Rattle.laws.proofs.Ways.{isNext, isBack, isLast, isDamaged, isStored, isPassed, isCleared, isObeyed, isAssigned, isSendAsked, isTold, isFinishing, isReady, isIdentified}
+use Rattle.laws.proofs.Ways.{isNext, isBack, isLast, isDamaged, isStored, isPassed, isCleared}
+use Rattle.laws.proofs.Ways.{isObeyed, isAssigned, isSendAsked, isTold, isFinishing, isReady, isIdentified}
 use Rattle.laws.proofs.Small.{put-bytes, given-small, status-small}
 use Rattle.laws.proofs.States.{tested, start-fits, with-registers, with-rx, with-tx, talking-tests, obeyed-tests, cleared-tests, assigned-tests}
 
@@ -127,7 +129,8 @@ module _ (rx tx : List ℕ) where
       where
         put-ring : store-ring.Fit rx (store-ring.putRing (length rx) (s .rx))
         put-ring =
-            let h : store-ring.Fit (store-ring.putBytes rx (s .rx) 0) (store-ring.putRing (length rx) (s .rx)) = store-laws.put-fit rx (s .rx) 0 (rx-fits s rx tx e .ring) in
+            let h : store-ring.Fit (store-ring.putBytes rx (s .rx) 0) (store-ring.putRing (length rx) (s .rx)) =
+            store-laws.put-fit rx (s .rx) 0 (rx-fits s rx tx e .ring) in
             let n : length (store-ring.putBytes rx (s .rx) 0) ≡ length rx = store-laws.put-size rx (s .rx) 0 in
             record { oldest = omega (arith, n, h .oldest); len = omega (arith, n, h .len); small = omega (arith, n, h .small) }
 
@@ -149,7 +152,8 @@ module _ (rx tx : List ℕ) where
     gone-good (out.Own x) h = unfold fits in e
     gone-good (out.Held x) h =
         fits-with-tx (store-ring.dropRing (s .sizes .tx) (s .tx) 1)
-        (subst (λ (n : ℕ). store-ring.Fit tx (store-ring.dropRing n (s .tx) 1)) (sym (t .txSize)) (store-laws.drop-fit tx (s .tx) 1 (tx-fits s rx tx e .ring) (gone-some s tx x h)))
+        (subst (λ (n : ℕ). store-ring.Fit tx (store-ring.dropRing n (s .tx) 1)) (sym (t .txSize))
+        (store-laws.drop-fit tx (s .tx) 1 (tx-fits s rx tx e .ring) (gone-some s tx x h)))
     gone-good out.Nothing h = e
 
     left-good : (f : ℕ) → G (addedState s f)
@@ -161,7 +165,8 @@ module _ (rx tx : List ℕ) where
         puts-ring : store-ring.Fit tx (store-ring.putsRing (length tx) (s .tx) (adds (s .regs) f))
         puts-ring =
             let l : List ℕ = adds (s .regs) f in
-            let h : store-ring.Fit (store-ring.putsBytes tx (s .tx) l) (store-ring.putsRing (length tx) (s .tx) l) = puts-fit tx (s .tx) l (tx-fits s rx tx e .ring) in
+            let h : store-ring.Fit (store-ring.putsBytes tx (s .tx) l) (store-ring.putsRing (length tx) (s .tx) l) =
+            puts-fit tx (s .tx) l (tx-fits s rx tx e .ring) in
             let n : length (store-ring.putsBytes tx (s .tx) l) ≡ length tx = puts-size tx (s .tx) l in
             record { oldest = omega (arith, n, h .oldest); len = omega (arith, n, h .len); small = omega (arith, n, h .small) }
 
@@ -192,7 +197,8 @@ module _ (rx tx : List ℕ) where
 
     way-good : Bytes rx → (f : ℕ) (o : Outcome) → Way s rx f o → G (o .state)
     way-good b f o (isNext r m k n) = send-good b (active f r)
-    way-good b f o (isBack r m k) = ended-good (afterStatusBack s (dataOf (s .under .frame))) 64 (unfold fits afterStatusBack in e) (unfold afterStatusBack in active f r)
+    way-good b f o (isBack r m k) =
+        ended-good (afterStatusBack s (dataOf (s .under .frame))) 64 (unfold fits afterStatusBack in e) (unfold afterStatusBack in active f r)
     way-good b f o (isLast r m k n) = ended-good s 64 e (active f r)
     way-good b f o (isDamaged r m) = ended-good s 65 e (active f r)
     way-good b f o (isStored r l) = left-good f
@@ -246,7 +252,8 @@ keeps-fit c w b e = by-refusal (λ (d : Did). Fits (d .world)) c w (go c) (λ _.
 
 pub create-fits-so : (m : ℕ) (w : World) → step (create m) w .said ≡ done → Fits (step (create m) w .world)
 create-fits-so m w =
-    by-refusal (λ (d : Did). d .said ≡ done → Fits (d .world)) (create m) w (λ h _. create-good m w h) (λ _ z. let y : _≡_ {A = ℕ} 0 1 = cc in absurd (omega arith))
+    by-refusal (λ (d : Did). d .said ≡ done → Fits (d .world)) (create m) w (λ h _. create-good m w h)
+    (λ _ z. let y : _≡_ {A = ℕ} 0 1 = cc in absurd (omega arith))
 
 pub create-makes-fit : Obeys (bridge step) CreateMakesFit
 create-makes-fit c w _ m q = subst (λ (x : Call). step x w .said ≡ done → Fits (step x w .world)) (sym q) (create-fits-so m w)

@@ -23,7 +23,8 @@ use Rattle.loops.proofs.Clears.{clear-order}
 use Rattle.laws.specs.Places.{nextPlace}
 use Rattle.laws.proofs.OneStore.{left}
 use Rattle.laws.proofs.Ways.{Returning, Readying, Way, way}
-use Rattle.laws.proofs.Ways.{isNext, isBack, isLast, isDamaged, isStored, isPassed, isCleared, isObeyed, isAssigned, isSendAsked, isTold, isFinishing, isReady, isIdentified}
+use Rattle.laws.proofs.Ways.{isNext, isBack, isLast, isDamaged, isStored, isPassed, isCleared}
+use Rattle.laws.proofs.Ways.{isObeyed, isAssigned, isSendAsked, isTold, isFinishing, isReady, isIdentified}
 
 -- nothing is added: the receive store's next place and the transmit store's ring stay
 pub record Still (n : ℕ) (s t : State) : Type 0 where

@@ -70,7 +70,8 @@ create-takes-no-state m rx tx s d p =
     pick false e = record { answer = rw e; made = λ h. absurd (false≢true (sym (rw e at h))); kept = λ _. rw e }
 
 -- the state that create gives, also beside a refusal
-pub create-state : (m : ℕ) (rx tx : List ℕ) (o : Outcome) → Promised (create m) (unmade m rx tx) (did o rx tx) → o .state ≡ startState m (length rx) (length tx)
+pub create-state : (m : ℕ) (rx tx : List ℕ) (o : Outcome) → Promised (create m) (unmade m rx tx) (did o rx tx) →
+    o .state ≡ startState m (length rx) (length tx)
 unfolding notRefused
 create-state m rx tx o p =
     ap (λ (d : Did). d .world .state) p

@@ -24,7 +24,14 @@ stays-same s r r′ e = stays s r r′ (ap (nextPlace (length s)) e)
 
 pub emptied : (s : List ℕ) (r r′ : Ring) → r′ ≡ emptyRing → Placed true [] s r s r′
 unfolding writtenFrom placeAfter
-emptied s r r′ e = record { bytes = refl; next = ap (nextPlace (length s)) e ∙ ⊎-elim (λ h. wrap-low (length s) 0 h) (λ h. wrap-high (length s) 0 h ∙ omega arith) (split 0 (length s)); none = λ _. ap (λ (q : Ring). q .len) e }
+emptied s r r′ e =
+    record {
+      bytes = refl;
+      next =
+          ap (nextPlace (length s)) e ∙ ⊎-elim (λ h. wrap-low (length s) 0 h) (λ h. wrap-high (length s) 0 h ∙ omega arith) (split 0 (length s));
+      none =
+          λ _. ap (λ (q : Ring). q .len) e;
+    }
 
 -- the ring after a byte fits the same list
 more-fits : (s : List ℕ) (r : Ring) → Fit s r → Fit s (putRing (length s) r)
@@ -45,7 +52,8 @@ bytes-go s r (b ∷ l) f h =
     bytes-go (putBytes s r b) (putRing (length s) r) l (put-fit s r b f) (omega (arith, n, more))
     ∙ (λ i. writtenFrom (at i) l (put-room s r b room i))
 
-next-goes : (s : List ℕ) (r : Ring) (l : List ℕ) → Fit s r → r .len + length l ≤ length s → nextPlace (length s) (putsRing (length s) r l) ≡ placeAfter (length s) (nextPlace (length s) r) l
+next-goes : (s : List ℕ) (r : Ring) (l : List ℕ) → Fit s r → r .len + length l ≤ length s →
+    nextPlace (length s) (putsRing (length s) r l) ≡ placeAfter (length s) (nextPlace (length s) r) l
 unfolding putsRing placeAfter
 next-goes s r [] f h = refl
 next-goes s r (b ∷ l) f h =
@@ -55,7 +63,8 @@ next-goes s r (b ∷ l) f h =
     ∙ ap (λ (p : ℕ). placeAfter (length s) p l) (places-go-on .later s r f room)
 
 -- bytes are added, where there is room for all of them
-pub added : (s : List ℕ) (r : Ring) (l : List ℕ) (cap : ℕ) → Fit s r → cap ≡ length s → r .len + length l ≤ length s → Placed false l s r (putsBytes s r l) (putsRing cap r l)
+pub added : (s : List ℕ) (r : Ring) (l : List ℕ) (cap : ℕ) → Fit s r → cap ≡ length s → r .len + length l ≤ length s →
+    Placed false l s r (putsBytes s r l) (putsRing cap r l)
 added s r l cap f e h = rw e (record { bytes = bytes-go s r l f h; next = next-goes s r l f h; none = λ h. absurd (false≢true h) })
 
 -- the n oldest bytes leave

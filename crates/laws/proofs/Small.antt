@@ -72,7 +72,9 @@ send-small : (r : Rule) (xs : List ℕ) → Bytes xs → SmallSent (send (cut r)
 send-small r =
     by-cuts (cut r) (lawful r) (λ xs. Bytes xs → SmallSent (send (cut r) xs))
     (λ xs e b. subst SmallSent (sym (send-at (cut r) (lawful r) xs wait e)) tt)
-    (λ xs s e ih b. subst SmallSent (sym (send-at (cut r) (lawful r) xs (skip s) e)) (ih (subst Bytes (sym (skip-oldest (cut r) (lawful r) xs s e .suffix)) (drop-bytes (length xs - length s) xs b))))
+    (λ xs s e ih b.
+    subst SmallSent (sym (send-at (cut r) (lawful r) xs (skip s) e))
+    (ih (subst Bytes (sym (skip-oldest (cut r) (lawful r) xs s e .suffix)) (drop-bytes (length xs - length s) xs b))))
     (λ xs f s e ih b. subst SmallSent (sym (send-at (cut r) (lawful r) xs (give f s) e)) (subst SmallCut e (cut-small r xs b)))
 
 -- the frame of a send
@@ -88,8 +90,17 @@ given-small r s q f h b e = go (send (cut r) (held s q)) (send-small r (held s q
 pub status-small : (c : Conditions) (q : Bool) → statusByte c q < 256
 unfolding statusByte
 status-small c q =
-    omega
-    (arith, most (c .txempty) 1, most (c .txnotfull) 2, most (c .rxnotempty) 4, most (c .rxfull) 8, most (c .brk) 16, most (c .overrun) 32, most q 64, most (c .key) 128)
+    omega (
+      arith,
+      most (c .txempty) 1,
+      most (c .txnotfull) 2,
+      most (c .rxnotempty) 4,
+      most (c .rxfull) 8,
+      most (c .brk) 16,
+      most (c .overrun) 32,
+      most q 64,
+      most (c .key) 128,
+    )
   where
     most : (t : Bool) (v : ℕ) → cond t v 0 ≤ v
     most true v = omega arith

@@ -11,7 +11,8 @@ use Rattle.state.specs.Answers.{said, refused}
 use Rattle.state.specs.Sizes.{sizesObeyed, startState, fits}
 use Rattle.state.specs.Status.{conditions, enabledBy, asking, settled}
 use Rattle.state.proofs.Fits.{tests}
-use Rattle.bridge.specs.Calls.{reset, write, lineByte, lineBreak, key, nextLineByte, loopFrame, Call, create, show, on, is, World, world, Did, outcome, settledBy, rxAfter, txAfter, notRefused, step}
+use Rattle.bridge.specs.Calls.{reset, write, lineByte, lineBreak, key, nextLineByte, loopFrame, Call, create, show, on}
+use Rattle.bridge.specs.Calls.{is, World, world, Did, outcome, settledBy, rxAfter, txAfter, notRefused, step}
 use Rattle.laws.specs.Bridges.{bridge}
 use Rattle.laws.specs.Observers.{taken, restarts}
 use Rattle.laws.specs.Starting.{Started, StartsSo, marginOf, MarginRecorded, ResetGivesStart, RefusedCreateFitsNothing}
@@ -47,7 +48,8 @@ refused-not (on c) n e = false≢true (sym (and-false (is reset c)) ∙ e)
 
 pub restarted : (c : Call) (w : World) → restarts c (step c w .said) ≡ true → step c w .world ≡ start-world w (marginOf c w)
 restarted c w =
-    by-refusal (λ (d : Did). restarts c (d .said) ≡ true → d .world ≡ start-world w (marginOf c w)) c w (λ _ e. begun c w e) (λ _ e. absurd (refused-not c _ e))
+    by-refusal (λ (d : Did). restarts c (d .said) ≡ true → d .world ≡ start-world w (marginOf c w)) c w (λ _ e. begun c w e)
+    (λ _ e. absurd (refused-not c _ e))
 
 pub starts-so : Obeys (bridge step) StartsSo
 starts-so c w _ e = subst Started (sym (restarted c w e)) start-right
@@ -67,7 +69,8 @@ create-again : (w : World) → taken (step (on reset) w .said) ≡ true →
 create-again w t m q h =
     ap (λ (v : World). v .state) (restarted (create m) (step (on reset) w .world) (unfold restarts in h))
     ∙ ap (λ (k : ℕ). startState k (length (step (on reset) w .world .rx)) (length (step (on reset) w .world .tx))) q
-    ∙ subst (λ (v : World). startState (v .state .sizes .margin) (length (v .rx)) (length (v .tx)) ≡ v .state) (sym (restarted (on reset) w (unfold restarts in t))) (unfold startState in refl)
+    ∙ subst (λ (v : World). startState (v .state .sizes .margin) (length (v .rx)) (length (v .tx)) ≡ v .state)
+    (sym (restarted (on reset) w (unfold restarts in t))) (unfold startState in refl)
 
 pub reset-gives-start : Obeys (bridge step) ResetGivesStart
 unfolding course finally

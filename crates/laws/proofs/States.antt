@@ -32,7 +32,16 @@ use Rattle.loops.specs.Frames.{forgotten, cleared, obeyed}
 pub tested : (s : State) (a b : ℕ) → Tests s a b → fits s a b ≡ true
 unfolding fits
 tested s a b t =
-    rw (eq-eqb (s .sizes .rx) a (t .rxSize), eq-eqb (s .sizes .tx) b (t .txSize), t .sizes, t .regs, t .role, lt-ltb (s .under .frame) 1024 (t .frame), t .rxRing, t .txRing)
+    rw (
+      eq-eqb (s .sizes .rx) a (t .rxSize),
+      eq-eqb (s .sizes .tx) b (t .txSize),
+      t .sizes,
+      t .regs,
+      t .role,
+      lt-ltb (s .under .frame) 1024 (t .frame),
+      t .rxRing,
+      t .txRing,
+    )
 
 -- sizes that are obeyed leave room in both stores
 pub record Room (a b : ℕ) : Type 0 where
@@ -85,19 +94,34 @@ start-fits m a b e =
 
 module _ (s : State) (a b : ℕ) (t : Tests s a b) where
   pub with-registers : (g : Registers) → registersFit g ≡ true → Tests (withRegisters s g) a b
-  with-registers g e = record { rxSize = t .rxSize; txSize = t .txSize; sizes = t .sizes; regs = e; role = t .role; frame = t .frame; rxRing = t .rxRing; txRing = t .txRing }
+  with-registers g e =
+      record { rxSize = t .rxSize; txSize = t .txSize; sizes = t .sizes; regs = e; role = t .role; frame = t .frame; rxRing = t .rxRing; txRing = t .txRing }
 
   pub with-role : (r : Role) → role-fit.Fit r → Tests (withRole s r) a b
-  with-role r e = record { rxSize = t .rxSize; txSize = t .txSize; sizes = t .sizes; regs = t .regs; role = role-laws.fit-test r e; frame = t .frame; rxRing = t .rxRing; txRing = t .txRing }
+  with-role r e =
+      record {
+        rxSize = t .rxSize;
+        txSize = t .txSize;
+        sizes = t .sizes;
+        regs = t .regs;
+        role = role-laws.fit-test r e;
+        frame = t .frame;
+        rxRing =
+            t .rxRing;
+        txRing = t .txRing;
+      }
 
   pub with-under : (u : Under) → u .frame < 1024 → Tests (withUnder s u) a b
-  with-under u h = record { rxSize = t .rxSize; txSize = t .txSize; sizes = t .sizes; regs = t .regs; role = t .role; frame = h; rxRing = t .rxRing; txRing = t .txRing }
+  with-under u h =
+      record { rxSize = t .rxSize; txSize = t .txSize; sizes = t .sizes; regs = t .regs; role = t .role; frame = h; rxRing = t .rxRing; txRing = t .txRing }
 
   pub with-rx : (r : Ring) → store-ring.fitTest a r ≡ true → Tests (withRx s r) a b
-  with-rx r e = record { rxSize = t .rxSize; txSize = t .txSize; sizes = t .sizes; regs = t .regs; role = t .role; frame = t .frame; rxRing = e; txRing = t .txRing }
+  with-rx r e =
+      record { rxSize = t .rxSize; txSize = t .txSize; sizes = t .sizes; regs = t .regs; role = t .role; frame = t .frame; rxRing = e; txRing = t .txRing }
 
   pub with-tx : (r : Ring) → store-ring.fitTest b r ≡ true → Tests (withTx s r) a b
-  with-tx r e = record { rxSize = t .rxSize; txSize = t .txSize; sizes = t .sizes; regs = t .regs; role = t .role; frame = t .frame; rxRing = t .rxRing; txRing = e }
+  with-tx r e =
+      record { rxSize = t .rxSize; txSize = t .txSize; sizes = t .sizes; regs = t .regs; role = t .role; frame = t .frame; rxRing = t .rxRing; txRing = e }
 
   role-fits : role-fit.Fit (s .role)
   role-fits = role-laws.fit-true (s .role) (t .role)

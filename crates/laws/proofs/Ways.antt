@@ -16,7 +16,8 @@ use Rattle.state.specs.State.{withRole}
 use Rattle.state.specs.Status.{serviced, afterStatusBack}
 use Rattle.loops.specs.LoopToLine.{addedState}
 use Rattle.loops.specs.Sending.{sendFrom, sendStatus, ended}
-use Rattle.loops.specs.Frames.{passed, isClear, orderIn, obeyed, cleared, commandState, command, finishing, readied, ready, returned, dataPassed, identify, frameTaken}
+use Rattle.loops.specs.Frames.{passed, isClear, orderIn, obeyed, cleared, commandState, command}
+use Rattle.loops.specs.Frames.{finishing, readied, ready, returned, dataPassed, identify, frameTaken}
 
 -- a data frame that is a return, one that is not, a command, a ready frame, and any other
 pub record Returning (s : State) (f : ℕ) : Type 0 where
@@ -44,7 +45,8 @@ pub record Identifying (f : ℕ) : Type 0 where
 pub data Way (s : State) (rx : List ℕ) (f : ℕ) : Outcome → Type 0 where
   -- returns: the next frame, the status byte back, the last frame of all, damage
   isNext : Returning s f → sameApart f (s .under .frame) ≡ true → eqb (s .role .talker) 3 ≡ false → s .under .finishing ≡ false → Way s rx f (sendFrom s rx)
-  isBack : Returning s f → sameApart f (s .under .frame) ≡ true → eqb (s .role .talker) 3 ≡ true → Way s rx f (ended (afterStatusBack s (dataOf (s .under .frame))) 64)
+  isBack : Returning s f → sameApart f (s .under .frame) ≡ true → eqb (s .role .talker) 3 ≡ true →
+      Way s rx f (ended (afterStatusBack s (dataOf (s .under .frame))) 64)
   isLast : Returning s f → sameApart f (s .under .frame) ≡ true → eqb (s .role .talker) 3 ≡ false → s .under .finishing ≡ true → Way s rx f (ended s 64)
   isDamaged : Returning s f → sameApart f (s .under .frame) ≡ false → Way s rx f (ended s 65)
   -- other data frames: stored by a listener, or only passed

@@ -18,6 +18,7 @@ pub record PlacesGoOn : Type 0 where
   -- a byte is written there, and nothing else is
   pub written : (s : List ℕ) (r : Ring) (b : ℕ) → r .len < length s → putBytes s r b ≡ set s (nextPlace (length s) r) b
   -- each later one goes to the place after the one before
-  pub later : (s : List ℕ) (r : Ring) → Fit s r → r .len < length s → nextPlace (length s) (putRing (length s) r) ≡ wrap (length s) (nextPlace (length s) r + 1)
+  pub later : (s : List ℕ) (r : Ring) → Fit s r → r .len < length s →
+      nextPlace (length s) (putRing (length s) r) ≡ wrap (length s) (nextPlace (length s) r + 1)
   -- also when bytes were removed in between, all of them too
   pub removed : (s : List ℕ) (r : Ring) (n : ℕ) → Fit s r → n ≤ r .len → nextPlace (length s) (dropRing (length s) r n) ≡ nextPlace (length s) r

@@ -71,7 +71,14 @@ readied r d sent =
 
 unfoldable pub returnedTo : Role → Bool → Role
 returnedTo r sent =
-    record { address = r .address; talker = cond (leb 2 (r .talker)) (cond sent 2 1) (r .talker); listener = r .listener; enabled = r .enabled; remote = r .remote }
+    record {
+      address = r .address;
+      talker = cond (leb 2 (r .talker)) (cond sent 2 1) (r .talker);
+      listener = r .listener;
+      enabled =
+          r .enabled;
+      remote = r .remote;
+    }
 
 -- ---- every call
 
@@ -88,4 +95,5 @@ abbrev pub RoleGoes : Law
 RoleGoes =
     ofCalls
     (λ s. of startsAnew s ≡ false →
-    s .after .state .role ≡ onFrame (λ f. cond (taken (s .answer)) (byFrame f (s .before .state .role) (s .answer)) (s .before .state .role)) (s .before .state .role) (s .call))
+    s .after .state .role ≡
+    onFrame (λ f. cond (taken (s .answer)) (byFrame f (s .before .state .role) (s .answer)) (s .before .state .role)) (s .before .state .role) (s .call))

@@ -79,7 +79,8 @@ unfolding lineWorld
 until-none zero w b e h = absurd (omega arith)
 until-none (suc k) w b e h =
     by-cond (λ (v : World). step (on nextLineByte) v .said ≡ none) (isByte (step (on nextLineByte) w .said)) _ _
-    (λ t. until-none k (step (on nextLineByte) w .world) (keeps-bytes (on nextLineByte) w tt b) (keeps-fit (on nextLineByte) w b e) (omega (arith, step-falls w t)))
+    (λ t. until-none k (step (on nextLineByte) w .world) (keeps-bytes (on nextLineByte) w tt b) (keeps-fit (on nextLineByte) w b e)
+    (omega (arith, step-falls w t)))
     (λ t. no-byte w e t)
 
 -- asks after none give nothing more
@@ -93,7 +94,8 @@ no-more (suc n) (suc m) w l h = pick (no-more n m (step (on nextLineByte) w .wor
     next : World
     next = step (on nextLineByte) w .world
 
-    pick : (isByte (step (on nextLineByte) (lineWorld n next) .said) ≡ false → lineOut m next ≡ lineOut n next) → (t : Bool) → isByte (step (on nextLineByte) w .said) ≡ t →
+    pick : (isByte (step (on nextLineByte) (lineWorld n next) .said) ≡ false → lineOut m next ≡ lineOut n next) → (t : Bool) →
+        isByte (step (on nextLineByte) w .said) ≡ t →
         cond (isByte (step (on nextLineByte) w .said)) (byteIn (step (on nextLineByte) w .said) ∷ lineOut m next) []
         ≡ cond (isByte (step (on nextLineByte) w .said)) (byteIn (step (on nextLineByte) w .said) ∷ lineOut n next) []
     pick more true e = rw e (ap (λ (bs : List ℕ). byteIn (step (on nextLineByte) w .said) ∷ bs) (more (rw e at h)))
@@ -108,5 +110,6 @@ pub asks-enough : (w : World) → Bytes (w .rx) → Fits w → length (w .tx) �
 unfolding isByte
 asks-enough w b e h =
     let f : TxFits (w .state) (w .tx) = tx-fits (w .state) (w .rx) (w .tx) e in
-    let last : step (on nextLineByte) (lineWorld asks w) .said ≡ none = until-none asks w b e (omega (arith, f .ring .len, at-most-one (owed (w .state .line)))) in
+    let last : step (on nextLineByte) (lineWorld asks w) .said ≡ none =
+    until-none asks w b e (omega (arith, f .ring .len, at-most-one (owed (w .state .line)))) in
     record { answer = last; same = λ n k. no-more asks n w k (ap isByte last) }

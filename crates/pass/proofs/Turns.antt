@@ -41,16 +41,19 @@ module _ (x : List ℕ) (rx tx : List ℕ) where
     pub set-again : (k : ℕ) {total : Set} → 0 < n → k ≡ faultOf (said (o .answer)) → k ≡ 0 → setRegisters n x i (world t rx tx) ≡ total →
         setRegisters (n - 1) x (i + 2) (world (o .state) rx tx) ≡ total
     set-again k h f z inv =
-        let fine : faultOf (step (on (write (getD x i 0) (getD x (i + 1) 0))) (world t rx tx) .said) ≡ 0 = ap (λ (d : Did). faultOf (d .said)) (sym there) ∙ sym f ∙ z in
+        let fine : faultOf (step (on (write (getD x i 0) (getD x (i + 1) 0))) (world t rx tx) .said) ≡ 0 =
+        ap (λ (d : Did). faultOf (d .said)) (sym there) ∙ sym f ∙ z in
         ap (λ (d : Did). setRegisters (n - 1) x (i + 2) (d .world)) there ∙ sym (set-step n i (world t rx tx) h ∙ rw (eq-eqb _ 0 fine)) ∙ inv
 
     pub set-stops : (k : ℕ) {total : Set} → 0 < n → k ≡ faultOf (said (o .answer)) → (k ≡ 0 → ⊥) → setRegisters n x i (world t rx tx) ≡ total →
         _≡_ {A = Set} (record { state = t; fault = k }) total
     set-stops k h f z inv =
-        let same : faultOf (step (on (write (getD x i 0) (getD x (i + 1) 0))) (world t rx tx) .said) ≡ k = ap (λ (d : Did). faultOf (d .said)) (sym there) ∙ sym f in
+        let same : faultOf (step (on (write (getD x i 0) (getD x (i + 1) 0))) (world t rx tx) .said) ≡ k =
+        ap (λ (d : Did). faultOf (d .said)) (sym there) ∙ sym f in
         sym (set-step n i (world t rx tx) h ∙ rw (same, ne-eqb k 0 z)) ∙ inv
 
-  pub set-ends : (t : State) (i n : ℕ) {total : Set} → n ≤ 0 → setRegisters n x i (world t rx tx) ≡ total → _≡_ {A = Set} (record { state = t; fault = 0 }) total
+  pub set-ends : (t : State) (i n : ℕ) {total : Set} → n ≤ 0 → setRegisters n x i (world t rx tx) ≡ total →
+      _≡_ {A = Set} (record { state = t; fault = 0 }) total
   unfolding setRegisters
   set-ends t i n h inv = ap (λ (k : ℕ). setRegisters k x i (world t rx tx)) (sym (none-left n h)) ∙ inv
 
@@ -60,7 +63,8 @@ take-step : (x : List ℕ) (n i : ℕ) (w : World) → 0 < n → takeBytes n x i
 unfolding takeBytes
 take-step x n i w h = ap (λ (k : ℕ). takeBytes k x i w) (one-left n h)
 
-pub take-again : (x rx rx′ tx : List ℕ) (t : State) (i n : ℕ) (o : Outcome) {total : World} → 0 < n → did o rx′ tx ≡ step (on (lineByte (getD x i 0))) (world t rx tx) →
+pub take-again : (x rx rx′ tx : List ℕ) (t : State) (i n : ℕ) (o : Outcome) {total : World} → 0 < n →
+    did o rx′ tx ≡ step (on (lineByte (getD x i 0))) (world t rx tx) →
     takeBytes n x i (world t rx tx) ≡ total → takeBytes (n - 1) x (i + 1) (world (o .state) rx′ tx) ≡ total
 take-again x rx rx′ tx t i n o h e inv =
     ap (λ (d : Did). takeBytes (n - 1) x (i + 1) (d .world)) e ∙ sym (take-step x n i (world t rx tx) h) ∙ inv
@@ -90,7 +94,8 @@ pub rest-start : (out : List ℕ) (to : ℕ) (all : List ℕ) → Rest out to al
 rest-start out to all = record { bytes = refl; place = refl; size = refl }
 
 -- a piece of it is written
-pub rest-again : {out₀ out out₁ : List ℕ} {to k r : ℕ} {all a left : List ℕ} → k ≤ length out → Rest out₀ to all out k (a ++ left) → Wrote out k a out₁ r → Rest out₀ to all out₁ r left
+pub rest-again : {out₀ out out₁ : List ℕ} {to k r : ℕ} {all a left : List ℕ} → k ≤ length out → Rest out₀ to all out k (a ++ left) → Wrote out k a out₁ r →
+    Rest out₀ to all out₁ r left
 rest-again {out₀} {out} {out₁} {to} {k} {r} {all} {a} {left} h p q =
     record {
       bytes = (λ j. over (q .next j) left (q .bytes j)) ∙ over-then k a left out h ∙ p .bytes;
@@ -118,7 +123,8 @@ offer-again {x} {rx} {tx₀} {i} {n} {out₀} {to} {t₀} {tx} {out} {t} {at} {l
     let d : did o rx tx′ ≡ step (on (loopFrame (high x at))) (world t rx tx) = e ∙ ap (λ (g : ℕ). step (on (loopFrame g)) (world t rx tx)) q in
     let next : framesText left x at (world t rx tx) ≡ answerText (said (o .answer)) ++ framesText (left - 1) x (at + 2) (world (o .state) rx tx′) =
     frames-step x left at (world t rx tx) h ∙ ap (λ (g : Did). answerText (g .said) ++ framesText (left - 1) x (at + 2) (g .world)) (sym d) in
-    let there : Rest out₀ to (framesText n x i (world t₀ rx tx₀)) out k (answerText (said (o .answer)) ++ framesText (left - 1) x (at + 2) (world (o .state) rx tx′)) = rw next at (p .text) in
+    let there : Rest out₀ to (framesText n x i (world t₀ rx tx₀)) out k
+    (answerText (said (o .answer)) ++ framesText (left - 1) x (at + 2) (world (o .state) rx tx′)) = rw next at (p .text) in
     record {
       reached = ap (λ (g : Did). framesWorld (left - 1) x (at + 2) (g .world)) d ∙ sym (world-step x left at (world t rx tx) h) ∙ p .reached;
       text = rest-again (omega (arith, p .room, p .fits)) there (w .0);
@@ -141,11 +147,14 @@ offer-ends {x} {rx} {tx₀} {i} {n} {out₀} {to} {t₀} {tx} {out} {t} {at} {le
 
 -- ---- line bytes out
 
-line-step : (n : ℕ) (w : World) → 0 < n → lineOut n w ≡ cond (isByte (step (on nextLineByte) w .said)) (byteIn (step (on nextLineByte) w .said) ∷ lineOut (n - 1) (step (on nextLineByte) w .world)) []
+line-step : (n : ℕ) (w : World) → 0 < n →
+    lineOut n w ≡ cond (isByte (step (on nextLineByte) w .said))
+    (byteIn (step (on nextLineByte) w .said) ∷ lineOut (n - 1) (step (on nextLineByte) w .world)) []
 unfolding lineOut
 line-step n w h = ap (λ (k : ℕ). lineOut k w) (one-left n h)
 
-module _ (rx tx : List ℕ) (t : State) (n : ℕ) (o : Outcome) (r : Bool) (h : 0 < n) (e : did o rx tx ≡ step (on nextLineByte) (world t rx tx)) (b : r ≡ isByte (said (o .answer))) where
+module _ (rx tx : List ℕ) (t : State) (n : ℕ) (o : Outcome) (r : Bool) (h : 0 < n) (e : did o rx tx ≡ step (on nextLineByte) (world t rx tx))
+    (b : r ≡ isByte (said (o .answer))) where
   line-is : lineOut n (world t rx tx) ≡ cond (isByte (said (o .answer))) (byteIn (said (o .answer)) ∷ lineOut (n - 1) (world (o .state) rx tx)) []
   line-is = line-step n (world t rx tx) h ∙ ap (λ (d : Did). cond (isByte (d .said)) (byteIn (d .said) ∷ lineOut (n - 1) (d .world)) []) (sym e)
 

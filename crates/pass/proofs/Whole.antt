@@ -29,7 +29,8 @@ none-fine x h = absurd (false≢true h)
 end-fine : (x : List ℕ) (a b c : ℕ) → a ≤ 64 → b ≤ 64 → c ≤ 64 → Fine x (endOf x a b c)
 unfolding endOf
 end-fine x a b c ha hb hc =
-    by-cond (Fine x) (eqb (length x) (endAt a b c)) _ _ (λ e h. record { regs = ha; bytes = hb; frames = hc; all = eqb-true (length x) _ e }) (λ e. none-fine x)
+    by-cond (Fine x) (eqb (length x) (endAt a b c)) _ _ (λ e h. record { regs = ha; bytes = hb; frames = hc; all = eqb-true (length x) _ e })
+    (λ e. none-fine x)
 
 count-fine : (x : List ℕ) (i : ℕ) (next : ℕ → Sections) → ((c : ℕ) → c ≤ 64 → Fine x (next c)) → Fine x (byCount x i next)
 unfolding byCount
@@ -39,7 +40,8 @@ count-fine x i next f =
 sections-fine : (x : List ℕ) → Fine x (sectionsOf x)
 unfolding sectionsOf secondOf thirdOf
 sections-fine x =
-    count-fine x 0 (secondOf x) (λ a ha. count-fine x (secondAt a) (thirdOf x a) (λ b hb. count-fine x (thirdAt a b) (endOf x a b) (λ c hc. end-fine x a b c ha hb hc)))
+    count-fine x 0 (secondOf x)
+    (λ a ha. count-fine x (secondAt a) (thirdOf x a) (λ b hb. count-fine x (thirdAt a b) (endOf x a b) (λ c hc. end-fine x a b c ha hb hc)))
 
 pub whole : (x : List ℕ) (p : Sections) → p ≡ sectionsOf x → not (p .ok) ≡ false → Whole x p
 whole x p e h = rw e (sections-fine x (ap (λ (q : Sections). q .ok) (sym e) ∙ not-false (p .ok) h))
@@ -63,7 +65,8 @@ pub rest-lines : {out out₁ out₂ : List ℕ} {to k r : ℕ} (x : List ℕ) (p
 unfolding restText
 rest-lines x p w t u rx tx tx′ h e o l = rw (← e) (wrote-then (omega arith) (o .wrote) (rw (o .world) at l))
 
-set-text : (x : List ℕ) (p : Sections) (rx tx : List ℕ) (s : State) (g : Set) → s ≡ startState 8 (length rx) (length tx) → g ≡ setRegisters (p .regs) x 2 (world s rx tx) →
+set-text : (x : List ℕ) (p : Sections) (rx tx : List ℕ) (s : State) (g : Set) → s ≡ startState 8 (length rx) (length tx) →
+    g ≡ setRegisters (p .regs) x 2 (world s rx tx) →
     setText x p g rx tx ≡ setText x p (setRegisters (p .regs) x 2 (world (startState 8 (length rx) (length tx)) rx tx)) rx tx
 set-text x p rx tx s g e q = ap (λ (k : Set). setText x p k rx tx) (q ∙ ap (λ (k : State). setRegisters (p .regs) x 2 (world k rx tx)) e)
 
@@ -99,5 +102,6 @@ module _ {out out₁ : List ℕ} {r : ℕ} (x : List ℕ) (p : Sections) (e : p 
   unfolding printed
   printed-run h l =
       let told : printed x ≡ runText x p store store =
-      ap (λ (q : Sections). cond (q .ok) (runText x q store store) (refusedText 9)) (sym e) ∙ cond-true (p .ok) (runText x p store store) (refusedText 9) (not-false (p .ok) h) in
+      ap (λ (q : Sections). cond (q .ok) (runText x q store store) (refusedText 9)) (sym e) ∙
+      cond-true (p .ok) (runText x p store store) (refusedText 9) (not-false (p .ok) h) in
       within (subst (λ (t : List ℕ). Wrote out 0 t out₁ r) (sym told) l)

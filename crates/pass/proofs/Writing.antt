@@ -33,7 +33,8 @@ pub over-then : (at : ℕ) (a b out : List ℕ) → at ≤ length out → over (
 over-then at a b out h =
     let n : length (take at out ++ a) ≡ at + length a = simp (length-append, length-take) (omega arith) in
     let whole : over at a out ≡ (take at out ++ a) ++ drop (at + length a) out = sym (append-assoc (take at out) a (drop (at + length a) out)) in
-    let front : take (at + length a) (over at a out) ≡ take at out ++ a = ap (take (at + length a)) whole ∙ take-at (take at out ++ a) (drop (at + length a) out) (at + length a) n in
+    let front : take (at + length a) (over at a out) ≡ take at out ++ a =
+    ap (take (at + length a)) whole ∙ take-at (take at out ++ a) (drop (at + length a) out) (at + length a) n in
     let far : at + length a + length b ≡ at + length (a ++ b) = omega (arith, length-append a b) in
     let back : drop (at + length a + length b) (over at a out) ≡ drop (at + length (a ++ b)) out =
     ap (drop (at + length a + length b)) whole
@@ -88,11 +89,16 @@ pub refusal-line : {out out₁ out₂ out₃ : List ℕ} {at k i r : ℕ} (n m :
     (Wrote out₁ k (decimal m) out₂ i) × (i ≤ k + 3) → Wrote out₂ i newline out₃ r → (Wrote out at (refusedText n) out₃ r) × (r ≤ at + 12)
 unfolding refusedText
 refusal-line n m h e p q s =
-    rw (← e)
-    (wrote-then (omega (arith, p .next, q .0 .next, q .1, length-append (decimal m) newline)) p (wrote-then (omega (arith, p .next, p .size, q .0 .next, q .1)) (q .0) s), omega (arith, p .next, q .1, s .next))
+    rw (← e) (
+      wrote-then (omega (arith, p .next, q .0 .next, q .1, length-append (decimal m) newline)) p
+          (wrote-then (omega (arith, p .next, p .size, q .0 .next, q .1)) (q .0) s),
+      omega (arith, p .next, q .1, s .next),
+    )
 
-pub frame-line : {out out₁ out₂ out₃ out₄ : List ℕ} {at k j i r : ℕ} (c d m n : ℕ) → at + 12 ≤ length out → m ≡ c → n ≡ d → (Wrote out at (decimal m) out₁ k) × (k ≤ at + 3) →
-    Wrote out₁ k (44 ∷ []) out₂ j → (Wrote out₂ j (decimal n) out₃ i) × (i ≤ j + 3) → Wrote out₃ i newline out₄ r → (Wrote out at (frameText c d) out₄ r) × (r ≤ at + 12)
+pub frame-line : {out out₁ out₂ out₃ out₄ : List ℕ} {at k j i r : ℕ} (c d m n : ℕ) → at + 12 ≤ length out → m ≡ c → n ≡ d →
+    (Wrote out at (decimal m) out₁ k) × (k ≤ at + 3) →
+    Wrote out₁ k (44 ∷ []) out₂ j → (Wrote out₂ j (decimal n) out₃ i) × (i ≤ j + 3) → Wrote out₃ i newline out₄ r →
+    (Wrote out at (frameText c d) out₄ r) × (r ≤ at + 12)
 unfolding frameText
 frame-line {out} {out₁} {out₂} {out₃} {out₄} {at} {k} {j} {i} {r} c d m n h e f p q s t =
     let l = length-append (decimal n) newline in

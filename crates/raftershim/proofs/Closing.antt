@@ -49,7 +49,8 @@ module _ (c : OnState) (b rx tx rx′ tx′ : List ℕ) (s : State) (o : Outcome
       pick true q = state-length b q
       pick false q =
           let none : s ≡ noState = m ∙ sym (means-none b false (sym q) refl) in
-          let misfits : fits s (length rx) (length tx) ≡ false = ap (λ (x : State). fits x (length rx) (length tx)) none ∙ no-state-misfits (length rx) (length tx) in
+          let misfits : fits s (length rx) (length tx) ≡ false =
+          ap (λ (x : State). fits x (length rx) (length tx)) none ∙ no-state-misfits (length rx) (length tx) in
           let told : said (o .answer) ≡ refused 2 = ap (λ (d : Did). d .said) (e ∙ misfit-step c (world s rx tx) misfits) in
           absurd (true≢false (sym (ap isRefusal told) ∙ h))
 
@@ -96,17 +97,20 @@ module _ (m : ℕ) (b rx tx : List ℕ) where
   create-written o r b′ l q h =
       let t = create-takes-no-state m rx tx (meaning b) (did o rx tx) q in
       rw (eq-eqb (length b) blockLen l)
-      ((λ i. cDid (h .0 i) (h .1 i) rx tx) ∙ (λ i. cDid (word (sym (t .answer) i)) (blockAfter b (sym (t .answer) i) (o .state)) rx tx) ∙ kept (isRefusal (said (o .answer))) refl t)
+      ((λ i. cDid (h .0 i) (h .1 i) rx tx) ∙ (λ i. cDid (word (sym (t .answer) i)) (blockAfter b (sym (t .answer) i) (o .state)) rx tx) ∙
+      kept (isRefusal (said (o .answer))) refl t)
     where
       d : Did
       d = step (create m) (world (meaning b) rx tx)
 
       -- the state that stands beside a refusal is not written
       kept : (x : Bool) → isRefusal (said (o .answer)) ≡ x → CreatedAnywhere m rx tx (meaning b) (did o rx tx) →
-          cDid (word (d .said)) (blockAfter b (d .said) (o .state)) rx tx ≡ cDid (word (d .said)) (blockAfter b (d .said) (d .world .state)) (d .world .rx) (d .world .tx)
+          cDid (word (d .said)) (blockAfter b (d .said) (o .state)) rx tx ≡
+          cDid (word (d .said)) (blockAfter b (d .said) (d .world .state)) (d .world .rx) (d .world .tx)
       kept true e t =
           (λ i. cDid (word (d .said)) (cond ((ap isRefusal (t .answer) ∙ e) i) b (packed (o .state))) rx tx)
-          ∙ (λ i. cDid (word (d .said)) (cond (sym (ap isRefusal (t .answer) ∙ e) i) b (packed (d .world .state))) (sym (t .kept e) i .rx) (sym (t .kept e) i .tx))
+          ∙ (λ i. cDid (word (d .said)) (cond (sym (ap isRefusal (t .answer) ∙ e) i) b (packed (d .world .state))) (sym (t .kept e) i .rx)
+          (sym (t .kept e) i .tx))
       kept false e t = ap (λ (w : World). cDid (word (d .said)) (blockAfter b (d .said) (w .state)) (w .rx) (w .tx)) (sym (t .made e))
 
 -- ---- showing

@@ -50,7 +50,8 @@ create-done m w e = pick (sizesObeyed m (length (w .rx)) (length (w .tx))) refl
     pick true q = q
     pick false q = let z : _≡_ {A = ℕ} (word (refused 1)) (word done) = rw q at e in absurd (omega (arith, z))
 
-pub obeyed-done : (m : ℕ) (w : World) → sizesObeyed m (length (w .rx)) (length (w .tx)) ≡ true → (step (create m) w .said ≡ done) × Ranged (step (create m) w .world .state)
+pub obeyed-done : (m : ℕ) (w : World) → sizesObeyed m (length (w .rx)) (length (w .tx)) ≡ true →
+    (step (create m) w .said ≡ done) × Ranged (step (create m) w .world .state)
 unfolding step refusedOr checks notRefused said
 obeyed-done m w e = rw e (refl, obeyed-ranged m (length (w .rx)) (length (w .tx)) e)
 
@@ -63,7 +64,8 @@ create-fits m l e = pick (eqb (length (l .block)) blockLen) refl
         let c : cStep (create m) l ≡ closed l (step (create m) (opened l)) = create-call m l (eqb-true (length (l .block)) blockLen q) in
         let o : sizesObeyed m (length (l .rx)) (length (l .tx)) ≡ true = create-done m (opened l) (ap (λ (x : CDid). x .word) (sym c) ∙ e) in
         let d = obeyed-done m (opened l) o in
-        let w : opened (cStep (create m) l .lent) ≡ step (create m) (opened l) .world = ap (λ (x : CDid). opened (x .lent)) c ∙ closed-world l (step (create m) (opened l)) (refusal-keeps (create m) (opened l)) (d .1) in
+        let w : opened (cStep (create m) l .lent) ≡ step (create m) (opened l) .world =
+        ap (λ (x : CDid). opened (x .lent)) c ∙ closed-world l (step (create m) (opened l)) (refusal-keeps (create m) (opened l)) (d .1) in
         to-block (cStep (create m) l .lent) (subst Fits (sym w) (create-fits-so m (opened l) (d .0)))
     pick false q =
         let z : _≡_ {A = ℕ} (word (refused 1)) (word done) = ap (λ (x : CDid). x .word) (sym (wrong-block-refused m l q)) ∙ e in

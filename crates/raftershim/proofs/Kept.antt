@@ -31,9 +31,11 @@ use Rattle.laws.proofs.Small.{put-bytes}
 use Rattle.block.specs.States.{RegistersRanged, CountsRanged, Ranged}
 use Rattle.store.specs.Bytes.{Bytes}
 use Rattle.block.proofs.Laws.{fits-ranged, obeyed-ranged}
-use Rattle.bridge.specs.Calls.{Call, on, create, reset, write, lineByte, lineBreak, key, nextLineByte, loopFrame, show, World, Did, checks, outcome, settledBy, txAfter, notRefused, refusedOr, step}
+use Rattle.bridge.specs.Calls.{Call, on, create, reset, write, lineByte, lineBreak, key, nextLineByte, loopFrame}
+use Rattle.bridge.specs.Calls.{show, World, Did, checks, outcome, settledBy, txAfter, notRefused, refusedOr, step}
 use Rattle.laws.proofs.Refusing.{by-refusal}
-use Rattle.laws.proofs.Ways.{Way, isNext, isBack, isLast, isDamaged, isStored, isPassed, isCleared, isObeyed, isAssigned, isSendAsked, isTold, isFinishing, isReady, isIdentified, way}
+use Rattle.laws.proofs.Ways.{Way, isNext, isBack, isLast, isDamaged, isStored, isPassed, isCleared}
+use Rattle.laws.proofs.Ways.{isObeyed, isAssigned, isSendAsked, isTold, isFinishing, isReady, isIdentified, way}
 use Rattle.raftershim.specs.Runs.{Typed}
 use Rattle.raftershim.proofs.Closing.{misfit-step}
 
@@ -172,7 +174,8 @@ pub ranged-kept : (c : Call) (w : World) → Typed w → Ranged (step c w .world
 ranged-kept c w h = pick (fits (w .state) (length (w .rx)) (length (w .tx))) refl
   where
     pick : (t : Bool) → fits (w .state) (length (w .rx)) (length (w .tx)) ≡ t → Ranged (step c w .world .state)
-    pick true e = fits-ranged (step c w .world .state) (step c w .world .rx) (step c w .world .tx) (keeps-fit c w (h .rx) e) (counts-kept c w (h .state .counts))
+    pick true e =
+        fits-ranged (step c w .world .state) (step c w .world .rx) (step c w .world .tx) (keeps-fit c w (h .rx) e) (counts-kept c w (h .state .counts))
     pick false e = misfit-ranged c w e (h .state)
 
 pub typed-kept : (c : Call) (w : World) → ByteCall c → Typed w → Typed (step c w .world)

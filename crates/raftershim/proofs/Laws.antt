@@ -78,7 +78,8 @@ shown-place side w = pick (eqb (length p) 0) refl
     k = placeOf side (w .state)
 
     pick : (t : Bool) → eqb (length p) 0 ≡ t →
-        p ≡ take (cond (eqb (length p) 0) 0 (placeWord k (word (part p))) % 4294967296) (drop (cond (eqb (length p) 0) 0 (placeWord k (word (part p))) / 4294967296) (storeOf side w))
+        p ≡ take (cond (eqb (length p) 0) 0 (placeWord k (word (part p))) % 4294967296)
+        (drop (cond (eqb (length p) 0) 0 (placeWord k (word (part p))) / 4294967296) (storeOf side w))
     pick true e = rw e (none-of p (eqb-true (length p) 0 e))
     pick false e =
         let t : Shown (storeOf side w) p k = shown-part side (w .rx) (w .tx) p (w .state) refl k (eqb-false (length p) 0 e) refl in
@@ -107,12 +108,14 @@ misfit-shows-nothing side l e =
 opened-packed : (w : World) → Ranged (w .state) → opened (packedWorld w) ≡ w
 opened-packed w h = λ i. record { state = packed-means (w .state) h i; rx = w .rx; tx = w .tx }
 
-closed-packed : (w : World) (d : Did) → (isRefusal (d .said) ≡ true → d .world ≡ w) → closed (packedWorld w) d ≡ record { word = word (d .said); lent = packedWorld (d .world) }
+closed-packed : (w : World) (d : Did) → (isRefusal (d .said) ≡ true → d .world ≡ w) →
+    closed (packedWorld w) d ≡ record { word = word (d .said); lent = packedWorld (d .world) }
 unfolding closed
 closed-packed w d k = pick (isRefusal (d .said)) refl
   where
     pick : (t : Bool) → isRefusal (d .said) ≡ t →
-        cDid (word (d .said)) (cond (isRefusal (d .said)) (packed (w .state)) (packed (d .world .state))) (d .world .rx) (d .world .tx) ≡ record { word = word (d .said); lent = packedWorld (d .world) }
+        cDid (word (d .said)) (cond (isRefusal (d .said)) (packed (w .state)) (packed (d .world .state))) (d .world .rx) (d .world .tx) ≡
+        record { word = word (d .said); lent = packedWorld (d .world) }
     pick true e = rw (e, k e)
     pick false e = rw e
 

@@ -48,7 +48,8 @@ module _ (l : Lent) (d : Did) (k : isRefusal (d .said) ≡ true → d .world ≡
   unfolding closed
   closed-world = pick (isRefusal (d .said)) refl
     where
-      pick : (t : Bool) → isRefusal (d .said) ≡ t → world (meaning (cond (isRefusal (d .said)) (l .block) (packed (d .world .state)))) (d .world .rx) (d .world .tx) ≡ d .world
+      pick : (t : Bool) → isRefusal (d .said) ≡ t →
+          world (meaning (cond (isRefusal (d .said)) (l .block) (packed (d .world .state)))) (d .world .rx) (d .world .tx) ≡ d .world
       pick true e = rw (e, k e)
       pick false e = rw (e, packed-means (d .world .state) r)
 

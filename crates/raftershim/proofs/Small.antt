@@ -20,7 +20,8 @@ use Rattle.line.specs.HoldingOff.{owed, nextOut, outAnswer}
 use Rattle.loops.specs.Frames.{frameTaken}
 use Rattle.block.specs.States.{Ranged}
 use Rattle.store.specs.Bytes.{Bytes}
-use Rattle.bridge.specs.Calls.{OnState, reset, write, lineByte, lineBreak, key, nextLineByte, loopFrame, Call, create, show, on, World, Did, checksOn, checks, outcome, notRefused, step}
+use Rattle.bridge.specs.Calls.{OnState, reset, write, lineByte, lineBreak, key, nextLineByte, loopFrame, Call, create}
+use Rattle.bridge.specs.Calls.{show, on, World, Did, checksOn, checks, outcome, notRefused, step}
 use Rattle.laws.proofs.Refusing.{by-refusal, fitting, frame-fitting}
 use Rattle.laws.proofs.Ways.{way}
 use Rattle.runs.proofs.ElevenBits.{SmallFrame, frame-small}
@@ -117,7 +118,8 @@ unfolding notRefused
 create-told m w = small-tells answer.Done tt
 
 -- what a call on a state answers is small
-pub on-told : (c : OnState) (w : World) → Ranged (w .state) → Bytes (w .rx) → Bytes (w .tx) → firstRefusal (checks (on c) w) ≡ 0 → Tells (notRefused (on c) w .said)
+pub on-told : (c : OnState) (w : World) → Ranged (w .state) → Bytes (w .rx) → Bytes (w .tx) → firstRefusal (checks (on c) w) ≡ 0 →
+    Tells (notRefused (on c) w .said)
 unfolding notRefused outcome
 on-told c w r b k e = small-tells (outcome c w .answer) (small c e)
   where
@@ -130,4 +132,6 @@ on-told c w r b k e = small-tells (outcome c w .answer) (small c e)
     small nextLineByte e = next-small (w .state) (w .tx) r (tx-fits (w .state) (w .rx) (w .tx) (fitting nextLineByte w e .0) .ring) k
     small (loopFrame f) e =
         let x = frame-fitting f w e in
-        frame-told (frameTaken (w .state) (w .rx) f .answer) (frame-small (w .state) (w .rx) (rx-fits (w .state) (w .rx) (w .tx) (x .0) .ring) b f (omega (arith, ltb-false 2047 f (x .1 .0))) (frameTaken (w .state) (w .rx) f) (way (w .state) (w .rx) f))
+        frame-told (frameTaken (w .state) (w .rx) f .answer)
+        (frame-small (w .state) (w .rx) (rx-fits (w .state) (w .rx) (w .tx) (x .0) .ring) b f (omega (arith, ltb-false 2047 f (x .1 .0)))
+        (frameTaken (w .state) (w .rx) f) (way (w .state) (w .rx) f))

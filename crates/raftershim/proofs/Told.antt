@@ -24,7 +24,8 @@ module _ (l : Lent) (h : Whole l) where
   typed : Typed (opened l)
   typed = opened-typed l (h .bytes)
 
-  telling : (c : Call) → answerWord c (opened l) ≡ word (step c (opened l) .said) → Tells (step c (opened l) .said) → told (cStep c l .word) ≡ step c (opened l) .said
+  telling : (c : Call) → answerWord c (opened l) ≡ word (step c (opened l) .said) → Tells (step c (opened l) .said) →
+      told (cStep c l .word) ≡ step c (opened l) .said
   telling c a t = ap told (call-means c l h .word ∙ a) ∙ t
 
 shown-told : (side : ℕ) (l : Lent) → toldPart (cStep (show side) l .word) (storeOf side (opened l)) ≡ step (show side) (opened l) .said

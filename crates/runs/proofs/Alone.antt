@@ -7,7 +7,8 @@ use Rattle.machine.specs.Machine.{Obeys}
 use Rattle.status.specs.declared.Events.{Events}
 use Rattle.state.specs.Answers.{refused}
 use Rattle.state.specs.Status.{settled, breakState, keyState}
-use Rattle.bridge.specs.Calls.{OnState, reset, write, lineByte, lineBreak, key, nextLineByte, loopFrame, Call, create, show, on, is, World, Did, checks, outcome, settledBy, rxAfter, txAfter, notRefused}
+use Rattle.bridge.specs.Calls.{OnState, reset, write, lineByte, lineBreak, key, nextLineByte, loopFrame, Call, create, show}
+use Rattle.bridge.specs.Calls.{on, is, World, Did, checks, outcome, settledBy, rxAfter, txAfter, notRefused}
 use Rattle.laws.specs.Bridges.{Saw}
 use Rattle.laws.specs.Observers.{taken, onOne}
 use Rattle.laws.specs.Events.{Event, broken, overrun, pressed, noted, happens, same, OnlyNoted, Alone}
@@ -45,7 +46,9 @@ unfolding notRefused outcome settledBy settled rxAfter txAfter keyState
 key-noted w = record { rest = refl; seen = set-pressed (w .state .notes .seen); again = set-pressed (w .state .notes .again) }
 
 pub broken-alone : Obeys ours (Alone broken)
-broken-alone c w _ = by-refusal (λ (d : Did). happens broken c w (d .said) ≡ true → OnlyNoted broken (saw c w d)) c w (λ _. go c) (λ _ h. absurd (none-refused (firstRefusal (checks c w)) lineBreak c h))
+broken-alone c w _ =
+    by-refusal (λ (d : Did). happens broken c w (d .said) ≡ true → OnlyNoted broken (saw c w d)) c w (λ _. go c)
+    (λ _ h. absurd (none-refused (firstRefusal (checks c w)) lineBreak c h))
   where
     go : (c : Call) → happens broken c w (notRefused c w .said) ≡ true → OnlyNoted broken (saw c w (notRefused c w))
     go (create m) h = absurd (false≢true h)
@@ -59,7 +62,9 @@ broken-alone c w _ = by-refusal (λ (d : Did). happens broken c w (d .said) ≡ 
     go (on (loopFrame f)) h = absurd (false≢true h)
 
 pub pressed-alone : Obeys ours (Alone pressed)
-pressed-alone c w _ = by-refusal (λ (d : Did). happens pressed c w (d .said) ≡ true → OnlyNoted pressed (saw c w d)) c w (λ _. go c) (λ _ h. absurd (none-refused (firstRefusal (checks c w)) key c h))
+pressed-alone c w _ =
+    by-refusal (λ (d : Did). happens pressed c w (d .said) ≡ true → OnlyNoted pressed (saw c w d)) c w (λ _. go c)
+    (λ _ h. absurd (none-refused (firstRefusal (checks c w)) key c h))
   where
     go : (c : Call) → happens pressed c w (notRefused c w .said) ≡ true → OnlyNoted pressed (saw c w (notRefused c w))
     go (create m) h = absurd (false≢true h)

@@ -41,8 +41,17 @@ pub status-small : (s : State) → statusOf s < 256
 unfolding statusOf statusByte
 status-small s =
     let c = conditions s in
-    omega
-    (arith, weight (c .txempty) 1, weight (c .txnotfull) 2, weight (c .rxnotempty) 4, weight (c .rxfull) 8, weight (c .brk) 16, weight (c .overrun) 32, weight (shows s) 64, weight (c .key) 128)
+    omega (
+      arith,
+      weight (c .txempty) 1,
+      weight (c .txnotfull) 2,
+      weight (c .rxnotempty) 4,
+      weight (c .rxfull) 8,
+      weight (c .brk) 16,
+      weight (c .overrun) 32,
+      weight (shows s) 64,
+      weight (c .key) 128,
+    )
 
 -- its frame, "the service bit aside", is what it is
 pub status-frame : (s : State) → dataFrame (said (Frame (serviced s (made 0 (statusOf s))))) ≡ stripped (made 0 (statusOf s)) ∷ []

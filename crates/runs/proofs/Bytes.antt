@@ -59,7 +59,9 @@ module _ (rule : Rule) where
   sends-plain =
       by-cuts (cut rule) (lawful rule) (λ xs. Bytes xs → PlainSent (send (cut rule) xs))
       (λ xs e b. rw (send-at (cut rule) (lawful rule) xs wait e) tt)
-      (λ xs r e ih b. rw (send-at (cut rule) (lawful rule) xs (skip r) e) (ih (subst Bytes (sym (skip-oldest (cut rule) (lawful rule) xs r e .suffix)) (drop-bytes (length xs - length r) xs b))))
+      (λ xs r e ih b.
+      rw (send-at (cut rule) (lawful rule) xs (skip r) e)
+      (ih (subst Bytes (sym (skip-oldest (cut rule) (lawful rule) xs r e .suffix)) (drop-bytes (length xs - length r) xs b))))
       (λ xs f r e ih b. rw (send-at (cut rule) (lawful rule) xs (give f r) e) (cut-plain xs f r e b))
 
   -- a frame that is sent from bytes is a data frame with its service bit off

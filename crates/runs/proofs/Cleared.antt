@@ -30,7 +30,8 @@ use Rattle.line.specs.HoldingOff.{isGoOrStop, flowed, lostState, storedWith, st
 use Rattle.loops.specs.LoopToLine.{addedState}
 use Rattle.loops.specs.Sending.{sendStatus, talking, ended}
 use Rattle.loops.specs.Frames.{cleared, returned, frameTaken, deviceClear}
-use Rattle.bridge.specs.Calls.{Call, on, create, reset, write, lineByte, lineBreak, key, nextLineByte, loopFrame, show, World, Did, checks, outcome, settledBy, refusedOr, step}
+use Rattle.bridge.specs.Calls.{Call, on, create, reset, write, lineByte, lineBreak, key, nextLineByte}
+use Rattle.bridge.specs.Calls.{loopFrame, show, World, Did, checks, outcome, settledBy, refusedOr, step}
 use Rattle.bridge.specs.Calls as calls
 use Rattle.laws.specs.Observers.{taken, isFrame, dataFrame, equalReturn, isSend, asksStatus, statusSent, restarts, clears, arrived, lost, empties, any, isFlow}
 use Rattle.laws.specs.StatusWay.{endsWay, statusBack}
@@ -83,7 +84,8 @@ module _ (e : Event) where
 
   module _ (c : Call) (w : World) (a : Said) (t : State) where
     -- nothing is noted
-    left : empties c w a ≡ false → (Clear (w .state) → Clear t) → (endsWay c a ≡ false → eqb (w .state .role .talker) 3 ≡ true → On (w .state) t) → Noted c w a t
+    left : empties c w a ≡ false → (Clear (w .state) → Clear t) → (endsWay c a ≡ false → eqb (w .state .role .talker) 3 ≡ true → On (w .state) t) →
+        Noted c w a t
     left n f o = record { starts = λ q. absurd (false≢true (sym n ∙ q)); fresh = λ _. f; on = λ _. o }
 
     kept : empties c w a ≡ false → On (w .state) t → Noted c w a t
@@ -145,7 +147,8 @@ module _ (e : Event) (w : World) (f : ℕ) where
       left e (on (loopFrame f)) w _ _ (no-empties _ (m .clear)) (λ h. h)
       (λ _ k. absurd (false≢true (sym (busy-talking (w .state) f k .1) ∙ m .status)))
   frame-noted o (isBack m d) t =
-      left e (on (loopFrame f)) w _ _ (no-empties _ (m .clear)) (never-noted (w .state .notes .seen) (w .state .notes .again) (dataOf (w .state .under .frame)) e)
+      left e (on (loopFrame f)) w _ _ (no-empties _ (m .clear))
+      (never-noted (w .state .notes .seen) (w .state .notes .again) (dataOf (w .state .under .frame)) e)
       (λ n _. absurd (false≢true (sym n ∙ (λ i. d i || eqb (controlOf f) 4))))
   frame-noted o (isCleared m c) t = begun e (on (loopFrame f)) w _ _ ((λ i. isData f || c i) ∙ or-true (isData f)) (none-noted e)
   frame-noted o (isKept m d l) t =
@@ -200,7 +203,8 @@ refused-noted e (on nextLineByte) w n = kept e (on nextLineByte) w (refused n) _
 refused-noted e (on (loopFrame f)) w n = kept e (on (loopFrame f)) w (refused n) _ refl (unmoved e (w .state))
 refused-noted e (show side) w n = kept e (show side) w (refused n) _ refl (unmoved e (w .state))
 
-noted-or : (e : Event) (c : Call) (w : World) (n : ℕ) (d : Did) → (n ≡ 0 → Noted e c w (d .said) (d .world .state)) → Noted e c w (refusedOr n d w .said) (refusedOr n d w .world .state)
+noted-or : (e : Event) (c : Call) (w : World) (n : ℕ) (d : Did) → (n ≡ 0 → Noted e c w (d .said) (d .world .state)) →
+    Noted e c w (refusedOr n d w .said) (refusedOr n d w .world .state)
 noted-or e c w n d = or-refused (λ (x : Did). Noted e c w (x .said) (x .world .state)) n d w (refused-noted e c w n)
 
 notes : (e : Event) (c : Call) (w : World) → Noted e c w (answer c w) (after c w .state)
@@ -208,17 +212,31 @@ unfolding step calls.notRefused outcome settledBy said lineState breakState keyS
 notes e (create m) w = noted-or e (create m) w _ _ (λ _. begun e (create m) w done _ refl (none-noted e))
 notes e (on reset) w = noted-or e (on reset) w _ _ (λ _. settled-noted e (on reset) w done false _ (begun e (on reset) w done _ refl (none-noted e)))
 notes e (on (write n v)) w = noted-or e (on (write n v)) w _ _ (λ _. write-noted e w n v)
-notes e (on (lineByte b)) w = noted-or e (on (lineByte b)) w _ _ (λ _. line-noted e w b (isGoOrStop (w .state .regs) b) (full (w .state .sizes .rx) (w .state .rx)) refl refl)
+notes e (on (lineByte b)) w =
+    noted-or e (on (lineByte b)) w _ _ (λ _. line-noted e w b (isGoOrStop (w .state .regs) b) (full (w .state .sizes .rx) (w .state .rx)) refl refl)
 notes broken (on lineBreak) w = noted-or broken (on lineBreak) w _ _ (λ _. happened broken (on lineBreak) w done _ refl refl)
-notes overrun (on lineBreak) w = noted-or overrun (on lineBreak) w _ _ (λ _. settled-noted overrun (on lineBreak) w done false _ (kept overrun (on lineBreak) w done _ refl (record { talker = refl; frame = refl; seen = refl; again = refl })))
-notes pressed (on lineBreak) w = noted-or pressed (on lineBreak) w _ _ (λ _. settled-noted pressed (on lineBreak) w done false _ (kept pressed (on lineBreak) w done _ refl (record { talker = refl; frame = refl; seen = refl; again = refl })))
-notes broken (on key) w = noted-or broken (on key) w _ _ (λ _. settled-noted broken (on key) w done false _ (kept broken (on key) w done _ refl (record { talker = refl; frame = refl; seen = refl; again = refl })))
-notes overrun (on key) w = noted-or overrun (on key) w _ _ (λ _. settled-noted overrun (on key) w done false _ (kept overrun (on key) w done _ refl (record { talker = refl; frame = refl; seen = refl; again = refl })))
+notes overrun (on lineBreak) w =
+    noted-or overrun (on lineBreak) w _ _
+    (λ _. settled-noted overrun (on lineBreak) w done false _
+    (kept overrun (on lineBreak) w done _ refl (record { talker = refl; frame = refl; seen = refl; again = refl })))
+notes pressed (on lineBreak) w =
+    noted-or pressed (on lineBreak) w _ _
+    (λ _. settled-noted pressed (on lineBreak) w done false _
+    (kept pressed (on lineBreak) w done _ refl (record { talker = refl; frame = refl; seen = refl; again = refl })))
+notes broken (on key) w =
+    noted-or broken (on key) w _ _
+    (λ _. settled-noted broken (on key) w done false _
+    (kept broken (on key) w done _ refl (record { talker = refl; frame = refl; seen = refl; again = refl })))
+notes overrun (on key) w =
+    noted-or overrun (on key) w _ _
+    (λ _. settled-noted overrun (on key) w done false _
+    (kept overrun (on key) w done _ refl (record { talker = refl; frame = refl; seen = refl; again = refl })))
 notes pressed (on key) w = noted-or pressed (on key) w _ _ (λ _. happened pressed (on key) w done _ refl refl)
 notes e (on nextLineByte) w = noted-or e (on nextLineByte) w _ _ (λ _. gone-noted e w _ (nextOut (w .state) (w .tx)))
 notes e (on (loopFrame f)) w =
     noted-or e (on (loopFrame f)) w _ _
-    (λ x. settled-noted e (on (loopFrame f)) w _ (deviceClear (w .state) f) _ (frame-noted e w f _ (kind-of f w (frame-fits f w x)) (frame-answers (w .state) (w .rx) f)))
+    (λ x. settled-noted e (on (loopFrame f)) w _ (deviceClear (w .state) f) _
+    (frame-noted e w f _ (kind-of f w (frame-fits f w x)) (frame-answers (w .state) (w .rx) f)))
 notes e (show side) w = noted-or e (show side) w _ _ (λ _. kept e (show side) w _ _ refl (unmoved e (w .state)))
 
 pub not-at-start : (e : Event) → Obeys ours (NotAtStart e)
@@ -275,10 +293,12 @@ returned-clear e s rx f T D m q =
     let a : isActive (s .role) ≡ true = le-leb 2 (s .role .talker) (omega (arith, eqb-true (s .role .talker) 3 T)) in
     rw (D, a, m, T) q
 
-back : (e : Event) (g : ℕ) (w : World) (r : ℕ) → Way e g (w .state) → statusBack (g ∷ []) (on (loopFrame r)) (answer (on (loopFrame r)) w) ≡ true → Clear e (after (on (loopFrame r)) w .state)
+back : (e : Event) (g : ℕ) (w : World) (r : ℕ) → Way e g (w .state) → statusBack (g ∷ []) (on (loopFrame r)) (answer (on (loopFrame r)) w) ≡ true →
+    Clear e (after (on (loopFrame r)) w .state)
 unfolding statusBack step calls.notRefused outcome settledBy settled
 back e g w r y =
-    or-refused (λ (d : Did). (taken (d .said) && (isData r && sameApart r g)) ≡ true → Clear e (d .world .state)) (firstRefusal (checks (on (loopFrame r)) w)) (calls.notRefused (on (loopFrame r)) w) w
+    or-refused (λ (d : Did). (taken (d .said) && (isData r && sameApart r g)) ≡ true → Clear e (d .world .state))
+    (firstRefusal (checks (on (loopFrame r)) w)) (calls.notRefused (on (loopFrame r)) w) w
     (λ q. absurd (false≢true q))
     (λ _ q. by-cond (Clear e) (deviceClear (w .state) r) _ _ (λ _. come q) (λ _. come q))
   where
@@ -286,7 +306,8 @@ back e g w r y =
     come q =
         let p : (isData r && sameApart r g) ≡ true = and-right (taken (said (frameTaken (w .state) (w .rx) r .answer))) _ q in
         returned-clear e (w .state) (w .rx) r (y .talker) (and-left _ _ p)
-        (stripped-same r (w .state .under .frame) (same-stripped r g (and-right (isData r) _ p) ∙ ap stripped (y .frame) ∙ stripped-twice (w .state .under .frame)))
+        (stripped-same r (w .state .under .frame)
+        (same-stripped r g (and-right (isData r) _ p) ∙ ap stripped (y .frame) ∙ stripped-twice (w .state .under .frame)))
         (told-of e (w .state .notes .seen) (w .state .notes .again) (dataOf (w .state .under .frame)) (y .shown) (y .again))
 
 -- it is sent
@@ -311,10 +332,12 @@ no-head : (g : ℕ) (t : Bool) → _≡_ {A = List ℕ} (cond t [] []) (g ∷ []
 no-head g true q = let z : _≡_ {A = List ℕ} [] (g ∷ []) = q in false≢true (ap any z)
 no-head g false q = let z : _≡_ {A = List ℕ} [] (g ∷ []) = q in false≢true (ap any z)
 
-sent-way : (e : Event) (f g : ℕ) (w : World) → statusSent (on (loopFrame f)) w (answer (on (loopFrame f)) w) ≡ g ∷ [] → Way e g (after (on (loopFrame f)) w .state)
+sent-way : (e : Event) (f g : ℕ) (w : World) → statusSent (on (loopFrame f)) w (answer (on (loopFrame f)) w) ≡ g ∷ [] →
+    Way e g (after (on (loopFrame f)) w .state)
 unfolding statusSent step calls.notRefused outcome settledBy
 sent-way e f g w =
-    or-refused (λ (d : Did). cond (asksStatus (w .state) f) (dataFrame (d .said)) [] ≡ g ∷ [] → Way e g (d .world .state)) (firstRefusal (checks (on (loopFrame f)) w)) (calls.notRefused (on (loopFrame f)) w) w
+    or-refused (λ (d : Did). cond (asksStatus (w .state) f) (dataFrame (d .said)) [] ≡ g ∷ [] → Way e g (d .world .state))
+    (firstRefusal (checks (on (loopFrame f)) w)) (calls.notRefused (on (loopFrame f)) w) w
     (λ q. absurd (no-head g (asksStatus (w .state) f) q))
     (λ x q. settled-way e g (w .state) (deviceClear (w .state) f) _ (asked (asksStatus (w .state) f) refl (kind-of f w (frame-fits f w x)) q))
   where

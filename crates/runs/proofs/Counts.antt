@@ -15,7 +15,8 @@ use Rattle.store.specs.Bytes.{Bytes}
 use Rattle.laws.specs.Observers.{accepted, lost, sent, startsAnew}
 use Rattle.laws.specs.Worlds.{heldToSend}
 use Rattle.laws.specs.Counts.{wrapped, Small, CountsGo, CountsSince}
-use Rattle.runs.proofs.Shapes.{Seen, seen, Heart, heart, Shape, isStill, isBegun, isWritten, isCleared, isStored, isLost, isSent, isNone, isLeft, isHanded}
+use Rattle.runs.proofs.Shapes.{Seen, seen, Heart, heart, Shape, isStill, isBegun, isWritten}
+use Rattle.runs.proofs.Shapes.{isCleared, isStored, isLost, isSent, isNone, isLeft, isHanded}
 use Rattle.runs.proofs.View.{view}
 use Rattle.runs.proofs.Bytes.{sent-plain, held-all}
 use Rattle.runs.proofs.Sends.{seen-plain}
@@ -44,7 +45,8 @@ module _ (w : World) (S : Small w) where
         sent = none-more _ (S .sent) ∙ ap (λ k. wrapped (w .state .counts .sent + length k)) (sym s);
       }
 
-  stepped : (x : Seen) (h : Heart) (rx tx : List ℕ) → Shape w x h rx tx → x .startsAnew ≡ false → Bytes (heldToSend w) → Stepped x (w .state .counts) (h .counts)
+  stepped : (x : Seen) (h : Heart) (rx tx : List ℕ) → Shape w x h rx tx → x .startsAnew ≡ false → Bytes (heldToSend w) →
+      Stepped x (w .state .counts) (h .counts)
   unfolding storedWith sendHeld
   stepped x h rx tx isStill n B = same x refl refl refl
   stepped x h rx tx (isBegun m) n B = absurd (false≢true (sym n))
@@ -56,13 +58,15 @@ module _ (w : World) (S : Small w) where
       record {
         stored = none-more _ (S .stored);
         lost = none-more _ (S .lost);
-        sent = ap (λ k. wrapped (w .state .counts .sent + length k)) (sym (seen-plain (w .state) f (sent-plain (ruleOf (w .state .regs)) (heldToSend w) f r e B)));
+        sent = ap (λ k. wrapped (w .state .counts .sent + length k))
+            (sym (seen-plain (w .state) f (sent-plain (ruleOf (w .state .regs)) (heldToSend w) f r e B)));
       }
   stepped x h rx tx (isNone r F e) n B = same x refl refl refl
   stepped x h rx tx (isLeft l F e) n B = same x refl refl refl
   stepped x h rx tx (isHanded F e) n B = same x refl refl refl
 
-step-counts : (c : Call) (w : World) → startsAnew c w (answer c w) ≡ false → Bytes (heldToSend w) → Small w → Stepped (seen c w (answer c w)) (w .state .counts) (after c w .state .counts)
+step-counts : (c : Call) (w : World) → startsAnew c w (answer c w) ≡ false → Bytes (heldToSend w) → Small w →
+    Stepped (seen c w (answer c w)) (w .state .counts) (after c w .state .counts)
 step-counts c w n B S = stepped w S (seen c w (answer c w)) (heart (after c w .state)) (after c w .rx) (after c w .tx) (view c w) n B
 
 -- one call, and then the rest

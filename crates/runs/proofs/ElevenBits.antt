@@ -27,12 +27,14 @@ use Rattle.state.proofs.Fits.{rx-fits}
 use Rattle.line.specs.HoldingOff.{nextOut, outAnswer}
 use Rattle.loops.specs.Sending.{ruleOf, ended, removedState, sendState, sendFrom, sendStatus}
 use Rattle.loops.specs.Frames.{frameTaken}
-use Rattle.bridge.specs.Calls.{reset, write, lineByte, lineBreak, key, nextLineByte, loopFrame, Call, create, show, on, World, Did, checks, outcome, notRefused}
+use Rattle.bridge.specs.Calls.{reset, write, lineByte, lineBreak, key, nextLineByte, loopFrame, Call}
+use Rattle.bridge.specs.Calls.{create, show, on, World, Did, checks, outcome, notRefused}
 use Rattle.laws.specs.Demands.{isEleven, ElevenBits}
 use Rattle.laws.proofs.Small.{given-small}
 use Rattle.laws.proofs.Refusing.{by-refusal, frame-fitting}
 use Rattle.runs.proofs.Answered.{status-small}
-use Rattle.laws.proofs.Ways.{Way, isNext, isBack, isLast, isDamaged, isStored, isPassed, isCleared, isObeyed, isAssigned, isSendAsked, isTold, isFinishing, isReady, isIdentified, way}
+use Rattle.laws.proofs.Ways.{Way, isNext, isBack, isLast, isDamaged, isStored, isPassed, isCleared}
+use Rattle.laws.proofs.Ways.{isObeyed, isAssigned, isSendAsked, isTold, isFinishing, isReady, isIdentified, way}
 use Rattle.runs.proofs.Steps.{ours}
 
 -- an answer that is a frame of 11 bits
@@ -109,7 +111,8 @@ done-small (on nextLineByte) w b e = out-told (nextOut (w .state) (w .tx))
 done-small (on (loopFrame f)) w b e =
     let x = frame-fitting f w e in
     by-frame (frameTaken (w .state) (w .rx) f .answer)
-    (frame-small (w .state) (w .rx) (rx-fits (w .state) (w .rx) (w .tx) (x .0) .ring) b f (omega (arith, ltb-false 2047 f (x .1 .0))) (frameTaken (w .state) (w .rx) f) (way (w .state) (w .rx) f))
+    (frame-small (w .state) (w .rx) (rx-fits (w .state) (w .rx) (w .tx) (x .0) .ring) b f (omega (arith, ltb-false 2047 f (x .1 .0)))
+    (frameTaken (w .state) (w .rx) f) (way (w .state) (w .rx) f))
 
 pub eleven-bits : Obeys ours ElevenBits
 eleven-bits c w b = by-refusal (λ (d : Did). isEleven (d .said) ≡ true) c w (done-small c w b) (λ _. refl)

@@ -13,7 +13,8 @@ use Rattle.state.specs.declared.State.{State}
 use Rattle.state.specs.Answers.{Said, said, refused}
 use Rattle.state.specs.Status.{settled, breakState, keyState}
 use Rattle.line.specs.HoldingOff.{isGoOrStop, flowed, lostState, storedState, lineState}
-use Rattle.bridge.specs.Calls.{Call, on, create, reset, write, lineByte, lineBreak, key, nextLineByte, loopFrame, show, World, Did, outcome, settledBy, refusedOr, step}
+use Rattle.bridge.specs.Calls.{Call, on, create, reset, write, lineByte, lineBreak, key, nextLineByte}
+use Rattle.bridge.specs.Calls.{loopFrame, show, World, Did, outcome, settledBy, refusedOr, step}
 use Rattle.bridge.specs.Calls as calls
 use Rattle.laws.specs.Observers.{isFlow, arrived, lost, empties, any}
 use Rattle.laws.specs.StatusWay.{endsWay, newest, underWay, statusBack}
@@ -39,7 +40,8 @@ module _ (e : Event) where
   told c w a p l (goesOn q n k) m b t =
       record {
         note = k .seen e (t .note);
-        way = λ h g. (λ i. newest (q i) (cond (n i) [] l)) ∙ t .way (not-again h) (ap (λ (x : ℕ). eqb x 3) (sym (k .talker)) ∙ g) ∙ ap (λ (x : ℕ). stripped x ∷ []) (sym (k .frame));
+        way = λ h g. (λ i. newest (q i) (cond (n i) [] l)) ∙ t .way (not-again h) (ap (λ (x : ℕ). eqb x 3) (sym (k .talker)) ∙ g) ∙
+            ap (λ (x : ℕ). stripped x ∷ []) (sym (k .frame));
       }
     where
       not-again : noted e (p .again) ≡ false → noted e (w .state .notes .again) ≡ false
@@ -77,7 +79,8 @@ unless-refused e c w n d r k =
     (λ _. k)
     (λ _ h. absurd (r h))
 
-line-lost : (s : State) (b : ℕ) (t u : Bool) → any (cond u (cond (not t) (b ∷ []) []) []) ≡ true → Noted overrun (part (cond t (flowed s b) (cond u (lostState s) (storedState s))))
+line-lost : (s : State) (b : ℕ) (t u : Bool) → any (cond u (cond (not t) (b ∷ []) []) []) ≡ true →
+    Noted overrun (part (cond t (flowed s b) (cond u (lostState s) (storedState s))))
 unfolding lostState
 line-lost s b true true h = absurd (false≢true h)
 line-lost s b true false h = absurd (false≢true h)

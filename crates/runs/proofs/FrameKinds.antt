@@ -77,18 +77,28 @@ module _ (s : State) (f : ℕ) where
   abbrev asks : ℕ → Bool
   asks n = eqb (dataOf f) n && eqb (s .role .talker) 1
 
-  data-marks : isData f ≡ true → (a l m p e : Bool) → isActive (s .role) ≡ a → s .role .listener ≡ l → sameApart f (s .under .frame) ≡ m → eqb (s .role .talker) 2 ≡ p →
+  data-marks : isData f ≡ true → (a l m p e : Bool) → isActive (s .role) ≡ a → s .role .listener ≡ l → sameApart f (s .under .frame) ≡ m →
+      eqb (s .role .talker) 2 ≡ p →
       s .under .finishing ≡ e → Marks s f ((a && m) && (p && not e)) false (not a) false l
   unfolding isSend equalReturn asksStatus passesOn deviceClear
   data-marks D a l m p e ha hl hm hp he =
       let no-5 : eqb (controlOf f) 5 ≡ false = ne-eqb (controlOf f) 5 (λ h. omega (arith, ltb-true (controlOf f) 4 D)) in
       let no-4 : eqb (controlOf f) 4 ≡ false = ne-eqb (controlOf f) 4 (λ h. omega (arith, ltb-true (controlOf f) 4 D)) in
       let no-id : ltb 5 (controlOf f) ≡ false = le-ltb 5 (controlOf f) (omega (arith, ltb-true (controlOf f) 4 D)) in
-      record { send = simp (no-5, D, ha, hm, hp, he); status = simp no-5; passes = simp (D, ha, no-id) (or-false (not a)); clear = simp no-4; adds = simp (D, hl) }
+      record {
+        send = simp (no-5, D, ha, hm, hp, he);
+        status = simp no-5;
+        passes = simp (D, ha, no-id) (or-false (not a));
+        clear = simp no-4;
+        adds =
+            simp (D, hl);
+      }
 
-  other-marks : isData f ≡ false → (r x y i c : Bool) → eqb (controlOf f) 5 ≡ r → asks 96 ≡ x → asks 97 ≡ y → ltb 5 (controlOf f) ≡ i → deviceClear s f ≡ c → Marks s f (r && x) (r && y) i c false
+  other-marks : isData f ≡ false → (r x y i c : Bool) → eqb (controlOf f) 5 ≡ r → asks 96 ≡ x → asks 97 ≡ y → ltb 5 (controlOf f) ≡ i → deviceClear s f ≡ c →
+      Marks s f (r && x) (r && y) i c false
   unfolding isSend equalReturn asksStatus passesOn
-  other-marks D r x y i c hr hx hy hi hc = record { send = simp (hr, D, hx) (or-false (r && x)); status = simp (hr, hy); passes = simp (D, hi); clear = hc; adds = simp D }
+  other-marks D r x y i c hr hx hy hi hc =
+      record { send = simp (hr, D, hx) (or-false (r && x)); status = simp (hr, hy); passes = simp (D, hi); clear = hc; adds = simp D }
 
   order-marks : ways.Commanding f → (c : Bool) → isClear (orderIn s f) ≡ c → Marks s f false false false c false
   unfolding deviceClear
@@ -99,7 +109,9 @@ module _ (s : State) (f : ℕ) where
 
   ready-marks : ways.Readying f → (x y : Bool) → asks 96 ≡ x → asks 97 ≡ y → Marks s f x y false false false
   unfolding deviceClear
-  ready-marks r x y hx hy = other-marks (r .isdata) true x y false false (r .five) hx hy (le-ltb 5 (controlOf f) (omega (arith, eqb-true (controlOf f) 5 (r .five)))) (simp (r .four))
+  ready-marks r x y hx hy =
+      other-marks (r .isdata) true x y false false (r .five) hx hy (le-ltb 5 (controlOf f) (omega (arith, eqb-true (controlOf f) 5 (r .five))))
+      (simp (r .four))
 
   not-asked : (n : ℕ) → (dataOf f ≡ n → ⊥) → asks n ≡ false
   not-asked n h = λ i. ne-eqb (dataOf f) n h i && eqb (s .role .talker) 1
@@ -111,7 +123,14 @@ module _ (s : State) (f : ℕ) where
   unfolding ended talking
   ended-other r d h =
       let on : (isData f || eqb (controlOf f) 4) ≡ true = λ i. r .isdata i || eqb (controlOf f) 4 in
-      record { heart = refl; line = refl; notes = refl; answer = λ _. le-ltb (controlOf (made 5 d)) 4 (omega arith); way = λ n. absurd (false≢true (sym n ∙ on)) }
+      record {
+        heart = refl;
+        line = refl;
+        notes = refl;
+        answer = λ _. le-ltb (controlOf (made 5 d)) 4 (omega arith);
+        way =
+            λ n. absurd (false≢true (sym n ∙ on));
+      }
 
   module _ (R : role-fit.Fit (s .role)) where
     -- an active talker is no listener, and sends data where it does not send status
@@ -129,26 +148,33 @@ module _ (s : State) (f : ℕ) where
     frame-kind : (rx : List ℕ) (o : Outcome) → ways.Way s rx f o → Kind s rx f o
     unfolding ended obeyed finishing
     frame-kind rx o (ways.isNext r m k e) = isSent (return-marks r true true false m (two r k) e)
-    frame-kind rx o (ways.isBack r m k) = isBack (return-marks r true false _ m (ne-eqb (s .role .talker) 2 (λ h. omega (arith, eqb-true (s .role .talker) 3 k))) refl) (r .isdata)
-    frame-kind rx o (ways.isLast r m k e) = isOther (ended s 64 .state) (made 5 64) false (return-marks r true true true m (two r k) e) (ended-other r 64 (omega arith))
-    frame-kind rx o (ways.isDamaged r m) = isOther (ended s 65 .state) (made 5 65) false (return-marks r false _ _ m refl refl) (ended-other r 65 (omega arith))
+    frame-kind rx o (ways.isBack r m k) =
+        isBack (return-marks r true false _ m (ne-eqb (s .role .talker) 2 (λ h. omega (arith, eqb-true (s .role .talker) 3 k))) refl) (r .isdata)
+    frame-kind rx o (ways.isLast r m k e) =
+        isOther (ended s 64 .state) (made 5 64) false (return-marks r true true true m (two r k) e) (ended-other r 64 (omega arith))
+    frame-kind rx o (ways.isDamaged r m) =
+        isOther (ended s 65 .state) (made 5 65) false (return-marks r false _ _ m refl refl) (ended-other r 65 (omega arith))
     frame-kind rx o (ways.isStored r l) = isKept (data-marks (r .isdata) false true _ _ _ (r .idle) l refl refl refl) (r .isdata) l
-    frame-kind rx o (ways.isPassed r l) = isOther s (serviced s f) true (data-marks (r .isdata) false false _ _ _ (r .idle) l refl refl refl) (kept true _ (λ e. absurd (false≢true (sym e))))
+    frame-kind rx o (ways.isPassed r l) =
+        isOther s (serviced s f) true (data-marks (r .isdata) false false _ _ _ (r .idle) l refl refl refl) (kept true _ (λ e. absurd (false≢true (sym e))))
     frame-kind rx o (ways.isCleared r c) = isCleared (order-marks r true c) (r .four)
     frame-kind rx o (ways.isObeyed r c) =
         isOther (obeyed s (orderIn s f)) f false (order-marks r false c)
         (record { heart = refl; line = refl; notes = refl; answer = λ _. r .isdata; way = λ n. absurd (false≢true (sym n ∙ (λ i. r .isdata i || r .four i))) })
     frame-kind rx o (ways.isAssigned r a) =
         isOther (withRole s (assignedRole (s .role) (dataOf f))) (made 5 (dataOf f + 1)) false
-        (ready-marks r false false (not-asked 96 (address-high (s .role) (dataOf f) 96 (omega arith) a)) (not-asked 97 (address-high (s .role) (dataOf f) 97 (omega arith) a)))
+        (ready-marks r false false (not-asked 96 (address-high (s .role) (dataOf f) 96 (omega arith) a))
+        (not-asked 97 (address-high (s .role) (dataOf f) 97 (omega arith) a)))
         (record { heart = refl; line = refl; notes = refl; answer = λ _. le-ltb (controlOf (made 5 (dataOf f + 1))) 4 (omega arith); way = λ _. (refl, refl) })
     frame-kind rx o (ways.isSendAsked r a x) = isSent (ready-marks r true false x (not-asked 97 (λ h. omega (arith, eqb-true (dataOf f) 96 (and-left _ _ x)))))
     frame-kind rx o (ways.isTold r a x y) = isStatus (ready-marks r false true x y)
     frame-kind rx o (ways.isFinishing r a x y z) =
-        isOther (finishing s) f false (ready-marks r false false x y) (record { heart = refl; line = refl; notes = refl; answer = λ _. r .isdata; way = λ _. (refl, refl) })
+        isOther (finishing s) f false (ready-marks r false false x y)
+        (record { heart = refl; line = refl; notes = refl; answer = λ _. r .isdata; way = λ _. (refl, refl) })
     frame-kind rx o (ways.isReady r a x y z) = isOther s f false (ready-marks r false false x y) (kept false f (λ _. r .isdata))
     frame-kind rx o (ways.isIdentified r) =
-        isOther s (serviced s f) (ltb 5 (controlOf f)) (other-marks (r .isdata) false _ _ _ false (r .five) refl refl refl (unfold deviceClear in simp (r .four)))
+        isOther s (serviced s f) (ltb 5 (controlOf f))
+        (other-marks (r .isdata) false _ _ _ false (r .five) refl refl refl (unfold deviceClear in simp (r .four)))
         (kept _ _ (λ _. serviced-kind s f ∙ r .isdata))
 
 -- a send passes nothing on and is no asking for status
@@ -162,7 +188,8 @@ send-alone s f e = go (isData f) (isActive (s .role)) refl refl
         let q : (eqb (controlOf f) 5 && asks s f 96) ≡ true = sym (other-marks s f D _ _ _ _ _ refl refl refl refl refl .send) ∙ e in
         let five = eqb-true (controlOf f) 5 (and-left _ _ q) in
         let d = eqb-true (dataOf f) 96 (and-left _ _ (and-right (eqb (controlOf f) 5) _ q)) in
-        let m = other-marks s f D true _ false false _ (and-left _ _ q) refl (not-asked s f 97 (λ h. omega arith)) (le-ltb 5 (controlOf f) (omega arith)) refl in
+        let m = other-marks s f D true _ false false _ (and-left _ _ q) refl (not-asked s f 97 (λ h. omega arith))
+        (le-ltb 5 (controlOf f) (omega arith)) refl in
         λ i. m .passes i || m .status i
 
 pub role-fits : (w : World) → Fits w → role-fit.Fit (w .state .role)

@@ -47,7 +47,8 @@ module _ (w : World) (f : ℕ) where
   marked n x y p c l h tx m q sh =
       quietly (on (loopFrame f)) w (said (Frame n)) h (w .rx) tx refl
       (subst (λ z. Shape w z h (w .rx) tx)
-      (λ i. frames ((sym q ∙ (λ j. cond (sym (m .passes) j || sym (m .status) j) [] (dataFrame (said (Frame n))))) i) (cond (sym (m .adds) i) (adds (w .state .regs) f) []) (sym (m .clear) i))
+      (λ i. frames ((sym q ∙ (λ j. cond (sym (m .passes) j || sym (m .status) j) [] (dataFrame (said (Frame n))))) i)
+      (cond (sym (m .adds) i) (adds (w .state .regs) f) []) (sym (m .clear) i))
       sh)
 
   -- a send
@@ -55,7 +56,8 @@ module _ (w : World) (f : ℕ) where
   unfolding sendFrom sendState ended talking removedState resumed said
   send-shape F m = go (sendHeld (ruleOf (w .state .regs)) (w .rx) (w .state .rx)) refl
     where
-      go : (x : Sent ℕ ℕ) → sendHeld (ruleOf (w .state .regs)) (w .rx) (w .state .rx) ≡ x → FrameShaped w f (w .tx) (sendState (w .state) (removedState (w .state) (w .rx)) (givenOf x))
+      go : (x : Sent ℕ ℕ) → sendHeld (ruleOf (w .state .regs)) (w .rx) (w .state .rx) ≡ x →
+          FrameShaped w f (w .tx) (sendState (w .state) (removedState (w .state) (w .rx)) (givenOf x))
       go (none r) e = marked (made 5 64) _ _ _ _ _ _ (w .tx) m refl (isNone r F e)
       go (one g r) e = marked (status.serviced (w .state) g) _ _ _ _ _ _ (w .tx) m refl (isSent g r F e)
 
@@ -87,19 +89,24 @@ module _ (w : World) (F : Fits w) (f : ℕ) (B : busy (w .state) f ≡ false) wh
   other-sent t n true x = refl
   other-sent t n false x = no-data n (x .answer refl)
 
-  by-kind : (o : Outcome) → Kind (w .state) (w .rx) f o → FrameShaped w f (cond (isData f && w .state .role .listener) (addedBytes (w .state) (w .tx) f) (w .tx)) o
+  by-kind : (o : Outcome) → Kind (w .state) (w .rx) f o →
+      FrameShaped w f (cond (isData f && w .state .role .listener) (addedBytes (w .state) (w .tx) f) (w .tx)) o
   unfolding sendStatus ended talking cleared obeyed addedState addedBytes status.afterStatus status.afterStatusBack said
   by-kind o (kinds.isSent m) = rw (m .adds) (send-shape w f F m)
   by-kind o (kinds.isStatus m) = rw (m .adds) (marked w f _ _ _ _ _ _ _ _ m refl isStill)
   by-kind o (kinds.isBack m d) = rw (m .adds) (marked w f (made 5 64) _ _ _ _ _ _ _ m refl isStill)
-  by-kind o (kinds.isCleared m c) = rw (m .adds) (marked w f _ _ _ _ _ _ _ _ m (no-data f (le-ltb (controlOf f) 4 (omega (arith, eqb-true (controlOf f) 4 c)))) isCleared)
+  by-kind o (kinds.isCleared m c) =
+      rw (m .adds) (marked w f _ _ _ _ _ _ _ _ m (no-data f (le-ltb (controlOf f) 4 (omega (arith, eqb-true (controlOf f) 4 c)))) isCleared)
   by-kind o (kinds.isKept m d l) = rw (m .adds) (marked w f _ _ _ _ _ _ _ _ m refl (isLeft (adds (w .state .regs) f) F (room d l)))
-  by-kind o (kinds.isOther t n p m x) = rw (m .adds) (subst (λ z. Shape w (seen (on (loopFrame f)) w (said (Frame n))) z (w .rx) (w .tx)) (sym (x .heart)) (marked w f n _ _ p _ _ _ _ m (other-sent t n p x) isStill))
+  by-kind o (kinds.isOther t n p m x) =
+      rw (m .adds) (subst (λ z. Shape w (seen (on (loopFrame f)) w (said (Frame n))) z (w .rx) (w .tx)) (sym (x .heart))
+      (marked w f n _ _ p _ _ _ _ m (other-sent t n p x) isStill))
 
   frame-taken : FrameShaped w f (frameBytes (w .state) (w .tx) f) (frameTaken (w .state) (w .rx) f)
   unfolding frameBytes
   frame-taken =
-      subst (λ l. FrameShaped w f (cond l (addedBytes (w .state) (w .tx) f) (w .tx)) (frameTaken (w .state) (w .rx) f)) (sym stores) (by-kind _ (kind-of f w F))
+      subst (λ l. FrameShaped w f (cond l (addedBytes (w .state) (w .tx) f) (w .tx)) (frameTaken (w .state) (w .rx) f)) (sym stores)
+      (by-kind _ (kind-of f w F))
 
   pub frame-shape : Shaped w (on (loopFrame f)) (calls.notRefused (on (loopFrame f)) w)
   unfolding calls.notRefused outcome settledBy rxAfter txAfter settled
@@ -109,6 +116,7 @@ module _ (w : World) (F : Fits w) (f : ℕ) (B : busy (w .state) f ≡ false) wh
       o = frameTaken (w .state) (w .rx) f
 
       by-clear : (t : Bool) → FrameShaped w f (frameBytes (w .state) (w .tx) f) o →
-          Shape w (seen (on (loopFrame f)) w (said (o .answer))) (heart (cond t (o .state) (settled (w .state) (o .state)))) (w .rx) (frameBytes (w .state) (w .tx) f)
+          Shape w (seen (on (loopFrame f)) w (said (o .answer))) (heart (cond t (o .state) (settled (w .state) (o .state)))) (w .rx)
+          (frameBytes (w .state) (w .tx) f)
       by-clear true x = x
       by-clear false x = x

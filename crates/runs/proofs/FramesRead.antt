@@ -20,7 +20,8 @@ use Rattle.laws.proofs.Fitting.{keeps-bytes}
 use Rattle.laws.specs.Observers.{changes}
 use Rattle.laws.specs.Worlds.{heldToSend, reading}
 use Rattle.laws.specs.Demands.{lineToLoop, FramesRead}
-use Rattle.runs.proofs.Shapes.{Seen, seen, Heart, heart, Fits, Shape, isStill, isBegun, isWritten, isCleared, isStored, isLost, isSent, isNone, isLeft, isHanded}
+use Rattle.runs.proofs.Shapes.{Seen, seen, Heart, heart, Fits, Shape, isStill, isBegun}
+use Rattle.runs.proofs.Shapes.{isWritten, isCleared, isStored, isLost, isSent, isNone, isLeft, isHanded}
 use Rattle.runs.proofs.View.{view}
 use Rattle.runs.proofs.Bytes.{held-all, sent-plain}
 use Rattle.runs.proofs.Sends.{held-sent, seen-plain}

@@ -20,11 +20,13 @@ use Rattle.state.specs.Answers.{Said, said, done, refused}
 use Rattle.state.specs.Sizes.{startState}
 use Rattle.state.specs.Status.{settled, breakState, keyState}
 use Rattle.state.specs.Status as state-status
-use Rattle.line.specs.HoldingOff.{isGoOrStop, flowed, free, lostState, storedWith, storedState, lineState, lineBytes, resumed, setAfresh, afterWrite, nextOut, goneState, outAnswer}
+use Rattle.line.specs.HoldingOff.{isGoOrStop, flowed, free, lostState, storedWith, storedState, lineState}
+use Rattle.line.specs.HoldingOff.{lineBytes, resumed, setAfresh, afterWrite, nextOut, goneState, outAnswer}
 use Rattle.loops.specs.LoopToLine.{addedState}
 use Rattle.loops.specs.Sending.{ruleOf, removedState, sendState, sendFrom, sendStatus, talking, ended}
 use Rattle.loops.specs.Frames.{cleared, frameTaken, deviceClear}
-use Rattle.bridge.specs.Calls.{Call, on, create, reset, write, lineByte, lineBreak, key, nextLineByte, loopFrame, show, World, Did, outcome, settledBy, rxAfter, txAfter, refusedOr, step}
+use Rattle.bridge.specs.Calls.{Call, on, create, reset, write, lineByte, lineBreak, key, nextLineByte, loopFrame}
+use Rattle.bridge.specs.Calls.{show, World, Did, outcome, settledBy, rxAfter, txAfter, refusedOr, step}
 use Rattle.bridge.specs.Calls as calls
 use Rattle.laws.specs.Observers.{taken, isSend, arrived, accepted, restarts, clears, empties, any, isFlow}
 use Rattle.laws.specs.Holding.{sends, writesR11, holdingAfter, HoldingGoes}
@@ -51,7 +53,8 @@ record Unseen (c : Call) (w : World) (a : Said) : Type 0 where
   writes : writesR11 c a ≡ false
   byte : afterByte (w .state .line .forbidden) c w a ≡ w .state .line .forbidden
 
-same : (c : Call) (w : World) (d : Did) → Unseen c w (d .said) → d .world .state .line .holding ≡ w .state .line .holding → d .world .state .line .forbidden ≡ w .state .line .forbidden →
+same : (c : Call) (w : World) (d : Did) → Unseen c w (d .said) → d .world .state .line .holding ≡ w .state .line .holding →
+    d .world .state .line .forbidden ≡ w .state .line .forbidden →
     Goes c w d
 unfolding holdingAfter forbiddenAfter accepted
 same c w d u h f =
@@ -76,7 +79,9 @@ goes-or : (c : Call) (w : World) (n : ℕ) (d : Did) → (n ≡ 0 → Goes c w d
 goes-or c w n d = or-refused (Goes c w) n d w (same c w (record { said = refused n; world = w }) (refused-unseen c w n) refl refl)
 
 -- a byte to the line
-gone-goes : (w : World) (o : Out) → Goes (on nextLineByte) w (record { said = said (outAnswer o); world = record { state = settled (w .state) (goneState (w .state) o); rx = w .rx; tx = w .tx } })
+gone-goes : (w : World) (o : Out) →
+    Goes (on nextLineByte) w
+    (record { said = said (outAnswer o); world = record { state = settled (w .state) (goneState (w .state) o); rx = w .rx; tx = w .tx } })
 unfolding goneState outAnswer said settled arrived restarts clears sends afterByte
 gone-goes w (out.Own b) = same (on nextLineByte) w _ (record { empties = refl; arrived = refl; sends = refl; writes = refl; byte = refl }) refl refl
 gone-goes w (out.Held b) = same (on nextLineByte) w _ (record { empties = refl; arrived = refl; sends = refl; writes = refl; byte = refl }) refl refl
@@ -84,7 +89,9 @@ gone-goes w out.Nothing = same (on nextLineByte) w _ (record { empties = refl; a
 
 -- ---- line bytes
 
-line-goes : (w : World) (b : ℕ) → Goes (on (lineByte b)) w (record { said = done; world = record { state = settled (w .state) (lineState (w .state) b); rx = lineBytes (w .state) (w .rx) b; tx = w .tx } })
+line-goes : (w : World) (b : ℕ) →
+    Goes (on (lineByte b)) w
+    (record { said = done; world = record { state = settled (w .state) (lineState (w .state) b); rx = lineBytes (w .state) (w .rx) b; tx = w .tx } })
 unfolding holdingAfter forbiddenAfter afterByte accepted arrived restarts clears isFlow isGoOrStop sends lineState flowed lostState storedWith settled
 line-goes w b =
     record {
@@ -100,7 +107,8 @@ line-goes w b =
 
     holding-by : (t u : Bool) →
         state t u .line .holding
-        ≡ cond (any (cond u [] (cond (not t) (b ∷ []) []))) (s .line .holding || (protocolOn (s .regs) && leb (free (state t u)) (s .sizes .margin))) (s .line .holding)
+        ≡ cond (any (cond u [] (cond (not t) (b ∷ []) []))) (s .line .holding || (protocolOn (s .regs) && leb (free (state t u)) (s .sizes .margin)))
+        (s .line .holding)
     holding-by true true = refl
     holding-by true false = refl
     holding-by false true = refl
@@ -113,7 +121,13 @@ line-goes w b =
 
 -- ---- register writes
 
-write-goes : (w : World) (n v : ℕ) → Goes (on (write n v)) w (record { said = done; world = record { state = settled (w .state) (afterWrite (w .state) n (written (w .state .regs) n v)); rx = w .rx; tx = w .tx } })
+write-goes : (w : World) (n v : ℕ) →
+    Goes (on (write n v)) w
+    (record {
+      said = done;
+      world =
+          record { state = settled (w .state) (afterWrite (w .state) n (written (w .state .regs) n v)); rx = w .rx; tx = w .tx };
+    })
 unfolding holdingAfter forbiddenAfter afterByte accepted arrived restarts clears sends afterWrite setAfresh settled
 write-goes w n v =
     record {
@@ -124,7 +138,9 @@ write-goes w n v =
     g : State
     g = withRegisters (w .state) (written (w .state .regs) n v)
 
-    holding-by : (x : Bool) → cond x (setAfresh g) g .line .holding ≡ cond x (protocolOn (cond x (setAfresh g) g .regs) && leb (free (w .state)) (w .state .sizes .margin)) (w .state .line .holding)
+    holding-by : (x : Bool) →
+        cond x (setAfresh g) g .line .holding ≡
+        cond x (protocolOn (cond x (setAfresh g) g .regs) && leb (free (w .state)) (w .state .sizes .margin)) (w .state .line .holding)
     holding-by true = refl
     holding-by false = refl
 
@@ -155,7 +171,8 @@ module _ (s : State) (rx : List ℕ) (f : ℕ) where
   by-kind o (isBack m d) = rw (m .clear, m .send) (record { holding = refl; forbidden = refl })
   by-kind o (isCleared m c) = rw (m .clear, m .send) (record { holding = refl; forbidden = refl })
   by-kind o (isKept m d l) = rw (m .clear, m .send) (record { holding = refl; forbidden = refl })
-  by-kind o (isOther t n p m x) = rw (m .clear, m .send) (record { holding = ap (λ (l : Line). l .holding) (x .line); forbidden = ap (λ (l : Line). l .forbidden) (x .line) })
+  by-kind o (isOther t n p m x) =
+      rw (m .clear, m .send) (record { holding = ap (λ (l : Line). l .holding) (x .line); forbidden = ap (λ (l : Line). l .forbidden) (x .line) })
 
   settled-framed : (x y t : Bool) (u : State) → Framed x y u → Framed x y (cond t u (settled s u))
   unfolding settled
@@ -182,11 +199,14 @@ goes (create m) w = goes-or (create m) w _ _ (λ _. record { holding = refl; for
 goes (on reset) w = goes-or (on reset) w _ _ (λ _. record { holding = refl; forbidden = refl })
 goes (on (write n v)) w = goes-or (on (write n v)) w _ _ (λ _. write-goes w n v)
 goes (on (lineByte b)) w = goes-or (on (lineByte b)) w _ _ (λ _. line-goes w b)
-goes (on lineBreak) w = goes-or (on lineBreak) w _ _ (λ _. same (on lineBreak) w _ (record { empties = refl; arrived = refl; sends = refl; writes = refl; byte = refl }) refl refl)
-goes (on key) w = goes-or (on key) w _ _ (λ _. same (on key) w _ (record { empties = refl; arrived = refl; sends = refl; writes = refl; byte = refl }) refl refl)
+goes (on lineBreak) w =
+    goes-or (on lineBreak) w _ _ (λ _. same (on lineBreak) w _ (record { empties = refl; arrived = refl; sends = refl; writes = refl; byte = refl }) refl refl)
+goes (on key) w =
+    goes-or (on key) w _ _ (λ _. same (on key) w _ (record { empties = refl; arrived = refl; sends = refl; writes = refl; byte = refl }) refl refl)
 goes (on nextLineByte) w = goes-or (on nextLineByte) w _ _ (λ _. gone-goes w (nextOut (w .state) (w .tx)))
 goes (on (loopFrame f)) w = goes-or (on (loopFrame f)) w _ _ (λ e. frame-goes w f (frame-fits f w e))
-goes (show side) w = goes-or (show side) w _ _ (λ _. same (show side) w _ (record { empties = refl; arrived = refl; sends = refl; writes = refl; byte = refl }) refl refl)
+goes (show side) w =
+    goes-or (show side) w _ _ (λ _. same (show side) w _ (record { empties = refl; arrived = refl; sends = refl; writes = refl; byte = refl }) refl refl)
 
 pub holding-goes : Obeys ours HoldingGoes
 holding-goes c w B = goes c w .holding

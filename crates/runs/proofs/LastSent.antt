@@ -29,7 +29,8 @@ use Rattle.line.specs.HoldingOff.{isGoOrStop, flowed, lostState, storedWith, li
 use Rattle.loops.specs.LoopToLine.{addedState}
 use Rattle.loops.specs.Sending.{ruleOf, removedState, sendState, sendFrom, sendStatus, talking, ended}
 use Rattle.loops.specs.Frames.{obeyed, cleared, deviceClear}
-use Rattle.bridge.specs.Calls.{Call, on, create, reset, write, lineByte, lineBreak, key, nextLineByte, loopFrame, show, World, Did, outcome, settledBy, refusedOr, step}
+use Rattle.bridge.specs.Calls.{Call, on, create, reset, write, lineByte, lineBreak, key, nextLineByte}
+use Rattle.bridge.specs.Calls.{loopFrame, show, World, Did, outcome, settledBy, refusedOr, step}
 use Rattle.bridge.specs.Calls as calls
 use Rattle.laws.specs.Observers.{restarts, startsAnew}
 use Rattle.laws.specs.LastSent.{afterOwn, lastOf, recorded, LastKept, LastSince}
@@ -107,8 +108,11 @@ module _ (w : World) where
       differ : go (w .state .regs) ≡ stop (w .state .regs) → ⊥
       differ = fit-differ (w .state .regs) (tests (w .state) (length (w .rx)) (length (w .tx)) F .regs)
 
-      by-tests : (t u : Bool) → owed (w .state .line) ≡ t → NextKept (cond t (Own (cond (w .state .line .holding) (stop g) (go g))) (cond u Nothing (Held first)))
-      by-tests true u e = own-character (w .state .line .holding) (go g) (stop g) differ ∙ (λ i. cond (sym e i) (afterOwn (recorded w) w (cond (w .state .line .holding) (stop g) (go g) ∷ [])) (recorded w))
+      by-tests : (t u : Bool) → owed (w .state .line) ≡ t →
+          NextKept (cond t (Own (cond (w .state .line .holding) (stop g) (go g))) (cond u Nothing (Held first)))
+      by-tests true u e =
+          own-character (w .state .line .holding) (go g) (stop g) differ ∙
+          (λ i. cond (sym e i) (afterOwn (recorded w) w (cond (w .state .line .holding) (stop g) (go g) ∷ [])) (recorded w))
       by-tests false true e = λ i. cond (sym e i) (recorded w) (recorded w)
       by-tests false false e = λ i. cond (sym e i) (afterOwn (recorded w) w (first ∷ [])) (recorded w)
 

@@ -16,7 +16,8 @@ use Rattle.bridge.specs.Calls.{Call, World}
 use Rattle.laws.specs.Observers.{added, empties}
 use Rattle.laws.specs.Worlds.{heldForLine}
 use Rattle.laws.specs.LineBytes.{loopToLine, LineKept, LineSince}
-use Rattle.runs.proofs.Shapes.{Seen, seen, Heart, heart, Fits, Shape, isStill, isBegun, isWritten, isCleared, isStored, isLost, isSent, isNone, isLeft, isHanded}
+use Rattle.runs.proofs.Shapes.{Seen, seen, Heart, heart, Fits, Shape, isStill, isBegun}
+use Rattle.runs.proofs.Shapes.{isWritten, isCleared, isStored, isLost, isSent, isNone, isLeft, isHanded}
 use Rattle.runs.proofs.View.{view}
 use Rattle.runs.proofs.Runs.{first-not}
 use Rattle.runs.proofs.Steps.{answer, after, all, Without, ours}

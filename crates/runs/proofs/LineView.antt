@@ -43,7 +43,8 @@ module _ (w : World) (F : Fits w) (b : ℕ) where
 -- ---- line bytes out
 
 module _ (w : World) (F : Fits w) where
-  pub next-shape : Shape w (seen (on nextLineByte) w (said (outAnswer (nextOut (w .state) (w .tx))))) (heart (goneState (w .state) (nextOut (w .state) (w .tx)))) (w .rx) (w .tx)
+  pub next-shape : Shape w (seen (on nextLineByte) w (said (outAnswer (nextOut (w .state) (w .tx)))))
+      (heart (goneState (w .state) (nextOut (w .state) (w .tx)))) (w .rx) (w .tx)
   unfolding arrived sent added handedOut restarts writes clears nextOut goneState outAnswer said
   next-shape =
       quietly (on nextLineByte) w _ _ _ _ refl (by-tests (owed (w .state .line)) (w .state .line .forbidden || eqb (w .state .tx .len) 0) refl refl)
@@ -52,7 +53,8 @@ module _ (w : World) (F : Fits w) where
       own = cond (w .state .line .holding) (stop (w .state .regs)) (go (w .state .regs))
 
       out : Bool → Bool → Out
-      out t u = cond t (Own (cond (w .state .line .holding) (stop (w .state .regs)) (go (w .state .regs)))) (cond u Nothing (Held (getD (held (w .tx) (w .state .tx)) 0 0)))
+      out t u = cond t (Own (cond (w .state .line .holding) (stop (w .state .regs)) (go (w .state .regs))))
+          (cond u Nothing (Held (getD (held (w .tx) (w .state .tx)) 0 0)))
 
       by-tests : (t u : Bool) → owed (w .state .line) ≡ t → (w .state .line .forbidden || eqb (w .state .tx .len) 0) ≡ u →
           Shape w (quiet (on nextLineByte) w (said (outAnswer (out t u)))) (heart (goneState (w .state) (out t u))) (w .rx) (w .tx)
@@ -62,13 +64,15 @@ module _ (w : World) (F : Fits w) where
 
 -- ---- register writes
 
-pub write-shape : (w : World) (n v : ℕ) → Shape w (seen (on (write n v)) w done) (heart (afterWrite (w .state) n (written (w .state .regs) n v))) (w .rx) (w .tx)
+pub write-shape : (w : World) (n v : ℕ) →
+    Shape w (seen (on (write n v)) w done) (heart (afterWrite (w .state) n (written (w .state .regs) n v))) (w .rx) (w .tx)
 unfolding arrived sent added handedOut restarts writes clears afterWrite setAfresh
 write-shape w n v = quietly (on (write n v)) w done _ _ _ refl (by-test (eqb n 11))
   where
     g : Registers
     g = written (w .state .regs) n v
 
-    by-test : (t : Bool) → Shape w (quiet (on (write n v)) w done) (heart (cond t (setAfresh (withRegisters (w .state) g)) (withRegisters (w .state) g))) (w .rx) (w .tx)
+    by-test : (t : Bool) →
+        Shape w (quiet (on (write n v)) w done) (heart (cond t (setAfresh (withRegisters (w .state) g)) (withRegisters (w .state) g))) (w .rx) (w .tx)
     by-test true = isWritten g _
     by-test false = isWritten g _

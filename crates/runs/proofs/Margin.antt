@@ -21,7 +21,8 @@ use Rattle.laws.specs.Observers.{arrived, lost, changes}
 use Rattle.laws.specs.Worlds.{holdsOff}
 use Rattle.laws.specs.Spells.{AtMost}
 use Rattle.laws.specs.Demands.{NoneLost}
-use Rattle.runs.proofs.Shapes.{Seen, seen, Heart, heart, Fits, Shape, isStill, isBegun, isWritten, isCleared, isStored, isLost, isSent, isNone, isLeft, isHanded}
+use Rattle.runs.proofs.Shapes.{Seen, seen, Heart, heart, Fits, Shape, isStill, isBegun}
+use Rattle.runs.proofs.Shapes.{isWritten, isCleared, isStored, isLost, isSent, isNone, isLeft, isHanded}
 use Rattle.runs.proofs.View.{view}
 use Rattle.runs.proofs.Sends.{sent-less}
 use Rattle.runs.proofs.Runs.{first-not}
@@ -88,12 +89,14 @@ some-margin w F = go (w .state .sizes .margin) (length (w .rx)) (length (w .tx))
 
 -- what a send leaves free
 sent-room : (w : World) (m k : ℕ) → Fits w → Calm m k (heart (w .state)) →
-    Room (removedState (w .state) (w .rx) .line .holding) m (count (holdsOff w) k 0) (w .state .sizes .rx - sentRing (ruleOf (w .state .regs)) (w .rx) (w .state .rx) .len)
+    Room (removedState (w .state) (w .rx) .line .holding) m (count (holdsOff w) k 0)
+    (w .state .sizes .rx - sentRing (ruleOf (w .state .regs)) (w .rx) (w .state .rx) .len)
 unfolding removedState resumed
 sent-room w m k F c =
     let r = sentRing (ruleOf (w .state .regs)) (w .rx) (w .state .rx) in
     let less : r .len ≤ w .state .rx .len = sent-less (ruleOf (w .state .regs)) (w .rx) (w .state .rx) (rx-fits (w .state) (w .rx) (w .tx) F .ring) in
-    send-room (holdsOff w) m (w .state .sizes .margin) k (free (w .state)) (w .state .sizes .rx - r .len) (omega (arith, some-margin w F, c .margin)) (c .margin) (omega arith) (c .room)
+    send-room (holdsOff w) m (w .state .sizes .margin) k (free (w .state)) (w .state .sizes .rx - r .len) (omega (arith, some-margin w F, c .margin))
+    (c .margin) (omega arith) (c .room)
 
 calm : (w : World) (x : Seen) (h : Heart) (rx tx : List ℕ) → Shape w x h rx tx → x .changes ≡ false → (m k : ℕ) → Calm m k (heart (w .state)) →
     Within (holdsOff w) m (k + length (x .arrived)) → (x .lost ≡ []) × Calm m (count (holdsOff w) k (length (x .arrived))) h
@@ -107,7 +110,8 @@ calm w x h rx tx (isStored b F l) n m k c i = (
   record {
     on = c .on;
     margin = c .margin;
-    room = store-room (holdsOff w) (protocolOn (w .state .regs)) m (w .state .sizes .margin) k (free (w .state)) _ (c .on) (c .margin) (omega (arith, ring-len (w .state .sizes .rx) (w .state .rx) l)) (c .room);
+    room = store-room (holdsOff w) (protocolOn (w .state .regs)) m (w .state .sizes .margin) k (free (w .state)) _ (c .on) (c .margin)
+        (omega (arith, ring-len (w .state .sizes .rx) (w .state .rx) l)) (c .room);
   },
 )
 calm w x h rx tx (isLost b l) n m k c i = absurd (never-full (holdsOff w) m k (free (w .state)) (omega arith) (c .room) i)
@@ -126,7 +130,9 @@ unfolding run.spells machine.course
 first-spell m k [] w h a = subst (λ t. AtMost m (cond t (k ∷ []) [])) h a .0
 first-spell m k (c ∷ cs) w h a =
     go (first-spell m (k + more c w) cs (after c w)) (holdsOff (after c w)) refl
-    (subst (λ t. AtMost m (cond t (cond (holdsOff (after c w)) (spells (k + more c w) cs (after c w)) ((k + more c w) ∷ spells 0 cs (after c w))) (spells 0 cs (after c w)))) h a)
+    (subst (λ t.
+    AtMost m (cond t (cond (holdsOff (after c w)) (spells (k + more c w) cs (after c w)) ((k + more c w) ∷ spells 0 cs (after c w)))
+    (spells 0 cs (after c w)))) h a)
   where
     go : (holdsOff (after c w) ≡ true → AtMost m (spells (k + more c w) cs (after c w)) → k + more c w ≤ m) → (t : Bool) → holdsOff (after c w) ≡ t →
         AtMost m (cond t (spells (k + more c w) cs (after c w)) ((k + more c w) ∷ spells 0 cs (after c w))) → k ≤ m
@@ -138,8 +144,12 @@ no-spell : (m k : ℕ) (cs : List Call) (w : World) → holdsOff w ≡ false →
 unfolding run.spells machine.course
 no-spell m k [] w h a = subst (λ t. AtMost m (cond t (k ∷ []) [])) (sym h) tt
 no-spell m k (c ∷ cs) w h a =
-    subst (λ t. AtMost m (cond t (cond (holdsOff (after c w)) (spells (k + more c w) cs (after c w)) ((k + more c w) ∷ spells 0 cs (after c w))) (spells 0 cs (after c w)))) (sym h)
-    (subst (λ t. AtMost m (cond t (cond (holdsOff (after c w)) (spells (0 + more c w) cs (after c w)) ((0 + more c w) ∷ spells 0 cs (after c w))) (spells 0 cs (after c w)))) h a)
+    subst (λ t. AtMost m
+    (cond t (cond (holdsOff (after c w)) (spells (k + more c w) cs (after c w)) ((k + more c w) ∷ spells 0 cs (after c w)))
+    (spells 0 cs (after c w)))) (sym h)
+    (subst (λ t.
+    AtMost m (cond t (cond (holdsOff (after c w)) (spells (0 + more c w) cs (after c w)) ((0 + more c w) ∷ spells 0 cs (after c w)))
+    (spells 0 cs (after c w)))) h a)
 
 module _ (m k : ℕ) (c : Call) (cs : List Call) (w : World) where
   abbrev Spells : Bool → Bool → List ℕ

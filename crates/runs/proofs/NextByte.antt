@@ -31,13 +31,15 @@ module _ (w : World) (F : Fits w) where
   -- by whether our own character is owed and our sending forbidden, and what is held
   out-given : said (outAnswer (nextOut (w .state) (w .tx))) ≡ nextGiven w
   unfolding nextOut outAnswer said nextGiven
-  out-given = by-tests (owed (w .state .line)) (w .state .line .forbidden) (held (w .tx) (w .state .tx)) (held-length (w .tx) (w .state .tx) (tx-fits (w .state) (w .rx) (w .tx) F .ring))
+  out-given = by-tests (owed (w .state .line)) (w .state .line .forbidden) (held (w .tx) (w .state .tx))
+      (held-length (w .tx) (w .state .tx) (tx-fits (w .state) (w .rx) (w .tx) F .ring))
     where
       own : ℕ
       own = cond (w .state .line .holding) (stop (w .state .regs)) (go (w .state .regs))
 
       by-tests : (t u : Bool) (l : List ℕ) → length l ≡ w .state .tx .len →
-          said (outAnswer (cond t (Own own) (cond (u || eqb (w .state .tx .len) 0) Nothing (Held (getD l 0 0))))) ≡ cond t (byte own) (cond u none (oldestOf l))
+          said (outAnswer (cond t (Own own) (cond (u || eqb (w .state .tx .len) 0) Nothing (Held (getD l 0 0))))) ≡
+          cond t (byte own) (cond u none (oldestOf l))
       by-tests true u l e = refl
       by-tests false true l e = refl
       by-tests false false [] e = rw (sym e)
@@ -46,7 +48,8 @@ module _ (w : World) (F : Fits w) where
 given : (w : World) → taken (answer (on nextLineByte) w) ≡ true → answer (on nextLineByte) w ≡ nextGiven w
 unfolding step calls.notRefused outcome
 given w =
-    if-taken (λ (d : Did). d .said ≡ nextGiven w) (firstRefusal (checks (on nextLineByte) w)) (calls.notRefused (on nextLineByte) w) w (λ e. out-given w (next-fits w e))
+    if-taken (λ (d : Did). d .said ≡ nextGiven w) (firstRefusal (checks (on nextLineByte) w)) (calls.notRefused (on nextLineByte) w) w
+    (λ e. out-given w (next-fits w e))
 
 pub next-given : Obeys ours NextGiven
 next-given c w B = at-call (λ c. taken (answer c w) ≡ true → answer c w ≡ nextGiven w) (on nextLineByte) (given w) c
@@ -55,7 +58,8 @@ pub own-given : Obeys ours OwnGiven
 unfolding nextGiven
 own-given c cs d w B j k b m =
     at-call (λ d. taken (answer d v) ≡ true → owes (lastSent false cs (after c w)) v ≡ true → answer d v ≡ byte (ownCharacter v)) (on nextLineByte)
-    (at-left (λ v. taken (answer (on nextLineByte) v) ≡ true → owes (lastSent false cs (after c w)) v ≡ true → answer (on nextLineByte) v ≡ byte (ownCharacter v)) cs (after c w)
+    (at-left (λ v. taken (answer (on nextLineByte) v) ≡ true → owes (lastSent false cs (after c w)) v ≡ true →
+    answer (on nextLineByte) v ≡ byte (ownCharacter v)) cs (after c w)
     (λ t o. given (end cs (after c w)) t ∙ cond-true _ _ _ (ap (λ k. owes k (end cs (after c w))) (last-since c cs w B j k b m) ∙ o)))
     d
   where

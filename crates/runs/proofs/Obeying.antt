@@ -44,14 +44,17 @@ module _ (r : Role) where
         remote = cond (b147 || loc) false (cond l (r .remote || r .enabled) (r .remote));
       }
 
-  by-tests : (d : ℕ) (l t u b63 b144 b154 b146 b147 loc : Bool) → Tests r d l t u b63 b144 b154 b146 b147 loc → by l t u b63 b144 b154 b146 b147 loc ≡ commanded r d
+  by-tests : (d : ℕ) (l t u b63 b144 b154 b146 b147 loc : Bool) → Tests r d l t u b63 b144 b154 b146 b147 loc →
+      by l t u b63 b144 b154 b146 b147 loc ≡ commanded r d
   unfolding commanded
   by-tests d l t u b63 b144 b154 b146 b147 loc q =
-      λ i. by (sym (q .listens) i) (sym (q .talks) i) (sym (q .untalks) i) (sym (q .is63) i) (sym (q .is144) i) (sym (q .is154) i) (sym (q .is146) i) (sym (q .is147) i) (sym (q .local) i)
+      λ i. by (sym (q .listens) i) (sym (q .talks) i) (sym (q .untalks) i) (sym (q .is63) i) (sym (q .is144) i) (sym (q .is154) i) (sym (q .is146) i)
+      (sym (q .is147) i) (sym (q .local) i)
 
   module _ (A : r .address ≤ 31) (d : ℕ) where
     -- a listen or talk address is none of the other bytes
-    among : 32 ≤ d → d < 96 → (l t u b63 : Bool) → listens r d ≡ l → talks r d ≡ t → untalks r d ≡ u → eqb d 63 ≡ b63 → Tests r d l t u b63 false false false false false
+    among : 32 ≤ d → d < 96 → (l t u b63 : Bool) → listens r d ≡ l → talks r d ≡ t → untalks r d ≡ u → eqb d 63 ≡ b63 →
+        Tests r d l t u b63 false false false false false
     among lo hi l t u b63 p q s e =
         record {
           listens = p;
@@ -66,7 +69,8 @@ module _ (r : Role) where
         }
 
     -- below 32, or 96 and above, it is neither
-    beside : (d < 32) ⊎ (96 ≤ d) → (b144 b154 b146 b147 loc : Bool) → eqb d 144 ≡ b144 → eqb d 154 ≡ b154 → eqb d 146 ≡ b146 → eqb d 147 ≡ b147 → (eqb d 1 && r .listener) ≡ loc →
+    beside : (d < 32) ⊎ (96 ≤ d) → (b144 b154 b146 b147 loc : Bool) → eqb d 144 ≡ b144 → eqb d 154 ≡ b154 → eqb d 146 ≡ b146 → eqb d 147 ≡ b147 →
+        (eqb d 1 && r .listener) ≡ loc →
         Tests r d false false false false b144 b154 b146 b147 loc
     beside h b144 b154 b146 b147 loc p1 p2 p3 p4 p5 =
         let out : (k : ℕ) → 32 ≤ k → k < 96 → d ≡ k → ⊥ = λ k lo hi e. ⊎-elim (λ x. omega arith) (λ x. omega arith) h in
@@ -101,11 +105,13 @@ module _ (r : Role) where
         (λ n. by-cond P (eqb (d % 32) (ownAddress 31 r)) _ _
         (λ m. let k : d % 32 ≡ r .address = eqb-true (d % 32) (ownAddress 31 r) m ∙ own-31 r in let o = eqb-false (d % 32) 31 n in
         by-tests d true false false false false false false false false
-        (among (omega arith) (omega arith) true false false false (λ i. eq-eqb d (32 + r .address) (omega arith) i && not (ne-eqb (r .address) 31 (λ h. omega arith) i)) not-talks not-untalks
+        (among (omega arith) (omega arith) true false false false
+        (λ i. eq-eqb d (32 + r .address) (omega arith) i && not (ne-eqb (r .address) 31 (λ h. omega arith) i)) not-talks not-untalks
         (ne-eqb d 63 (λ h. omega arith))))
         (λ m. let k : d % 32 ≡ r .address → ⊥ = (λ h. eqb-false (d % 32) (ownAddress 31 r) m (h ∙ sym (own-31 r))) in let o = eqb-false (d % 32) 31 n in
         by-tests d false false false false false false false false false
-        (among (omega arith) (omega arith) false false false false (λ i. ne-eqb d (32 + r .address) (λ h. k (omega arith)) i && not (eqb (r .address) 31)) not-talks not-untalks
+        (among (omega arith) (omega arith) false false false false
+        (λ i. ne-eqb d (32 + r .address) (λ h. k (omega arith)) i && not (eqb (r .address) 31)) not-talks not-untalks
         (ne-eqb d 63 (λ h. omega arith)))))
       where
         -- 63 is no listen address: n would be 31
@@ -126,10 +132,12 @@ module _ (r : Role) where
         by-cond P (eqb (d % 32) (ownAddress 31 r) && not (eqb (d % 32) 31)) _ _
         (λ h.
         by-tests d false true false false false false false false false
-        (among (omega arith) (omega arith) false true false false not-listens (is-talk h) ((λ i. (leb 64 d && ltb d 96) && not (is-talk h i)) ∙ and-false (leb 64 d && ltb d 96)) (ne-eqb d 63 (λ x. omega arith))))
+        (among (omega arith) (omega arith) false true false false not-listens (is-talk h)
+        ((λ i. (leb 64 d && ltb d 96) && not (is-talk h i)) ∙ and-false (leb 64 d && ltb d 96)) (ne-eqb d 63 (λ x. omega arith))))
         (λ h.
         by-tests d false false true false false false false false false
-        (among (omega arith) (omega arith) false false true false not-listens (no-talk h) (λ i. (le-leb 64 d (omega arith) i && lt-ltb d 96 (omega arith) i) && not (no-talk h i)) (ne-eqb d 63 (λ x. omega arith))))
+        (among (omega arith) (omega arith) false false true false not-listens (no-talk h)
+        (λ i. (le-leb 64 d (omega arith) i && lt-ltb d 96 (omega arith) i) && not (no-talk h i)) (ne-eqb d 63 (λ x. omega arith))))
       where
         not-listens : listens r d ≡ false
         not-listens = λ i. ne-eqb d (32 + r .address) (λ h. omega arith) i && not (eqb (r .address) 31)
@@ -152,13 +160,23 @@ module _ (r : Role) where
         by-cond P (eqb d 20 || (eqb d 4 && r .listener)) _ _
         (λ e. low (clear-low e))
         (λ _. by-cond P (eqb d 144) _ _
-        (λ e. let k = eqb-true d 144 e in by-tests d _ _ _ _ true false false false false (beside h true false false false false e (no 154 (omega arith)) (no 146 (omega arith)) (no 147 (omega arith)) (not-local (omega arith))))
+        (λ e. let k =
+        eqb-true d 144 e in
+        by-tests d _ _ _ _ true false false false false
+        (beside h true false false false false e (no 154 (omega arith)) (no 146 (omega arith)) (no 147 (omega arith)) (not-local (omega arith))))
         (λ a. by-cond P (eqb d 146) _ _
-        (λ e. let k = eqb-true d 146 e in by-tests d _ _ _ _ false false true false false (beside h false false true false false a (no 154 (omega arith)) e (no 147 (omega arith)) (not-local (omega arith))))
+        (λ e. let k =
+        eqb-true d 146 e in
+        by-tests d _ _ _ _ false false true false false
+        (beside h false false true false false a (no 154 (omega arith)) e (no 147 (omega arith)) (not-local (omega arith))))
         (λ b. by-cond P (eqb d 147) _ _
-        (λ e. let k = eqb-true d 147 e in by-tests d _ _ _ _ false false false true false (beside h false false false true false a (no 154 (omega arith)) b e (not-local (omega arith))))
+        (λ e. let k =
+        eqb-true d 147 e in
+        by-tests d _ _ _ _ false false false true false (beside h false false false true false a (no 154 (omega arith)) b e (not-local (omega arith))))
         (λ c. by-cond P (eqb d 1 && r .listener) _ _
-        (λ e. let k = eqb-true d 1 (and-left _ _ e) in by-tests d _ _ _ _ false false false false true (beside h false false false false true a (no 154 (omega arith)) b c e))
+        (λ e. let k =
+        eqb-true d 1 (and-left _ _ e) in
+        by-tests d _ _ _ _ false false false false true (beside h false false false false true a (no 154 (omega arith)) b c e))
         (λ l. by-cond P (eqb d 154) _ _
         (λ e. by-tests d _ _ _ _ false true false false false (beside h false true false false false a e b c l))
         (λ e. by-tests d _ _ _ _ false false false false false (beside h false false false false false a e b c l)))))))
@@ -180,7 +198,8 @@ module _ (r : Role) where
         low x =
             let y = x .0 in
             by-tests d _ _ _ _ false false false false false
-            (beside (inl y) false false false false false (no 144 (λ z. omega arith)) (no 154 (λ z. omega arith)) (no 146 (λ z. omega arith)) (no 147 (λ z. omega arith)) (not-local (x .1)))
+            (beside (inl y) false false false false false (no 144 (λ z. omega arith)) (no 154 (λ z. omega arith)) (no 146 (λ z. omega arith))
+            (no 147 (λ z. omega arith)) (not-local (x .1)))
 
     -- the order is obeyed as the paper's list says
     pub obeyed-right : obeyedRole r (orderOf 31 r d) ≡ commanded r d

@@ -22,7 +22,8 @@ use Rattle.laws.specs.Observers.{taken, passesOn, isAsked}
 use Rattle.laws.specs.Roles.{assigns}
 use Rattle.laws.specs.Passing.{asFrame, PassedOn, FramesPass}
 use Rattle.runs.proofs.Refusals.{if-taken}
-use Rattle.laws.proofs.Ways.{Way, Returning, Arriving, Commanding, Readying, Identifying, isNext, isBack, isLast, isDamaged, isStored, isPassed, isCleared, isObeyed, isAssigned, isSendAsked, isTold, isFinishing, isReady, isIdentified, way}
+use Rattle.laws.proofs.Ways.{Way, Returning, Arriving, Commanding, Readying, Identifying, isNext, isBack, isLast, isDamaged, isStored}
+use Rattle.laws.proofs.Ways.{isPassed, isCleared, isObeyed, isAssigned, isSendAsked, isTold, isFinishing, isReady, isIdentified, way}
 use Rattle.runs.proofs.Steps.{answer, ours, at-call}
 
 -- the address that is given, by the numbers
@@ -53,7 +54,9 @@ module _ (w : World) (f : ℕ) where
     returns r =
         record {
           command = λ h. absurd (omega (arith, ltb-true (controlOf f) 4 (r .isdata)));
-          passes = λ h. absurd (false≢true (sym (λ i. (r .isdata i && not (r .active i)) || le-ltb 5 (controlOf f) (omega (arith, ltb-true (controlOf f) 4 (r .isdata))) i) ∙ h));
+          passes = λ h.
+              absurd (false≢true
+              (sym (λ i. (r .isdata i && not (r .active i)) || le-ltb 5 (controlOf f) (omega (arith, ltb-true (controlOf f) 4 (r .isdata))) i) ∙ h));
           address = λ h. absurd (omega (arith, ltb-true (controlOf f) 4 (r .isdata)));
           ready = λ h. absurd (omega (arith, ltb-true (controlOf f) 4 (r .isdata)));
         }
@@ -74,7 +77,10 @@ module _ (w : World) (f : ℕ) where
     commands r e =
         record {
           command = λ _. e;
-          passes = λ h. absurd (false≢true (sym (λ i. (r .isdata i && not (isActive (w .state .role))) || le-ltb 5 (controlOf f) (omega (arith, eqb-true (controlOf f) 4 (r .four))) i) ∙ h));
+          passes = λ h.
+              absurd (false≢true
+              (sym (λ i. (r .isdata i && not (isActive (w .state .role))) ||
+              le-ltb 5 (controlOf f) (omega (arith, eqb-true (controlOf f) 4 (r .four))) i) ∙ h));
           address = λ h. absurd (omega (arith, eqb-true (controlOf f) 4 (r .four)));
           ready = λ h. absurd (omega (arith, eqb-true (controlOf f) 4 (r .four)));
         }
@@ -96,7 +102,10 @@ module _ (w : World) (f : ℕ) where
     readies r x y =
         record {
           command = λ h. absurd (true≢false (sym (eq-eqb (controlOf f) 4 h) ∙ r .four));
-          passes = λ h. absurd (false≢true (sym (λ i. (r .isdata i && not (isActive (w .state .role))) || le-ltb 5 (controlOf f) (omega (arith, eqb-true (controlOf f) 5 (r .five))) i) ∙ h));
+          passes = λ h.
+              absurd (false≢true
+              (sym (λ i. (r .isdata i && not (isActive (w .state .role))) ||
+              le-ltb 5 (controlOf f) (omega (arith, eqb-true (controlOf f) 5 (r .five))) i) ∙ h));
           address = λ _ h. x (sym (assigns-same (w .state .role) (dataOf f)) ∙ h);
           ready = λ _ h. y (sym (assigns-same (w .state .role) (dataOf f)) ∙ h);
         }
@@ -126,7 +135,8 @@ module _ (w : World) (f : ℕ) where
   pass-way o (isSendAsked r a x) =
       readies _ r (λ n. absurd (true≢false (sym n ∙ a))) (λ _ n. absurd (true≢false (sym (λ i. asked r 96 x i || isAsked 97 (w .state) f) ∙ n)))
   pass-way o (isTold r a x y) =
-      readies _ r (λ n. absurd (true≢false (sym n ∙ a))) (λ _ n. absurd (true≢false (sym (or-true (isAsked 96 (w .state) f)) ∙ (λ i. isAsked 96 (w .state) f || sym (asked r 97 y) i) ∙ n)))
+      readies _ r (λ n. absurd (true≢false (sym n ∙ a)))
+      (λ _ n. absurd (true≢false (sym (or-true (isAsked 96 (w .state) f)) ∙ (λ i. isAsked 96 (w .state) f || sym (asked r 97 y) i) ∙ n)))
   pass-way o (isFinishing r a x y z) = readies _ r (λ n. absurd (true≢false (sym n ∙ a))) (λ _ _. refl)
   pass-way o (isReady r a x y z) = readies _ r (λ n. absurd (true≢false (sym n ∙ a))) (λ _ _. refl)
   pass-way o (isIdentified r) = identifies _ r refl

@@ -44,7 +44,8 @@ module _ (c : Call) (w : World) (a : Said) (e : arrived c w a ≡ []) where
   unfolding lost
   none-lost = rw e (same-either (full (w .state .sizes .rx) (w .state .rx)) [])
 
-pub quietly : (c : Call) (w : World) (a : Said) (h : Heart) (rx tx : List ℕ) → arrived c w a ≡ [] → Shape w (quiet c w a) h rx tx → Shape w (seen c w a) h rx tx
+pub quietly : (c : Call) (w : World) (a : Said) (h : Heart) (rx tx : List ℕ) → arrived c w a ≡ [] → Shape w (quiet c w a) h rx tx →
+    Shape w (seen c w a) h rx tx
 quietly c w a h rx tx e = subst (λ x. Shape w x h rx tx) same
   where
     same : quiet c w a ≡ seen c w a

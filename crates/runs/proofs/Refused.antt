@@ -18,7 +18,8 @@ use Rattle.bridge.specs.Calls.{on, create, reset, write, lineByte, lineBreak, k
 use Rattle.bridge.specs.Calls as calls
 use Rattle.laws.specs.Observers.{taken, isFrame}
 use Rattle.laws.specs.Demands.{RefusedStays, OneFrameOut}
-use Rattle.laws.proofs.Ways.{Way, isNext, isBack, isLast, isDamaged, isStored, isPassed, isCleared, isObeyed, isAssigned, isSendAsked, isTold, isFinishing, isReady, isIdentified, way}
+use Rattle.laws.proofs.Ways.{Way, isNext, isBack, isLast, isDamaged, isStored, isPassed, isCleared}
+use Rattle.laws.proofs.Ways.{isObeyed, isAssigned, isSendAsked, isTold, isFinishing, isReady, isIdentified, way}
 use Rattle.runs.proofs.Refusals.{or-refused, if-taken}
 use Rattle.runs.proofs.Steps.{after, ours, answer, at-call}
 use Rattle.machine.specs.Machine.{Obeys}
@@ -94,5 +95,6 @@ pub one-frame-out : Obeys ours OneFrameOut
 unfolding step calls.notRefused outcome
 one-frame-out c w B f =
     at-call (λ c. taken (answer c w) ≡ true → isFrame (answer c w) ≡ true) (on (loopFrame f))
-    (if-taken (λ (d : Did). isFrame (d .said) ≡ true) (firstRefusal (checks (on (loopFrame f)) w)) (calls.notRefused (on (loopFrame f)) w) w (λ _. frame-answers (w .state) (w .rx) f))
+    (if-taken (λ (d : Did). isFrame (d .said) ≡ true) (firstRefusal (checks (on (loopFrame f)) w)) (calls.notRefused (on (loopFrame f)) w) w
+    (λ _. frame-answers (w .state) (w .rx) f))
     c

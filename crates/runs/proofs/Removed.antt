@@ -24,7 +24,8 @@ use Rattle.line.specs.HoldingOff.{isGoOrStop, flowed, lostState, storedState, s
 use Rattle.loops.specs.LoopToLine.{addedState}
 use Rattle.loops.specs.Sending.{talking, ended, sendStatus}
 use Rattle.loops.specs.Frames.{deviceClear}
-use Rattle.bridge.specs.Calls.{OnState, reset, write, lineByte, lineBreak, key, nextLineByte, loopFrame, Call, create, show, on, World, Did, checks, outcome, settledBy, rxAfter, notRefused}
+use Rattle.bridge.specs.Calls.{OnState, reset, write, lineByte, lineBreak, key, nextLineByte, loopFrame, Call, create}
+use Rattle.bridge.specs.Calls.{show, on, World, Did, checks, outcome, settledBy, rxAfter, notRefused}
 use Rattle.laws.specs.Observers.{onFrame, isSend, isFlow, arrived, accepted, restarts, clears, empties}
 use Rattle.laws.specs.Worlds.{heldToSend}
 use Rattle.laws.specs.SendRule.{NoneRemoved}
@@ -73,7 +74,8 @@ unfolding flowed lostState storedWith
 line-held w F b true true e = sym (append-nil (heldToSend w))
 line-held w F b true false e = sym (append-nil (heldToSend w))
 line-held w F b false true e =
-    ap (λ (l : List ℕ). held l (w .state .rx)) (put-full (w .rx) (w .state .rx) b (omega (arith, leb-true (w .state .sizes .rx) (w .state .rx .len) e, rx-fits (w .state) (w .rx) (w .tx) F .size)))
+    ap (λ (l : List ℕ). held l (w .state .rx))
+    (put-full (w .rx) (w .state .rx) b (omega (arith, leb-true (w .state .sizes .rx) (w .state .rx .len) e, rx-fits (w .state) (w .rx) (w .tx) F .size)))
     ∙ sym (append-nil (heldToSend w))
 line-held w F b false false e = held-stored w b F (leb-false (w .state .sizes .rx) (w .state .rx .len) e)
 

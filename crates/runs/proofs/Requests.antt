@@ -25,7 +25,8 @@ use Rattle.line.specs.HoldingOff.{isGoOrStop, flowed, lostState, storedWith, li
 use Rattle.loops.specs.LoopToLine.{addedState}
 use Rattle.loops.specs.Sending.{sendFrom, sendStatus, talking, ended}
 use Rattle.loops.specs.Frames.{passed, cleared, frameTaken, deviceClear}
-use Rattle.bridge.specs.Calls.{Call, on, create, reset, write, lineByte, lineBreak, key, nextLineByte, loopFrame, show, World, Did, checks, outcome, settledBy, refusedOr, step}
+use Rattle.bridge.specs.Calls.{Call, on, create, reset, write, lineByte, lineBreak, key, nextLineByte}
+use Rattle.bridge.specs.Calls.{loopFrame, show, World, Did, checks, outcome, settledBy, refusedOr, step}
 use Rattle.bridge.specs.Calls as calls
 use Rattle.laws.specs.Observers.{taken, dataFrame, asksStatus, statusSent, restarts, clears, empties, any}
 use Rattle.laws.specs.Worlds.{requested}
@@ -52,14 +53,18 @@ no-comes false = refl
 
 no-begins : (c : Conditions) → status.begins c c ≡ false
 no-begins c =
-    λ i. (((((no-comes (c .txempty) i || no-comes (c .txnotfull) i) || no-comes (c .rxnotempty) i) || no-comes (c .rxfull) i) || no-comes (c .brk) i) || no-comes (c .overrun) i) || no-comes (c .key) i
+    λ i. (((((no-comes (c .txempty) i || no-comes (c .txnotfull) i) || no-comes (c .rxnotempty) i) || no-comes (c .rxfull) i) || no-comes (c .brk) i) ||
+    no-comes (c .overrun) i) || no-comes (c .key) i
 
 -- what a call did, with requests settled
 abbrev Goes : Call → World → Did → Type 0
-Goes c w d = d .world .state .notes .request ≡ ((w .state .notes .request && not (any (statusSent c w (d .said)))) || status.begins (asking (w .state)) (asking (d .world .state)))
+Goes c w d =
+    d .world .state .notes .request ≡
+    ((w .state .notes .request && not (any (statusSent c w (d .said)))) || status.begins (asking (w .state)) (asking (d .world .state)))
 
 quiet : (c : Call) (w : World) (a : Said) (t : State) → t .notes .request ≡ (w .state .notes .request && not (any (statusSent c w a))) →
-    settled (w .state) t .notes .request ≡ ((w .state .notes .request && not (any (statusSent c w a))) || status.begins (asking (w .state)) (asking (settled (w .state) t)))
+    settled (w .state) t .notes .request ≡
+    ((w .state .notes .request && not (any (statusSent c w a))) || status.begins (asking (w .state)) (asking (settled (w .state) t)))
 unfolding settled asking conditions
 quiet c w a t e = λ i. e i || status.begins (both (enabledBy (w .state .regs)) (conditions (w .state))) (both (enabledBy (t .regs)) (conditions t))
 
@@ -85,7 +90,8 @@ line-kept s b = by-cond Same (isGoOrStop (s .regs) b) _ _ (λ _. refl) (λ _. by
     Same : State → Type 0
     Same t = t .notes .request ≡ s .notes .request
 
-write-kept : (s : State) (n : ℕ) (t u : State) → t .notes .request ≡ s .notes .request → u .notes .request ≡ s .notes .request → cond (eqb n 11) t u .notes .request ≡ s .notes .request
+write-kept : (s : State) (n : ℕ) (t u : State) → t .notes .request ≡ s .notes .request → u .notes .request ≡ s .notes .request →
+    cond (eqb n 11) t u .notes .request ≡ s .notes .request
 write-kept s n t u p q = by-cond (λ (x : State). x .notes .request ≡ s .notes .request) (eqb n 11) t u (λ _. p) (λ _. q)
 
 -- ---- loop frames
@@ -101,7 +107,8 @@ module _ (s : State) (rx : List ℕ) (f : ℕ) where
   request-kind : (o : Outcome) → Kind s rx f o → deviceClear s f ≡ false → Request o
   unfolding sendStatus talking ended addedState state-status.afterStatus state-status.afterStatusBack
   request-kind o (isSent m) n = stays (sendFrom s rx) (m .status) (ap (λ (x : Notes). x .request) (send-notes s rx f))
-  request-kind o (isStatus m) n = sym (and-false (s .notes .request)) ∙ (λ i. s .notes .request && not (any (cond (sym (m .status) i) (sym (status-frame s) i) [])))
+  request-kind o (isStatus m) n =
+      sym (and-false (s .notes .request)) ∙ (λ i. s .notes .request && not (any (cond (sym (m .status) i) (sym (status-frame s) i) [])))
   request-kind o (isBack m d) n = stays (ended (state-status.afterStatusBack s (dataOf (s .under .frame))) 64) (m .status) refl
   request-kind o (isCleared m c) n = absurd (false≢true (sym n ∙ m .clear))
   request-kind o (isKept m d l) n = stays (passed (addedState s f) (state-status.serviced s f)) (m .status) refl
@@ -111,7 +118,8 @@ module _ (w : World) (f : ℕ) where
   frame-goes : empties (on (loopFrame f)) w (answer (on (loopFrame f)) w) ≡ false → Goes (on (loopFrame f)) w (step (on (loopFrame f)) w)
   unfolding step calls.notRefused outcome settledBy statusSent restarts clears
   frame-goes =
-      goes-or (on (loopFrame f)) w (firstRefusal (checks (on (loopFrame f)) w)) (calls.notRefused (on (loopFrame f)) w) (same-either (asksStatus (w .state) f) [])
+      goes-or (on (loopFrame f)) w (firstRefusal (checks (on (loopFrame f)) w)) (calls.notRefused (on (loopFrame f)) w)
+      (same-either (asksStatus (w .state) f) [])
       (λ e q. go (kind-of f w (frame-fits f w e)) (not-clear q))
     where
       o : Outcome
@@ -120,9 +128,11 @@ module _ (w : World) (f : ℕ) where
       not-clear : (taken (said (frameTaken (w .state) (w .rx) f .answer)) && deviceClear (w .state) f) ≡ false → deviceClear (w .state) f ≡ false
       not-clear q = (λ i. sym (frame-taken (said (o .answer)) (frame-answers (w .state) (w .rx) f)) i && deviceClear (w .state) f) ∙ q
 
-      go : Kind (w .state) (w .rx) f (frameTaken (w .state) (w .rx) f) → deviceClear (w .state) f ≡ false → Goes (on (loopFrame f)) w (calls.notRefused (on (loopFrame f)) w)
+      go : Kind (w .state) (w .rx) f (frameTaken (w .state) (w .rx) f) → deviceClear (w .state) f ≡ false →
+          Goes (on (loopFrame f)) w (calls.notRefused (on (loopFrame f)) w)
       go k n =
-          subst (λ (t : State). t .notes .request ≡ ((w .state .notes .request && not (any (statusSent (on (loopFrame f)) w (said (o .answer))))) || status.begins (asking (w .state)) (asking t)))
+          subst (λ (t : State). t .notes .request ≡
+          ((w .state .notes .request && not (any (statusSent (on (loopFrame f)) w (said (o .answer))))) || status.begins (asking (w .state)) (asking t)))
           (sym (cond-false (deviceClear (w .state) f) (o .state) (settled (w .state) (o .state)) n))
           (quiet (on (loopFrame f)) w (said (o .answer)) (o .state) (request-kind (w .state) (w .rx) f o k n))
 
@@ -132,8 +142,11 @@ goes : (c : Call) (w : World) → empties c w (answer c w) ≡ false → Goes c 
 unfolding step calls.notRefused outcome settledBy said statusSent restarts breakState keyState afterWrite setAfresh clears
 goes (create m) w = goes-or (create m) w _ _ refl (λ _ q. absurd (false≢true (sym q)))
 goes (on reset) w = goes-or (on reset) w _ _ refl (λ _ q. absurd (false≢true (sym q)))
-goes (on (write n v)) w = goes-or (on (write n v)) w _ _ refl (λ _ _. quiet (on (write n v)) w done _ (write-kept (w .state) n _ _ refl refl ∙ sym (and-true (w .state .notes .request))))
-goes (on (lineByte b)) w = goes-or (on (lineByte b)) w _ _ refl (λ _ _. quiet (on (lineByte b)) w done _ (line-kept (w .state) b ∙ sym (and-true (w .state .notes .request))))
+goes (on (write n v)) w =
+    goes-or (on (write n v)) w _ _ refl
+    (λ _ _. quiet (on (write n v)) w done _ (write-kept (w .state) n _ _ refl refl ∙ sym (and-true (w .state .notes .request))))
+goes (on (lineByte b)) w =
+    goes-or (on (lineByte b)) w _ _ refl (λ _ _. quiet (on (lineByte b)) w done _ (line-kept (w .state) b ∙ sym (and-true (w .state .notes .request))))
 goes (on lineBreak) w = goes-or (on lineBreak) w _ _ refl (λ _ _. quiet (on lineBreak) w done _ (sym (and-true (w .state .notes .request))))
 goes (on key) w = goes-or (on key) w _ _ refl (λ _ _. quiet (on key) w done _ (sym (and-true (w .state .notes .request))))
 goes (on nextLineByte) w =
@@ -144,7 +157,8 @@ goes (show side) w = goes-or (show side) w _ _ refl (λ _ _. still-goes (show si
 
 -- ---- a create, reset or device clear
 
-starts-or : (c : Call) (w : World) (n : ℕ) (d : Did) → empties c w (refused n) ≡ false → (n ≡ 0 → empties c w (d .said) ≡ true → d .world .state .notes .request ≡ false) →
+starts-or : (c : Call) (w : World) (n : ℕ) (d : Did) → empties c w (refused n) ≡ false →
+    (n ≡ 0 → empties c w (d .said) ≡ true → d .world .state .notes .request ≡ false) →
     empties c w (refusedOr n d w .said) ≡ true → refusedOr n d w .world .state .notes .request ≡ false
 starts-or c w n d e =
     or-refused (λ (x : Did). empties c w (x .said) ≡ true → x .world .state .notes .request ≡ false) n d w (λ q. absurd (false≢true (sym e ∙ q)))
@@ -166,7 +180,8 @@ starts (on (loopFrame f)) w =
     starts-or (on (loopFrame f)) w _ _ refl
     (λ e q.
     let n : deviceClear (w .state) f ≡ true = and-right (taken (said (frameTaken (w .state) (w .rx) f .answer))) _ q in
-    ap (λ (t : State). t .notes .request) (cond-true (deviceClear (w .state) f) (frameTaken (w .state) (w .rx) f .state) (settled (w .state) (frameTaken (w .state) (w .rx) f .state)) n)
+    ap (λ (t : State). t .notes .request)
+    (cond-true (deviceClear (w .state) f) (frameTaken (w .state) (w .rx) f .state) (settled (w .state) (frameTaken (w .state) (w .rx) f .state)) n)
     ∙ ap (λ (o : Outcome). o .state .notes .request) (clears-all (w .state) (w .rx) f _ (kind-of f w (frame-fits f w e)) n))
 starts (show side) w = λ q. absurd (false≢true q)
 
@@ -187,14 +202,16 @@ or-seven false false false false false false g = or-false g
 comes-so : (b a : Conditions) → comes (asks b) (asks a) ≡ status.begins b a
 unfolding comes
 comes-so b a =
-    or-seven (status.comes (b .txempty) (a .txempty)) (status.comes (b .txnotfull) (a .txnotfull)) (status.comes (b .rxnotempty) (a .rxnotempty)) (status.comes (b .rxfull) (a .rxfull))
+    or-seven (status.comes (b .txempty) (a .txempty)) (status.comes (b .txnotfull) (a .txnotfull)) (status.comes (b .rxnotempty) (a .rxnotempty))
+    (status.comes (b .rxfull) (a .rxfull))
     (status.comes (b .brk) (a .brk)) (status.comes (b .overrun) (a .overrun)) (status.comes (b .key) (a .key))
 
 asks-so : (w : World) → Fits w → law.asking w ≡ asks (asking (w .state))
 unfolding asking enabledBy conditions
 asks-so w F =
     let g = w .state .regs in
-    λ i. (bit 0 (g .r01) && sym (empty-same w F) i) ∷ (bit 1 (g .r01) && sym (room-same w F) i) ∷ (bit 2 (g .r01) && sym (some-same w F) i) ∷ (bit 3 (g .r01) && sym (full-same w F) i)
+    λ i. (bit 0 (g .r01) && sym (empty-same w F) i) ∷ (bit 1 (g .r01) && sym (room-same w F) i) ∷ (bit 2 (g .r01) && sym (some-same w F) i) ∷
+    (bit 3 (g .r01) && sym (full-same w F) i)
     ∷ (bit 0 (g .r02) && w .state .notes .seen .brk) ∷ (bit 0 (g .r00) && w .state .notes .seen .overrun) ∷ (bit 2 (g .r02) && w .state .notes .seen .key) ∷ []
 
 comes-none : (xs : List Bool) → comes xs xs ≡ false
@@ -207,7 +224,8 @@ same-comes : (c : Call) (w : World) → Bytes (w .rx) → empties c w (answer c 
     comes (law.asking w) (law.asking (after c w)) ≡ status.begins (asking (w .state)) (asking (after c w .state))
 unfolding restarts calls.notRefused said
 same-comes c w B =
-    by-refusal (λ (d : Did). empties c w (d .said) ≡ false → comes (law.asking w) (law.asking (d .world)) ≡ status.begins (asking (w .state)) (asking (d .world .state))) c w
+    by-refusal (λ (d : Did). empties c w (d .said) ≡ false →
+    comes (law.asking w) (law.asking (d .world)) ≡ status.begins (asking (w .state)) (asking (d .world .state))) c w
     (go c) (λ _ _. comes-none (law.asking w) ∙ sym (no-begins (asking (w .state))))
   where
     go : (c : Call) → firstRefusal (checks c w) ≡ 0 → empties c w (calls.notRefused c w .said) ≡ false →
@@ -217,7 +235,8 @@ same-comes c w B =
     go (on c) e q =
         let F : Fits w = fitting c w e .0 in
         let G : Fits (calls.notRefused (on c) w .world) = state-good w B F c e in
-        (λ i. comes (asks-so w F i) (asks-so (calls.notRefused (on c) w .world) G i)) ∙ comes-so (asking (w .state)) (asking (calls.notRefused (on c) w .world .state))
+        (λ i. comes (asks-so w F i) (asks-so (calls.notRefused (on c) w .world) G i)) ∙
+        comes-so (asking (w .state)) (asking (calls.notRefused (on c) w .world .state))
 
 pub requests-go : Obeys ours RequestsGo
 requests-go c w B =

@@ -109,7 +109,8 @@ least-size m a b e =
     let e₂ = and-left ((p && q) && leb a 32768) (leb 3 b) e₁ in
     leb-true (2 * m + 2) a (and-right p q (and-left (p && q) (leb a 32768) e₂))
 
-none-resumes : (s : State) (rx tx r : List ℕ) → fits s (length rx) (length tx) ≡ true → sendHeld (ruleOf (s .regs)) rx (s .rx) ≡ none r → removedState s rx .line .holding ≡ false
+none-resumes : (s : State) (rx tx r : List ℕ) → fits s (length rx) (length tx) ≡ true → sendHeld (ruleOf (s .regs)) rx (s .rx) ≡ none r →
+    removedState s rx .line .holding ≡ false
 none-resumes s rx tx r e h = unfold removedState resumed in off (s .line .holding) _ (le-leb (2 * s .sizes .margin) _ room)
   where
     few : length (sentRest (sendHeld (ruleOf (s .regs)) rx (s .rx))) ≤ 2
@@ -138,7 +139,8 @@ module _ (w : World) (B : Bytes (heldToSend w)) (F : Fits w) where
   unfolding sendFrom sendState ended talking sendHeld
   send-resumes = go (sendHeld (ruleOf (w .state .regs)) (w .rx) (w .state .rx)) refl
     where
-      go : (x : Sent ℕ ℕ) → sendHeld (ruleOf (w .state .regs)) (w .rx) (w .state .rx) ≡ x → Resumes (sendState (w .state) (removedState (w .state) (w .rx)) (givenOf x))
+      go : (x : Sent ℕ ℕ) → sendHeld (ruleOf (w .state .regs)) (w .rx) (w .state .rx) ≡ x →
+          Resumes (sendState (w .state) (removedState (w .state) (w .rx)) (givenOf x))
       go (none r) e = λ _. none-resumes (w .state) (w .rx) (w .tx) r F e
       go (one g r) e = λ n. let z : g ∷ [] ≡ [] = sym (seen-plain (w .state) g (sent-plain (ruleOf (w .state .regs)) (heldToSend w) g r e B)) ∙ n in cc
 
@@ -153,9 +155,11 @@ empty-send-resumes c w b f =
     at-call (λ c. taken (answer c w) ≡ true → isSend (w .state) f ≡ true → sent c w (answer c w) ≡ [] → holdsOff (after c w) ≡ false) (on (loopFrame f))
     (λ t S n.
     let B = held-all w b in
-    if-taken (λ (d : Did). dataFrame (d .said) ≡ [] → d .world .state .line .holding ≡ false) (firstRefusal (checks (on (loopFrame f)) w)) (calls.notRefused (on (loopFrame f)) w) w
+    if-taken (λ (d : Did). dataFrame (d .said) ≡ [] → d .world .state .line .holding ≡ false) (firstRefusal (checks (on (loopFrame f)) w))
+    (calls.notRefused (on (loopFrame f)) w) w
     (λ e q.
     let F : Fits w = frame-fits f w e in
-    settled-off (w .state) _ (deviceClear (w .state) f) (subst (Resumes w B F) (sym (sends-from (w .state) (w .rx) f _ (kind-of f w F) S)) (send-resumes w B F) q))
+    settled-off (w .state) _ (deviceClear (w .state) f)
+    (subst (Resumes w B F) (sym (sends-from (w .state) (w .rx) f _ (kind-of f w F) S)) (send-resumes w B F) q))
     t (sym (cond-false _ _ _ (send-alone (w .state) f S)) ∙ n))
     c

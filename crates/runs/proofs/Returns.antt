@@ -19,7 +19,8 @@ use Rattle.state.specs.declared.Outcome.{Outcome}
 use Rattle.state.specs.Answers.{Said, said, frame, refused}
 use Rattle.line.specs.HoldingOff.{nextOut}
 use Rattle.loops.specs.Frames.{finishing, frameTaken, deviceClear}
-use Rattle.bridge.specs.Calls.{reset, write, lineByte, lineBreak, key, nextLineByte, loopFrame, Call, create, show, on, World, Did, checks, outcome, settledBy, notRefused, step}
+use Rattle.bridge.specs.Calls.{reset, write, lineByte, lineBreak, key, nextLineByte, loopFrame, Call, create}
+use Rattle.bridge.specs.Calls.{show, on, World, Did, checks, outcome, settledBy, notRefused, step}
 use Rattle.laws.specs.Observers.{taken, isAsked, equalReturn, isSend, dataFrame, asksStatus, passesOn, sent, statusSent, restarts}
 use Rattle.laws.specs.Worlds.{heldToSend}
 use Rattle.laws.specs.StatusWay.{endsWay}
@@ -43,7 +44,8 @@ use Rattle.runs.proofs.SendRule.{send-rule}
 use Rattle.laws.proofs.Answers.{frame-not-refused}
 use Rattle.runs.proofs.FrameKinds.{Kind, no-data, kind-of, address-high}
 use Rattle.runs.proofs.FrameKinds as kinds
-use Rattle.laws.proofs.Ways.{Way, isNext, isBack, isLast, isDamaged, isStored, isPassed, isCleared, isObeyed, isAssigned, isSendAsked, isTold, isFinishing, isReady, isIdentified, way}
+use Rattle.laws.proofs.Ways.{Way, isNext, isBack, isLast, isDamaged, isStored, isPassed, isCleared}
+use Rattle.laws.proofs.Ways.{isObeyed, isAssigned, isSendAsked, isTold, isFinishing, isReady, isIdentified, way}
 use Rattle.runs.proofs.Untouched.{Untouched, settled-untouched, break-untouched, key-untouched, line-untouched, gone-untouched, write-untouched}
 use Rattle.runs.proofs.Steps.{answer, after, end, some, Without, ours, at-call, at-left}
 
@@ -107,7 +109,8 @@ module _ (k : Bool) (g : ℕ) (e : Bool) where
         record {
           talker = u .talker;
           frame = u .frame;
-          finishing = λ _. sym (or-true e) ∙ (λ i. e || sym (eq-eqb f (made 5 66) (omega (arith, eqb-true (controlOf f) 5 (r .five), eqb-true (dataOf f) 66 (and-left _ _ z)))) i);
+          finishing = λ _. sym (or-true e) ∙
+              (λ i. e || sym (eq-eqb f (made 5 66) (omega (arith, eqb-true (controlOf f) 5 (r .five), eqb-true (dataOf f) 66 (and-left _ _ z)))) i);
         }
     frame-on o (isReady r a x y z) = record { talker = u .talker; frame = u .frame; finishing = λ h. u .finishing h ∙ go h (eqb (dataOf f) 66) refl }
       where
@@ -118,7 +121,8 @@ module _ (k : Bool) (g : ℕ) (e : Bool) where
         record {
           talker = u .talker;
           frame = u .frame;
-          finishing = λ h. u .finishing h ∙ sym (or-false e) ∙ (λ i. e || sym (ne-eqb f (made 5 66) (λ q. eqb-false (controlOf f) 5 (r .five) (omega arith))) i);
+          finishing = λ h. u .finishing h ∙ sym (or-false e) ∙
+              (λ i. e || sym (ne-eqb f (made 5 66) (λ q. eqb-false (controlOf f) 5 (r .five) (omega arith))) i);
         }
 
   -- a call that does not end its way leaves it under way
@@ -134,11 +138,14 @@ module _ (k : Bool) (g : ℕ) (e : Bool) where
   done-on (on (lineByte b)) w u n = same (w .state) _ false (both _ _ _ (line-untouched (w .state) b) (settled-untouched (w .state) false _)) refl u
   done-on (on lineBreak) w u n = same (w .state) _ false (both _ _ _ (break-untouched (w .state)) (settled-untouched (w .state) false _)) refl u
   done-on (on key) w u n = same (w .state) _ false (both _ _ _ (key-untouched (w .state)) (settled-untouched (w .state) false _)) refl u
-  done-on (on nextLineByte) w u n = same (w .state) _ false (both _ _ _ (gone-untouched (w .state) (nextOut (w .state) (w .tx))) (settled-untouched (w .state) false _)) refl u
+  done-on (on nextLineByte) w u n =
+      same (w .state) _ false (both _ _ _ (gone-untouched (w .state) (nextOut (w .state) (w .tx))) (settled-untouched (w .state) false _)) refl u
   done-on (on (loopFrame f)) w u n =
-      let m = neither (isData f) (eqb (controlOf f) 4) ((λ i. not (sym (frame-not-refused (w .state) (w .rx) f) i) && (isData f || eqb (controlOf f) 4)) ∙ n) in
+      let m = neither (isData f) (eqb (controlOf f) 4)
+      ((λ i. not (sym (frame-not-refused (w .state) (w .rx) f) i) && (isData f || eqb (controlOf f) 4)) ∙ n) in
       moved _ _ (settled-untouched (w .state) (deviceClear (w .state) f) _)
-      (subst (λ (t : Bool). Under k g (e || (not t && eqb f (made 5 66))) (frameTaken (w .state) (w .rx) f .state)) (sym (frame-not-refused (w .state) (w .rx) f))
+      (subst (λ (t : Bool). Under k g (e || (not t && eqb f (made 5 66))) (frameTaken (w .state) (w .rx) f .state))
+      (sym (frame-not-refused (w .state) (w .rx) f))
       (frame-on w f u (m .0) (m .1) (frameTaken (w .state) (w .rx) f) (way (w .state) (w .rx) f)))
 
   refused-on : (c : Call) (w : World) (n : ℕ) → On c w (record { said = refused n; world = w })
@@ -164,7 +171,8 @@ one-of f g e = cc
 
 module _ (w : World) (B : Bytes (w .rx)) (f g : ℕ) where
   abbrev Sends : Bool → Outcome → Type 0
-  Sends k o = cond k (cond (asksStatus (w .state) f) (dataFrame (said (o .answer))) []) (cond (passesOn (w .state) f || asksStatus (w .state) f) [] (dataFrame (said (o .answer)))) ≡ g ∷ [] →
+  Sends k o = cond k (cond (asksStatus (w .state) f) (dataFrame (said (o .answer))) [])
+      (cond (passesOn (w .state) f || asksStatus (w .state) f) [] (dataFrame (said (o .answer)))) ≡ g ∷ [] →
       Under k g false (o .state)
 
   -- nothing of ours is sent
@@ -177,7 +185,8 @@ module _ (w : World) (B : Bytes (w .rx)) (f g : ℕ) where
   sent-under = go (sendHeld (ruleOf (w .state .regs)) (w .rx) (w .state .rx)) refl
     where
       go : (x : Sent ℕ ℕ) → sendHeld (ruleOf (w .state .regs)) (w .rx) (w .state .rx) ≡ x →
-          dataFrame (said (sendState (w .state) (removedState (w .state) (w .rx)) (givenOf x) .answer)) ≡ g ∷ [] → Under false g false (sendState (w .state) (removedState (w .state) (w .rx)) (givenOf x) .state)
+          dataFrame (said (sendState (w .state) (removedState (w .state) (w .rx)) (givenOf x) .answer)) ≡ g ∷ [] →
+          Under false g false (sendState (w .state) (removedState (w .state) (w .rx)) (givenOf x) .state)
       go (none r) e q = nothing q
       go (one h r) e q =
           let p = sent-plain (ruleOf (w .state .regs)) (heldToSend w) h r e (held-all w B) in
@@ -203,7 +212,8 @@ module _ (w : World) (B : Bytes (w .rx)) (f g : ℕ) where
   kind-under true o (kinds.isBack m d) = λ q. nothing (sym (rw (m .status)) ∙ q)
   kind-under false o (kinds.isBack m d) = λ q. nothing (sym (rw (m .passes, m .status)) ∙ q)
   kind-under true o (kinds.isCleared m c) = λ q. nothing (sym (rw (m .status)) ∙ q)
-  kind-under false o (kinds.isCleared m c) = λ q. nothing (sym (rw (m .passes, m .status) (no-data f (le-ltb (controlOf f) 4 (omega (arith, eqb-true (controlOf f) 4 c))))) ∙ q)
+  kind-under false o (kinds.isCleared m c) =
+      λ q. nothing (sym (rw (m .passes, m .status) (no-data f (le-ltb (controlOf f) 4 (omega (arith, eqb-true (controlOf f) 4 c))))) ∙ q)
   kind-under true o (kinds.isKept m d l) = λ q. nothing (sym (rw (m .status)) ∙ q)
   kind-under false o (kinds.isKept m d l) = λ q. nothing (sym (rw (m .passes)) ∙ q)
   kind-under true o (kinds.isOther t n p m x) = λ q. nothing (sym (rw (m .status)) ∙ q)
@@ -247,7 +257,8 @@ own-under k g c w B =
 
 -- ---- the run after it
 
-run-on : (k : Bool) (g : ℕ) (e : Bool) (cs : List Call) (w : World) → Without (λ c w a. endsWay c a) cs w → Under k g e (w .state) → Under k g (e || some finishes cs w) (end cs w .state)
+run-on : (k : Bool) (g : ℕ) (e : Bool) (cs : List Call) (w : World) → Without (λ c w a. endsWay c a) cs w → Under k g e (w .state) →
+    Under k g (e || some finishes cs w) (end cs w .state)
 unfolding course.end course.some machine.course
 run-on k g e [] w n u = subst (λ (x : Bool). Under k g x (w .state)) (sym (or-false e)) u
 run-on k g e (c ∷ cs) w n u =
@@ -283,7 +294,8 @@ module _ (k : Bool) (g : ℕ) (e : Bool) (w : World) (u : Under k g e (w .state)
   sends m n =
       let x = neither k e n in
       let two : w .state .role .talker ≡ 2 = u .talker ∙ (λ i. cond (x .0 i) 3 2) in
-      (λ i. isAsked 96 (w .state) r || (((D i && active i) && (sym apart ∙ m) i) && (eq-eqb (w .state .role .talker) 2 two i && not ((u .finishing (x .0) ∙ x .1) i))))
+      (λ i. isAsked 96 (w .state) r ||
+      (((D i && active i) && (sym apart ∙ m) i) && (eq-eqb (w .state .role .talker) 2 two i && not ((u .finishing (x .0) ∙ x .1) i))))
       ∙ or-true (isAsked 96 (w .state) r)
 
   abbrev Ends : Said → Type 0
@@ -324,7 +336,8 @@ pub returns-judged : Obeys ours ReturnsJudged
 unfolding finally
 returns-judged c cs d w B j h k g r q n =
     at-call (λ d. isData r ≡ true → taken (answer d v) ≡ true → Judged g r k (some finishes cs (after c w)) (machine.seen ours d v)) (on (loopFrame r))
-    (at-left (λ v. Bytes (v .rx) → isData r ≡ true → taken (answer (on (loopFrame r)) v) ≡ true → Judged g r k (some finishes cs (after c w)) (machine.seen ours (on (loopFrame r)) v)) cs (after c w)
+    (at-left (λ v. Bytes (v .rx) → isData r ≡ true → taken (answer (on (loopFrame r)) v) ≡ true →
+    Judged g r k (some finishes cs (after c w)) (machine.seen ours (on (loopFrame r)) v)) cs (after c w)
     (λ b D t. judged k g (some finishes cs (after c w)) (end cs (after c w)) (run-on k g false cs (after c w) n (own-under k g c w B q)) r D b t)
     (left-bytes cs (after c w) (keeps-bytes c w j B) h))
     d

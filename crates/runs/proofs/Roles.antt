@@ -23,7 +23,8 @@ use Rattle.line.specs.HoldingOff.{resumed, nextOut}
 use Rattle.loops.specs.LoopToLine.{addedState}
 use Rattle.loops.specs.Sending.{ruleOf, talking, ended, removedState, sendState, sendFrom, sendStatus}
 use Rattle.loops.specs.Frames.{orderIn, obeyed, cleared, finishing, deviceClear, frameTaken}
-use Rattle.bridge.specs.Calls.{reset, write, lineByte, lineBreak, key, nextLineByte, loopFrame, Call, create, show, on, World, Did, checks, outcome, settledBy, notRefused}
+use Rattle.bridge.specs.Calls.{reset, write, lineByte, lineBreak, key, nextLineByte, loopFrame, Call, create}
+use Rattle.bridge.specs.Calls.{show, on, World, Did, checks, outcome, settledBy, notRefused}
 use Rattle.laws.specs.Observers.{any, taken, dataFrame, onFrame, restarts}
 use Rattle.laws.specs.Fitting.{Fits}
 use Rattle.laws.specs.Worlds.{heldToSend}
@@ -33,7 +34,8 @@ use Rattle.laws.proofs.Refusing.{by-refusal, fitting}
 use Rattle.runs.proofs.Bytes.{held-all, sent-plain}
 use Rattle.runs.proofs.Sends.{seen-plain}
 use Rattle.runs.proofs.FrameKinds.{address-high, role-fits}
-use Rattle.laws.proofs.Ways.{Way, Returning, Arriving, Commanding, Readying, Identifying, isNext, isBack, isLast, isDamaged, isStored, isPassed, isCleared, isObeyed, isAssigned, isSendAsked, isTold, isFinishing, isReady, isIdentified, way}
+use Rattle.laws.proofs.Ways.{Way, Returning, Arriving, Commanding, Readying, Identifying, isNext, isBack, isLast, isDamaged, isStored}
+use Rattle.laws.proofs.Ways.{isPassed, isCleared, isObeyed, isAssigned, isSendAsked, isTold, isFinishing, isReady, isIdentified, way}
 use Rattle.runs.proofs.Passing.{assigns-same}
 use Rattle.runs.proofs.Obeying.{obeyed-right}
 use Rattle.runs.proofs.Untouched.{settled-untouched, break-untouched, key-untouched, line-untouched, gone-untouched, write-untouched}
@@ -57,13 +59,17 @@ module _ (w : World) (B : Bytes (heldToSend w)) (F : Fits w) (f : ℕ) where
           sendState (w .state) (removedState (w .state) (w .rx)) (givenOf x) .state .role
           ≡ withTalker (w .state .role) (cond (any (dataFrame (said (sendState (w .state) (removedState (w .state) (w .rx)) (givenOf x) .answer)))) 2 1)
       go (none q) e = refl
-      go (one g q) e = ap (λ (l : List ℕ). withTalker (w .state .role) (cond (any l) 2 1)) (sym (seen-plain (w .state) g (sent-plain (ruleOf (w .state .regs)) (heldToSend w) g q e B)))
+      go (one g q) e =
+          ap (λ (l : List ℕ). withTalker (w .state .role) (cond (any l) 2 1))
+          (sym (seen-plain (w .state) g (sent-plain (ruleOf (w .state .regs)) (heldToSend w) g q e B)))
 
   -- a data frame that comes back, and one that does not
-  returned-role : Returning (w .state) f → (t : Role) (a : Said) → t ≡ withTalker (w .state .role) (cond (any (dataFrame a)) 2 1) → t ≡ byFrame f (w .state .role) a
+  returned-role : Returning (w .state) f → (t : Role) (a : Said) → t ≡ withTalker (w .state .role) (cond (any (dataFrame a)) 2 1) →
+      t ≡ byFrame f (w .state .role) a
   unfolding byFrame returnedTo
   returned-role q t a e =
-      e ∙ (λ i. cond (sym (q .isdata) i) (withTalker (w .state .role) (cond (sym (q .active) i) (cond (any (dataFrame a)) 2 1) (w .state .role .talker))) (w .state .role))
+      e ∙ (λ i. cond (sym (q .isdata) i) (withTalker (w .state .role) (cond (sym (q .active) i) (cond (any (dataFrame a)) 2 1) (w .state .role .talker)))
+      (w .state .role))
       ∙ data-either (isData f) (q .isdata) _ _ _
     where
       data-either : (d : Bool) → d ≡ true → (x y z : Role) → cond d x y ≡ cond d x z
@@ -72,31 +78,37 @@ module _ (w : World) (B : Bytes (heldToSend w)) (F : Fits w) (f : ℕ) where
   arrived-role : Arriving (w .state) f → (a : Said) → w .state .role ≡ byFrame f (w .state .role) a
   unfolding byFrame returnedTo
   arrived-role q a =
-      (λ i. cond (sym (q .isdata) i) (withTalker (w .state .role) (cond (sym (q .idle) i) (cond (any (dataFrame a)) 2 1) (w .state .role .talker))) (w .state .role))
+      (λ i. cond (sym (q .isdata) i) (withTalker (w .state .role) (cond (sym (q .idle) i) (cond (any (dataFrame a)) 2 1) (w .state .role .talker)))
+      (w .state .role))
       ∙ (λ i. cond (q .isdata i) (returnedTo (w .state .role) (any (dataFrame a))) (w .state .role))
       ∙ (λ i. cond (sym (q .isdata) i) (returnedTo (w .state .role) (any (dataFrame a)))
-      (cond (eqb (controlOf f) 4) (commanded (w .state .role) (dataOf f)) (cond (eqb (controlOf f) 5) (readied (w .state .role) (dataOf f) (any (dataFrame a))) (w .state .role))))
+      (cond (eqb (controlOf f) 4) (commanded (w .state .role) (dataOf f))
+      (cond (eqb (controlOf f) 5) (readied (w .state .role) (dataOf f) (any (dataFrame a))) (w .state .role))))
 
   commanded-role : Commanding f → (t : Role) (a : Said) → t ≡ commanded (w .state .role) (dataOf f) → t ≡ byFrame f (w .state .role) a
   unfolding byFrame
   commanded-role q t a e =
       e ∙ (λ i. cond (sym (q .isdata) i) (returnedTo (w .state .role) (any (dataFrame a)))
-      (cond (sym (q .four) i) (commanded (w .state .role) (dataOf f)) (cond (eqb (controlOf f) 5) (readied (w .state .role) (dataOf f) (any (dataFrame a))) (w .state .role))))
+      (cond (sym (q .four) i) (commanded (w .state .role) (dataOf f))
+      (cond (eqb (controlOf f) 5) (readied (w .state .role) (dataOf f) (any (dataFrame a))) (w .state .role))))
 
   readied-role : Readying f → (t : Role) (a : Said) → t ≡ readied (w .state .role) (dataOf f) (any (dataFrame a)) → t ≡ byFrame f (w .state .role) a
   unfolding byFrame
   readied-role q t a e =
       e ∙ (λ i. cond (sym (q .isdata) i) (returnedTo (w .state .role) (any (dataFrame a)))
-      (cond (sym (q .four) i) (commanded (w .state .role) (dataOf f)) (cond (sym (q .five) i) (readied (w .state .role) (dataOf f) (any (dataFrame a))) (w .state .role))))
+      (cond (sym (q .four) i) (commanded (w .state .role) (dataOf f))
+      (cond (sym (q .five) i) (readied (w .state .role) (dataOf f) (any (dataFrame a))) (w .state .role))))
 
   identified-role : Identifying f → (a : Said) → w .state .role ≡ byFrame f (w .state .role) a
   unfolding byFrame
   identified-role q a =
       λ i. cond (sym (q .isdata) i) (returnedTo (w .state .role) (any (dataFrame a)))
-      (cond (sym (q .four) i) (commanded (w .state .role) (dataOf f)) (cond (sym (q .five) i) (readied (w .state .role) (dataOf f) (any (dataFrame a))) (w .state .role)))
+      (cond (sym (q .four) i) (commanded (w .state .role) (dataOf f))
+      (cond (sym (q .five) i) (readied (w .state .role) (dataOf f) (any (dataFrame a))) (w .state .role)))
 
   -- a ready frame by what it asks
-  ready-by : (x y z n : Bool) → givesAddress (w .state .role) (dataOf f) ≡ x → (eqb (dataOf f) 96 && eqb (w .state .role .talker) 1) ≡ y → (eqb (dataOf f) 97 && eqb (w .state .role .talker) 1) ≡ z →
+  ready-by : (x y z n : Bool) → givesAddress (w .state .role) (dataOf f) ≡ x → (eqb (dataOf f) 96 && eqb (w .state .role .talker) 1) ≡ y →
+      (eqb (dataOf f) 97 && eqb (w .state .role .talker) 1) ≡ z →
       record {
         address = cond x (dataOf f - 128) (w .state .role .address);
         talker = cond y (cond n 2 1) (cond z 3 (w .state .role .talker));
@@ -136,7 +148,10 @@ module _ (w : World) (B : Bytes (heldToSend w)) (F : Fits w) (f : ℕ) where
   role-way o (isAssigned q a) =
       let b : dataOf f - dataOf f % 32 ≡ 128 = eqb-true (dataOf f - dataOf f % 32) 128 (and-left _ _ (and-left _ _ a)) in
       let p : dataOf f % 32 ≡ dataOf f - 128 = omega arith in
-      readied-role q _ _ (ap (withAddress (w .state .role)) p ∙ ready-by true false false _ a (not-asked 96 (address-high (w .state .role) (dataOf f) 96 (omega arith) a)) (not-asked 97 (address-high (w .state .role) (dataOf f) 97 (omega arith) a)))
+      readied-role q _ _
+      (ap (withAddress (w .state .role)) p ∙
+      ready-by true false false _ a (not-asked 96 (address-high (w .state .role) (dataOf f) 96 (omega arith) a))
+      (not-asked 97 (address-high (w .state .role) (dataOf f) 97 (omega arith) a)))
   role-way o (isSendAsked q a x) = readied-role q _ _ (send-role ∙ ready-by false true _ _ a x refl)
   role-way o (isTold q a x y) = readied-role q _ _ (ready-by false false true _ a x y)
   role-way o (isFinishing q a x y z) = readied-role q _ _ (ready-by false false false _ a x y)
@@ -163,7 +178,8 @@ done-goes (on nextLineByte) w B e q = settled-untouched (w .state) false _ .role
 done-goes (on (loopFrame f)) w B e q =
     settled-untouched (w .state) (deviceClear (w .state) f) _ .role
     ∙ role-way w (held-all w B) (fitting (loopFrame f) w e .0) f (frameTaken (w .state) (w .rx) f) (way (w .state) (w .rx) f)
-    ∙ (λ i. cond (not (sym (frame-not-refused (w .state) (w .rx) f) i)) (byFrame f (w .state .role) (said (frameTaken (w .state) (w .rx) f .answer))) (w .state .role))
+    ∙ (λ i. cond (not (sym (frame-not-refused (w .state) (w .rx) f) i)) (byFrame f (w .state .role) (said (frameTaken (w .state) (w .rx) f .answer)))
+    (w .state .role))
 
 refused-goes : (c : Call) (w : World) (n : ℕ) → Goes c w (record { said = refused n; world = w })
 refused-goes (create m) w n e = refl

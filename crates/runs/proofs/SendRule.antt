@@ -45,7 +45,8 @@ module _ (w : World) (B : Bytes (heldToSend w)) where
   unfolding sendFrom sendState ended sendHeld said ruleOf
   first-sent = go (sendHeld (ruleOf (w .state .regs)) (w .rx) (w .state .rx)) refl
     where
-      go : (x : Sent ℕ ℕ) → sendHeld (ruleOf (w .state .regs)) (w .rx) (w .state .rx) ≡ x → First (said (sendState (w .state) (removedState (w .state) (w .rx)) (givenOf x) .answer))
+      go : (x : Sent ℕ ℕ) → sendHeld (ruleOf (w .state .regs)) (w .rx) (w .state .rx) ≡ x →
+          First (said (sendState (w .state) (removedState (w .state) (w .rx)) (givenOf x) .answer))
       go (none r) e =
           let n : reading w (heldToSend w) ≡ [] = send-none (cut (ruleOf (w .state .regs))) (lawful (ruleOf (w .state .regs))) (heldToSend w) r e in
           record { first = ap firstOf (sym n); ends = λ _. refl }
@@ -67,9 +68,13 @@ settled-rx s false u = refl
 -- what a send leaves
 send-left : (w : World) → Fits w → held (w .rx) (sendFrom (w .state) (w .rx) .state .rx) ≡ sentRest (send (cut (ruleIn w)) (heldToSend w))
 unfolding sendFrom sendState ended talking removedState resumed sendHeld ruleOf
-send-left w F = go (givenOf (sendHeld (ruleOf (w .state .regs)) (w .rx) (w .state .rx))) ∙ held-sent (ruleOf (w .state .regs)) (w .rx) (w .state .rx) (rx-fits (w .state) (w .rx) (w .tx) F .ring)
+send-left w F =
+    go (givenOf (sendHeld (ruleOf (w .state .regs)) (w .rx) (w .state .rx))) ∙
+    held-sent (ruleOf (w .state .regs)) (w .rx) (w .state .rx) (rx-fits (w .state) (w .rx) (w .tx) F .ring)
   where
-    go : (g : Given) → held (w .rx) (sendState (w .state) (removedState (w .state) (w .rx)) g .state .rx) ≡ held (w .rx) (sentRing (ruleOf (w .state .regs)) (w .rx) (w .state .rx))
+    go : (g : Given) →
+        held (w .rx) (sendState (w .state) (removedState (w .state) (w .rx)) g .state .rx) ≡
+        held (w .rx) (sentRing (ruleOf (w .state .regs)) (w .rx) (w .state .rx))
     go Nothing = refl
     go (One f) = refl
 
@@ -84,16 +89,21 @@ send-rule c w b f =
     B = held-all w b
 
     -- what is held after it
-    left-by : taken (answer (on (loopFrame f)) w) ≡ true → isSend (w .state) f ≡ true → heldToSend (after (on (loopFrame f)) w) ≡ sentRest (send (cut (ruleIn w)) (heldToSend w))
+    left-by : taken (answer (on (loopFrame f)) w) ≡ true → isSend (w .state) f ≡ true →
+        heldToSend (after (on (loopFrame f)) w) ≡ sentRest (send (cut (ruleIn w)) (heldToSend w))
     left-by t S =
-        if-taken (λ (d : Did). heldToSend (d .world) ≡ sentRest (send (cut (ruleIn w)) (heldToSend w))) (firstRefusal (checks (on (loopFrame f)) w)) (calls.notRefused (on (loopFrame f)) w) w
+        if-taken (λ (d : Did). heldToSend (d .world) ≡ sentRest (send (cut (ruleIn w)) (heldToSend w))) (firstRefusal (checks (on (loopFrame f)) w))
+        (calls.notRefused (on (loopFrame f)) w) w
         (λ e.
-        ap (λ (r : Ring). held (w .rx) r) (settled-rx (w .state) (deviceClear (w .state) f) _ ∙ ap (λ (o : Outcome). o .state .rx) (sends-from (w .state) (w .rx) f _ (kind-of f w (frame-fits f w e)) S))
+        ap (λ (r : Ring). held (w .rx) r)
+        (settled-rx (w .state) (deviceClear (w .state) f) _ ∙
+        ap (λ (o : Outcome). o .state .rx) (sends-from (w .state) (w .rx) f _ (kind-of f w (frame-fits f w e)) S))
         ∙ send-left w (frame-fits f w e))
         t
 
     right : taken (answer (on (loopFrame f)) w) ≡ true → isSend (w .state) f ≡ true → First w B (answer (on (loopFrame f)) w)
     right t S =
         if-taken (λ (d : Did). First w B (d .said)) (firstRefusal (checks (on (loopFrame f)) w)) (calls.notRefused (on (loopFrame f)) w) w
-        (λ e. subst (λ (o : Outcome). First w B (said (o .answer))) (sym (sends-from (w .state) (w .rx) f _ (kind-of f w (frame-fits f w e)) S)) (first-sent w B))
+        (λ e. subst (λ (o : Outcome). First w B (said (o .answer))) (sym (sends-from (w .state) (w .rx) f _ (kind-of f w (frame-fits f w e)) S))
+        (first-sent w B))
         t

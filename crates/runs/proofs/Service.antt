@@ -27,7 +27,8 @@ use Rattle.laws.specs.Observers.{passesOn}
 use Rattle.laws.specs.Worlds.{heldToSend}
 use Rattle.laws.specs.Service.{carriesService, ServiceRight, ServiceBit}
 use Rattle.laws.proofs.Ways.{Way, Returning, Arriving, Commanding, Readying, Identifying, way}
-use Rattle.laws.proofs.Ways.{isNext, isBack, isLast, isDamaged, isStored, isPassed, isCleared, isObeyed, isAssigned, isSendAsked, isTold, isFinishing, isReady, isIdentified}
+use Rattle.laws.proofs.Ways.{isNext, isBack, isLast, isDamaged, isStored, isPassed, isCleared}
+use Rattle.laws.proofs.Ways.{isObeyed, isAssigned, isSendAsked, isTold, isFinishing, isReady, isIdentified}
 use Rattle.runs.proofs.Answered.{serviced-kind, status-small}
 use Rattle.runs.proofs.Bytes.{Plain, plain-data, sent-plain, held-all}
 use Rattle.machine.specs.Machine.{Obeys}
@@ -78,7 +79,8 @@ module _ (w : World) (f : ℕ) where
   unfolding sendFrom sendState ended sendHeld
   send-right B N = go (sendHeld (ruleOf (w .state .regs)) (w .rx) (w .state .rx)) refl
     where
-      go : (x : Sent ℕ ℕ) → sendHeld (ruleOf (w .state .regs)) (w .rx) (w .state .rx) ≡ x → OutRight (sendState (w .state) (removedState (w .state) (w .rx)) (givenOf x))
+      go : (x : Sent ℕ ℕ) → sendHeld (ruleOf (w .state .regs)) (w .rx) (w .state .rx) ≡ x →
+          OutRight (sendState (w .state) (removedState (w .state) (w .rx)) (givenOf x))
       go (none r) e = plain-ready (made 5 64) refl
       go (one g r) e = own N g (sent-plain (ruleOf (w .state .regs)) (heldToSend w) g r e B)
 
@@ -87,7 +89,11 @@ module _ (w : World) (f : ℕ) where
   unfolding shows
   passed-right P =
       answers (serviced (w .state) f)
-      (record { bit = λ _. serviced-bit (w .state) f ∙ ap (λ t. shows (w .state) || (t && hasService f)) (sym P); other = λ n _. absurd (false≢true (sym n ∙ P)) })
+      (record {
+        bit = λ _. serviced-bit (w .state) f ∙ ap (λ t. shows (w .state) || (t && hasService f)) (sym P);
+        other =
+            λ n _. absurd (false≢true (sym n ∙ P));
+      })
 
   command-right : Commanding f → Right (said (Frame f))
   command-right r =
@@ -111,7 +117,8 @@ module _ (w : World) (f : ℕ) where
   identifying : Identifying f → passesOn (w .state) f ≡ true
   unfolding passesOn
   identifying r =
-      let p : 5 < controlOf f = omega (arith, ltb-false (controlOf f) 4 (r .isdata), eqb-false (controlOf f) 4 (r .four), eqb-false (controlOf f) 5 (r .five)) in
+      let p : 5 < controlOf f =
+      omega (arith, ltb-false (controlOf f) 4 (r .isdata), eqb-false (controlOf f) 4 (r .four), eqb-false (controlOf f) 5 (r .five)) in
       λ j. (r .isdata j && not (isActive (w .state .role))) || lt-ltb 5 (controlOf f) p j
 
   way-right : Bytes (heldToSend w) → (o : Outcome) → Way (w .state) (w .rx) f o → OutRight o

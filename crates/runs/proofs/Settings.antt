@@ -21,12 +21,14 @@ use Rattle.line.specs.HoldingOff.{isGoOrStop, flowed, lostState, storedWith, li
 use Rattle.loops.specs.LoopToLine.{addedState}
 use Rattle.loops.specs.Sending.{ruleOf, talking, ended, removedState, sendState, sendFrom, sendStatus}
 use Rattle.loops.specs.Frames.{obeyed, cleared, finishing, deviceClear, frameTaken}
-use Rattle.bridge.specs.Calls.{reset, write, lineByte, lineBreak, key, nextLineByte, loopFrame, Call, create, show, on, World, Did, outcome, settledBy, notRefused}
+use Rattle.bridge.specs.Calls.{reset, write, lineByte, lineBreak, key, nextLineByte, loopFrame, Call}
+use Rattle.bridge.specs.Calls.{create, show, on, World, Did, outcome, settledBy, notRefused}
 use Rattle.laws.specs.Observers.{taken, onWrite, restarts}
 use Rattle.laws.specs.Starting.{registerValues, SizesStay}
 use Rattle.laws.specs.Registers.{numbers, writtenTo, RegistersGo}
 use Rattle.laws.proofs.Refusing.{by-refusal}
-use Rattle.laws.proofs.Ways.{Way, isNext, isBack, isLast, isDamaged, isStored, isPassed, isCleared, isObeyed, isAssigned, isSendAsked, isTold, isFinishing, isReady, isIdentified, way}
+use Rattle.laws.proofs.Ways.{Way, isNext, isBack, isLast, isDamaged, isStored, isPassed, isCleared}
+use Rattle.laws.proofs.Ways.{isObeyed, isAssigned, isSendAsked, isTold, isFinishing, isReady, isIdentified, way}
 use Rattle.runs.proofs.Steps.{ours}
 
 -- the registers and the sizes stay
@@ -70,7 +72,9 @@ frame-same s rx f o (isIdentified r) = record { regs = refl; sizes = refl }
 
 line-same : (s : State) (b : ℕ) → Same s (lineState s b)
 unfolding lineState flowed lostState storedWith
-line-same s b = by-cond (Same s) (isGoOrStop (s .regs) b) _ _ (λ _. record { regs = refl; sizes = refl }) (λ _. by-cond (Same s) (full (s .sizes .rx) (s .rx)) _ _ (λ _. record { regs = refl; sizes = refl }) (λ _. record { regs = refl; sizes = refl }))
+line-same s b =
+    by-cond (Same s) (isGoOrStop (s .regs) b) _ _ (λ _. record { regs = refl; sizes = refl })
+    (λ _. by-cond (Same s) (full (s .sizes .rx) (s .rx)) _ _ (λ _. record { regs = refl; sizes = refl }) (λ _. record { regs = refl; sizes = refl }))
 
 gone-same : (s : State) (o : Out) → Same s (goneState s o)
 unfolding goneState
@@ -78,15 +82,18 @@ gone-same s (out.Own b) = record { regs = refl; sizes = refl }
 gone-same s (out.Held b) = record { regs = refl; sizes = refl }
 gone-same s out.Nothing = record { regs = refl; sizes = refl }
 
-write-values : (s : State) (n v : ℕ) → registerValues (settled s (afterWrite s n (written (s .regs) n v)) .regs) ≡ writtenTo n v numbers (registerValues (s .regs))
+write-values : (s : State) (n v : ℕ) →
+    registerValues (settled s (afterWrite s n (written (s .regs) n v)) .regs) ≡ writtenTo n v numbers (registerValues (s .regs))
 unfolding settled afterWrite setAfresh written writtenTo
-write-values s n v = by-cond (λ (t : State). registerValues (t .regs) ≡ writtenTo n v numbers (registerValues (s .regs))) (eqb n 11) _ _ (λ _. refl) (λ _. refl)
+write-values s n v =
+    by-cond (λ (t : State). registerValues (t .regs) ≡ writtenTo n v numbers (registerValues (s .regs))) (eqb n 11) _ _ (λ _. refl) (λ _. refl)
 
 abbrev Goes : Call → World → Did → Type 0
 Goes c w d =
     restarts c (d .said) ≡ false →
     registerValues (d .world .state .regs)
-    ≡ onWrite (λ n v. cond (taken (d .said)) (writtenTo n v numbers (registerValues (w .state .regs))) (registerValues (w .state .regs))) (registerValues (w .state .regs)) c
+    ≡ onWrite (λ n v. cond (taken (d .said)) (writtenTo n v numbers (registerValues (w .state .regs))) (registerValues (w .state .regs)))
+    (registerValues (w .state .regs)) c
 
 done-goes : (c : Call) (w : World) → Goes c w (notRefused c w)
 unfolding notRefused outcome settledBy settled restarts said breakState keyState
@@ -99,7 +106,9 @@ done-goes (on lineBreak) w e = refl
 done-goes (on key) w e = refl
 done-goes (on nextLineByte) w e = ap registerValues (settled-same (w .state) false _ (gone-same (w .state) (nextOut (w .state) (w .tx))) .regs)
 done-goes (on (loopFrame f)) w e =
-    ap registerValues (settled-same (w .state) (deviceClear (w .state) f) _ (frame-same (w .state) (w .rx) f (frameTaken (w .state) (w .rx) f) (way (w .state) (w .rx) f)) .regs)
+    ap registerValues
+    (settled-same (w .state) (deviceClear (w .state) f) _
+    (frame-same (w .state) (w .rx) f (frameTaken (w .state) (w .rx) f) (way (w .state) (w .rx) f)) .regs)
 
 refused-goes : (c : Call) (w : World) (n : ℕ) → Goes c w (record { said = refused n; world = w })
 refused-goes (create m) w n e = refl

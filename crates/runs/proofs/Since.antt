@@ -10,7 +10,8 @@ use Rattle.bridge.specs.Calls.{World}
 use Rattle.laws.specs.Observers.{accepted}
 use Rattle.laws.specs.Worlds.{heldToSend, reading}
 use Rattle.laws.specs.SendRule.{FramesSince}
-use Rattle.runs.proofs.Shapes.{Seen, seen, Heart, heart, Shape, isStill, isBegun, isWritten, isCleared, isStored, isLost, isSent, isNone, isLeft, isHanded}
+use Rattle.runs.proofs.Shapes.{Seen, seen, Heart, heart, Shape, isStill, isBegun, isWritten}
+use Rattle.runs.proofs.Shapes.{isCleared, isStored, isLost, isSent, isNone, isLeft, isHanded}
 use Rattle.runs.proofs.View.{view}
 use Rattle.runs.proofs.FramesRead.{frames-read}
 use Rattle.runs.proofs.Steps.{answer, after, all, ours}

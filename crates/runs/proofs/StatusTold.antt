@@ -38,7 +38,8 @@ told : (f : ℕ) (w : World) → taken (answer (on (loopFrame f)) w) ≡ true �
 unfolding step calls.notRefused outcome statusSent sendStatus
 told f w t A =
     cond-true _ _ _ A
-    ∙ if-taken (λ (d : Did). dataFrame (d .said) ≡ made 0 (statusOf (w .state)) ∷ []) (firstRefusal (checks (on (loopFrame f)) w)) (calls.notRefused (on (loopFrame f)) w) w
+    ∙ if-taken (λ (d : Did). dataFrame (d .said) ≡ made 0 (statusOf (w .state)) ∷ []) (firstRefusal (checks (on (loopFrame f)) w))
+    (calls.notRefused (on (loopFrame f)) w) w
     (λ e.
     ap (λ (o : Outcome). dataFrame (said (o .answer))) (sends-status (w .state) (w .rx) f _ (kind-of f w (frame-fits f w e)) A) ∙ status-frame (w .state)
     ∙ ap (λ (x : ℕ). x ∷ []) (plain-data (statusOf (w .state)) (status-small (w .state)) .bare))
@@ -56,7 +57,8 @@ unfolding statusOf statusByte conditions state-status.shows
 byte-is w F =
     let c = conditions (w .state) in
     bits-sum (c .txempty) (c .txnotfull) (c .rxnotempty) (c .rxfull) (c .brk) (c .overrun) (state-status.shows (w .state)) (c .key)
-    ∙ (λ i. numberOf (empty-same w F i ∷ room-same w F i ∷ some-same w F i ∷ full-same w F i ∷ c .brk ∷ c .overrun ∷ state-status.shows (w .state) ∷ c .key ∷ []))
+    ∙ (λ i. numberOf
+    (empty-same w F i ∷ room-same w F i ∷ some-same w F i ∷ full-same w F i ∷ c .brk ∷ c .overrun ∷ state-status.shows (w .state) ∷ c .key ∷ []))
 
 pub status-told : Obeys ours StatusTold
 status-told c w B f =
@@ -78,7 +80,8 @@ shown e s = ap (bit (place e)) plain ∙ at e ∙ event-shown e s
 pub tells-until-back : (e : Event) → Obeys ours (TellsUntilBack e)
 tells-until-back e c cs d w B j k h n b f =
     at-call (λ d. taken (answer d u) ≡ true → asksStatus (u .state) f ≡ true → Shows e (statusSent d u (answer d u))) (on (loopFrame f))
-    (at-left (λ u. taken (answer (on (loopFrame f)) u) ≡ true → asksStatus (u .state) f ≡ true → Shows e (statusSent (on (loopFrame f)) u (answer (on (loopFrame f)) u))) cs (after c w)
+    (at-left (λ u. taken (answer (on (loopFrame f)) u) ≡ true → asksStatus (u .state) f ≡ true →
+    Shows e (statusSent (on (loopFrame f)) u (answer (on (loopFrame f)) u))) cs (after c w)
     (λ t A. ⊎-elim
     (λ (x : bitOf e v ≡ true). subst (Shows e) (sym (told f v t A)) (shown e (v .state) ∙ x))
     (λ y. absurd (false≢true (sym b ∙ y)))

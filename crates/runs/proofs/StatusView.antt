@@ -32,7 +32,8 @@ use Rattle.line.specs.HoldingOff.{isGoOrStop, flowed, lostState, storedWith, li
 use Rattle.loops.specs.LoopToLine.{addedState}
 use Rattle.loops.specs.Sending.{ruleOf, removedState, sendState, sendFrom, sendStatus, talking, ended}
 use Rattle.loops.specs.Frames.{isClear, orderIn, obeyed, finishing, frameTaken, deviceClear}
-use Rattle.bridge.specs.Calls.{Call, on, create, reset, write, lineByte, lineBreak, key, nextLineByte, loopFrame, show, World, Did, outcome, settledBy, refusedOr, step}
+use Rattle.bridge.specs.Calls.{Call, on, create, reset, write, lineByte, lineBreak, key, nextLineByte}
+use Rattle.bridge.specs.Calls.{loopFrame, show, World, Did, outcome, settledBy, refusedOr, step}
 use Rattle.bridge.specs.Calls as calls
 use Rattle.laws.specs.Observers.{taken, dataFrame, asksStatus, statusSent, restarts, clears, empties}
 use Rattle.laws.specs.StatusWay.{endsWay, statusBack}
@@ -123,7 +124,8 @@ still-noted x y d pressed p q = stays-true (x .key) (showed d 128) (y .key) p q
 -- "an active talker becomes merely addressed", and no order makes one active
 merely : (r : Role) → eqb (merelyAddressed r .talker) 3 ≡ false
 unfolding merelyAddressed
-merely r = by-cond (λ (t : ℕ). eqb t 3 ≡ false) (isActive r) addressed (r .talker) (λ _. refl) (λ e. ne-eqb (r .talker) 3 (λ h. omega (arith, leb-false 2 (r .talker) e)))
+merely r = by-cond (λ (t : ℕ). eqb t 3 ≡ false) (isActive r) addressed (r .talker) (λ _. refl)
+    (λ e. ne-eqb (r .talker) 3 (λ h. omega (arith, leb-false 2 (r .talker) e)))
 
 obeyed-idle : (r : Role) (o : Order) → eqb (obeyedRole r o .talker) 3 ≡ false
 unfolding obeyedRole changedRole
@@ -152,9 +154,11 @@ module _ (w : World) (f : ℕ) where
       go (one g r) = idles refl (keeps _)
 
   -- the status byte under way came back
-  back-kind : ways.Returning (w .state) f → sameApart f (w .state .under .frame) ≡ true → statusBack (stripped (w .state .under .frame) ∷ []) (on (loopFrame f)) (said (Frame (made 5 64))) ≡ true
+  back-kind : ways.Returning (w .state) f → sameApart f (w .state .under .frame) ≡ true →
+      statusBack (stripped (w .state .under .frame) ∷ []) (on (loopFrame f)) (said (Frame (made 5 64))) ≡ true
   unfolding statusBack said
-  back-kind r m = λ i. r .isdata i && stripped-same f (stripped (w .state .under .frame)) (same-stripped f _ m ∙ sym (stripped-twice (w .state .under .frame))) i
+  back-kind r m =
+      λ i. r .isdata i && stripped-same f (stripped (w .state .under .frame)) (same-stripped f _ m ∙ sym (stripped-twice (w .state .under .frame))) i
 
   -- no active talker
   off : ways.Arriving (w .state) f → eqb (w .state .role .talker) 3 ≡ false
@@ -167,25 +171,30 @@ module _ (w : World) (f : ℕ) where
   -- a frame that is neither data nor a command, and does not ask for status, leaves what is under way
   on-kind : (o : Outcome) → isData f ≡ false → eqb (controlOf f) 4 ≡ false → asksStatus (w .state) f ≡ false → part (o .state) ≡ part (w .state) → FrameKind o
   unfolding endsWay statusSent
-  on-kind o D C e p = goesOn (λ i. cond (e i) (dataFrame (said (o .answer))) []) (simp (D, C) (and-false (taken (said (o .answer))))) (same (w .state) (part (o .state)) p)
+  on-kind o D C e p =
+      goesOn (λ i. cond (e i) (dataFrame (said (o .answer))) []) (simp (D, C) (and-false (taken (said (o .answer))))) (same (w .state) (part (o .state)) p)
 
-  ready-kind : (o : Outcome) → ways.Readying f → (eqb (dataOf f) 97 && eqb (w .state .role .talker) 1) ≡ false → part (o .state) ≡ part (w .state) → FrameKind o
+  ready-kind : (o : Outcome) → ways.Readying f → (eqb (dataOf f) 97 && eqb (w .state .role .talker) 1) ≡ false → part (o .state) ≡ part (w .state) →
+      FrameKind o
   unfolding asksStatus
   ready-kind o r n = on-kind o (r .isdata) (r .four) (λ i. r .five i && n i)
 
   frame-way : (o : Outcome) → ways.Way (w .state) (w .rx) f o → FrameKind o
   unfolding ended talking finishing obeyed addedState sendStatus status.afterStatus status.afterStatusBack statusSent asksStatus
   frame-way o (ways.isNext r m k e) = send-kind
-  frame-way o (ways.isBack r m k) = returns k (back-kind r m) refl (still-noted (w .state .notes .seen) (w .state .notes .again) (dataOf (w .state .under .frame)))
+  frame-way o (ways.isBack r m k) =
+      returns k (back-kind r m) refl (still-noted (w .state .notes .seen) (w .state .notes .again) (dataOf (w .state .under .frame)))
   frame-way o (ways.isLast r m k e) = idles refl (keeps _)
   frame-way o (ways.isDamaged r m) = idles refl (keeps _)
   frame-way o (ways.isStored r l) = idles (off r) (keeps _)
   frame-way o (ways.isPassed r l) = idles (off r) (keeps _)
   frame-way o (ways.isCleared r c) = begins (clear r c)
   frame-way o (ways.isObeyed r c) = idles (obeyed-idle (w .state .role) (orderIn (w .state) f)) (keeps _)
-  frame-way o (ways.isAssigned r a) = ready-kind o r (λ i. ne-eqb (dataOf f) 97 (address-high (w .state .role) (dataOf f) 97 (omega arith) a) i && eqb (w .state .role .talker) 1) refl
+  frame-way o (ways.isAssigned r a) =
+      ready-kind o r (λ i. ne-eqb (dataOf f) 97 (address-high (w .state .role) (dataOf f) 97 (omega arith) a) i && eqb (w .state .role .talker) 1) refl
   frame-way o (ways.isSendAsked r a x) = send-kind
-  frame-way o (ways.isTold r a x y) = sends ((λ i. cond (r .five i && y i) (dataFrame (said (sendStatus (w .state) .answer))) []) ∙ status-frame (w .state)) (keeps _)
+  frame-way o (ways.isTold r a x y) =
+      sends ((λ i. cond (r .five i && y i) (dataFrame (said (sendStatus (w .state) .answer))) []) ∙ status-frame (w .state)) (keeps _)
   frame-way o (ways.isFinishing r a x y z) = ready-kind o r y refl
   frame-way o (ways.isReady r a x y z) = ready-kind o r y refl
   frame-way o (ways.isIdentified r) = on-kind o (r .isdata) (r .four) (λ i. r .five i && (eqb (dataOf f) 97 && eqb (w .state .role .talker) 1)) refl

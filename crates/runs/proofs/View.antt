@@ -7,7 +7,8 @@ use Rattle.registers.specs.Meanings.{go}
 use Rattle.state.specs.Answers.{said, done, refused}
 use Rattle.state.specs.Status.{settled, breakState, keyState}
 use Rattle.line.specs.HoldingOff.{owed}
-use Rattle.bridge.specs.Calls.{Call, on, create, reset, write, lineByte, lineBreak, key, nextLineByte, loopFrame, show, World, Did, checks, outcome, settledBy, rxAfter, txAfter, refusedOr, step}
+use Rattle.bridge.specs.Calls.{Call, on, create, reset, write, lineByte, lineBreak, key, nextLineByte, loopFrame}
+use Rattle.bridge.specs.Calls.{show, World, Did, checks, outcome, settledBy, rxAfter, txAfter, refusedOr, step}
 use Rattle.bridge.specs.Calls as calls
 use Rattle.laws.specs.Observers.{passesOn, asksStatus, arrived, sent, added, handedOut, restarts, writes, clears}
 use Rattle.runs.proofs.Shapes.{heart, frames, hands, Shape, isStill, isBegun}

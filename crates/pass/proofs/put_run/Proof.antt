@@ -13,13 +13,25 @@ put-run-spec =
     (λ c. search needs)
     (λ c κs. search needs)
     (λ c κs. search needs)
-    (λ c κs. omega (arith, c .before .before .before .before .before .before .before .put-all .ensures .next, c .before .before .before .before .before .before .before .put-all .ensures .size, c .before .before .before .before .before .before .before .before .before .before .before .before .before .before .before .before .before .before .pre .1))
+    (λ c κs. omega (
+      arith,
+      c .before .before .before .before .before .before .before .put-all .ensures .next,
+      c .before .before .before .before .before .before .before .put-all .ensures .size,
+      c .before .before .before .before .before .before .before .before .before .before .before .before .before .before .before .before .before .before .pre .1,
+    ))
     (λ c. search needs)
     (λ c. search needs)
     (λ c. search needs)
-    (λ c. run-refused _ _ _ _ _ _ (create-state 8 _ _ _ (c .before .before .before .before .before .before .before .before .before .before .before .before .before .before .create .ensures)) (c .before .before .before .before .before .set-registers .ensures) (c .before .before .before .before .before .before .before .before .before .before .put-all .ensures) (c .before .before .before .before .if1 .taken) (c .before .before .put-refused .ensures))
+    (λ c. run-refused _ _ _ _ _ _
+    (create-state 8 _ _ _
+    (c .before .before .before .before .before .before .before .before .before .before .before .before .before .before .create .ensures))
+    (c .before .before .before .before .before .set-registers .ensures)
+    (c .before .before .before .before .before .before .before .before .before .before .put-all .ensures)
+    (c .before .before .before .before .if1 .taken) (c .before .before .put-refused .ensures))
     (λ c κs. (c .before .before .before .before .before .before .before .before .before .before .before .before .before .before .before .before .before .before .before .before .pre .0, omega (arith, c .before .before .before .before .before .before .before .before .before .put-all .ensures .next, c .before .before .before .before .before .before .before .before .before .put-all .ensures .size, c .before .before .before .before .before .before .before .before .before .before .before .before .before .before .before .before .before .before .before .before .pre .1)))
     (λ c. search needs)
     (λ c. search needs)
     (λ c. search needs)
-    (λ c. run-goes _ _ _ _ _ _ (create-state 8 _ _ _ (c .before .before .before .before .before .before .before .before .before .before .before .before .before .before .before .before .before .before .before .before .create .ensures)) (c .before .before .before .before .before .before .before .before .before .before .before .set-registers .ensures) (c .before .before .before .before .before .before .before .before .before .before .before .before .before .before .before .before .put-all .ensures) (c .before .before .before .before .before .before .before .before .before .before .if1 .left) (c .before .before .before .before .before .before .put-rest .ensures)))
+    (λ c. run-goes _ _ _ _ _ _
+    (create-state 8 _ _ _
+    (c .before .before .before .before .before .before .before .before .before .before .before .before .before .before .before .before .before .before .before .before .create .ensures)) (c .before .before .before .before .before .before .before .before .before .before .before .set-registers .ensures) (c .before .before .before .before .before .before .before .before .before .before .before .before .before .before .before .before .put-all .ensures) (c .before .before .before .before .before .before .before .before .before .before .if1 .left) (c .before .before .before .before .before .before .put-rest .ensures)))

@@ -10,9 +10,14 @@ run-spec =
     (λ c κs. search needs)
     (λ c κs. search needs)
     (λ c. search needs)
-    (λ c. printed-refused _ _ (c .before .before .before .before .before .before .sections-of .ensures) (c .before .before .before .before .if1 .taken) (c .before .before .put-refused .ensures))
+    (λ c. printed-refused _ _ (c .before .before .before .before .before .before .sections-of .ensures) (c .before .before .before .before .if1 .taken)
+    (c .before .before .put-refused .ensures))
     (λ c. search needs)
     (λ c. search needs)
-    (λ c κs. (whole _ _ (c .before .before .before .before .before .sections-of .ensures) (c .before .before .before .if1 .left), c .before .before .before .before .before .before .before .before .pre))
+    (λ c κs. (
+      whole _ _ (c .before .before .before .before .before .sections-of .ensures) (c .before .before .before .if1 .left),
+      c .before .before .before .before .before .before .before .before .pre,
+    ))
     (λ c. search needs)
-    (λ c. printed-run _ _ (c .before .before .before .before .before .before .before .before .before .before .sections-of .ensures) (c .before .before .before .before .before .before .before .before .if1 .left) (c .before .before .before .before .put-run .ensures)))
+    (λ c. printed-run _ _ (c .before .before .before .before .before .before .before .before .before .before .sections-of .ensures)
+    (c .before .before .before .before .before .before .before .before .if1 .left) (c .before .before .before .before .put-run .ensures)))

@@ -15,4 +15,5 @@ raftershim-break-spec =
     (λ c κs. may-write lineBreak _ _ _ _ _ _ _ (c .before .before .before .before .before .meaning .ensures) (c .before .before .before .take-break .ensures))
     (λ c. search needs)
     (λ c. search needs)
-    (λ c. written lineBreak _ _ _ _ _ _ _ (c .before .before .before .before .before .before .before .before .meaning .ensures) (c .before .before .before .before .before .before .take-break .ensures) _ _ (c .before .before .finished .ensures)))
+    (λ c. written lineBreak _ _ _ _ _ _ _ (c .before .before .before .before .before .before .before .before .meaning .ensures)
+    (c .before .before .before .before .before .before .take-break .ensures) _ _ (c .before .before .finished .ensures)))

@@ -12,4 +12,5 @@ raftershim-create-spec =
     (λ c κs. search needs)
     (λ c κs. search needs)
     (λ c. search needs)
-    (λ c. create-written _ _ _ _ _ _ _ (c .before .before .before .before .before .if1 .left) (c .before .before .before .before .create .ensures) (c .before .before .finished .ensures)))
+    (λ c. create-written _ _ _ _ _ _ _ (c .before .before .before .before .before .if1 .left) (c .before .before .before .before .create .ensures)
+    (c .before .before .finished .ensures)))

@@ -14,4 +14,5 @@ raftershim-key-spec =
     (λ c κs. search needs)
     (λ c κs. may-write key _ _ _ _ _ _ _ (c .before .before .meaning .ensures) (c .before .take-key .ensures))
     (λ c. search needs)
-    (λ c. written key _ _ _ _ _ _ _ (c .before .before .before .before .before .meaning .ensures) (c .before .before .before .before .take-key .ensures) _ _ (c .before .before .finished .ensures)))
+    (λ c. written key _ _ _ _ _ _ _ (c .before .before .before .before .before .meaning .ensures) (c .before .before .before .before .take-key .ensures) _ _
+    (c .before .before .finished .ensures)))

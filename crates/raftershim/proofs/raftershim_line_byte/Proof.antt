@@ -12,7 +12,9 @@ raftershim-line-byte-spec =
     (tie.spec
     (λ c κs. search needs)
     (λ c κs. search needs)
-    (λ c κs. may-write (lineByte _) _ _ _ _ _ _ _ (c .before .before .before .before .before .meaning .ensures) (c .before .before .before .line-byte .ensures))
+    (λ c κs. may-write (lineByte _) _ _ _ _ _ _ _ (c .before .before .before .before .before .meaning .ensures)
+    (c .before .before .before .line-byte .ensures))
     (λ c. search needs)
     (λ c. search needs)
-    (λ c. written (lineByte _) _ _ _ _ _ _ _ (c .before .before .before .before .before .before .before .before .meaning .ensures) (c .before .before .before .before .before .before .line-byte .ensures) _ _ (c .before .before .finished .ensures)))
+    (λ c. written (lineByte _) _ _ _ _ _ _ _ (c .before .before .before .before .before .before .before .before .meaning .ensures)
+    (c .before .before .before .before .before .before .line-byte .ensures) _ _ (c .before .before .finished .ensures)))

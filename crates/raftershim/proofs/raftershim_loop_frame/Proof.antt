@@ -12,7 +12,9 @@ raftershim-loop-frame-spec =
     (tie.spec
     (λ c κs. search needs)
     (λ c κs. search needs)
-    (λ c κs. may-write (loopFrame _) _ _ _ _ _ _ _ (c .before .before .before .before .before .meaning .ensures) (c .before .before .before .loop-frame .ensures))
+    (λ c κs. may-write (loopFrame _) _ _ _ _ _ _ _ (c .before .before .before .before .before .meaning .ensures)
+    (c .before .before .before .loop-frame .ensures))
     (λ c. search needs)
     (λ c. search needs)
-    (λ c. written (loopFrame _) _ _ _ _ _ _ _ (c .before .before .before .before .before .before .before .before .meaning .ensures) (c .before .before .before .before .before .before .loop-frame .ensures) _ _ (c .before .before .finished .ensures)))
+    (λ c. written (loopFrame _) _ _ _ _ _ _ _ (c .before .before .before .before .before .before .before .before .meaning .ensures)
+    (c .before .before .before .before .before .before .loop-frame .ensures) _ _ (c .before .before .finished .ensures)))

@@ -14,4 +14,5 @@ raftershim-next-line-byte-spec =
     (λ c κs. search needs)
     (λ c κs. may-write nextLineByte _ _ _ _ _ _ _ (c .before .before .meaning .ensures) (c .before .next-line-byte .ensures))
     (λ c. search needs)
-    (λ c. written nextLineByte _ _ _ _ _ _ _ (c .before .before .before .before .before .meaning .ensures) (c .before .before .before .before .next-line-byte .ensures) _ _ (c .before .before .finished .ensures)))
+    (λ c. written nextLineByte _ _ _ _ _ _ _ (c .before .before .before .before .before .meaning .ensures)
+    (c .before .before .before .before .next-line-byte .ensures) _ _ (c .before .before .finished .ensures)))

@@ -14,4 +14,5 @@ raftershim-reset-spec =
     (λ c κs. search needs)
     (λ c κs. may-write reset _ _ _ _ _ _ _ (c .before .before .meaning .ensures) (c .before .reset .ensures))
     (λ c. search needs)
-    (λ c. written reset _ _ _ _ _ _ _ (c .before .before .before .before .before .meaning .ensures) (c .before .before .before .before .reset .ensures) _ _ (c .before .before .finished .ensures)))
+    (λ c. written reset _ _ _ _ _ _ _ (c .before .before .before .before .before .meaning .ensures) (c .before .before .before .before .reset .ensures) _ _
+    (c .before .before .finished .ensures)))

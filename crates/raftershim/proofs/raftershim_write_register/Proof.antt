@@ -14,4 +14,5 @@ raftershim-write-register-spec =
     (λ c κs. search needs)
     (λ c κs. may-write (write _ _) _ _ _ _ _ _ _ (c .before .before .meaning .ensures) (c .before .write-register .ensures))
     (λ c. search needs)
-    (λ c. written (write _ _) _ _ _ _ _ _ _ (c .before .before .before .before .before .meaning .ensures) (c .before .before .before .before .write-register .ensures) _ _ (c .before .before .finished .ensures)))
+    (λ c. written (write _ _) _ _ _ _ _ _ _ (c .before .before .before .before .before .meaning .ensures)
+    (c .before .before .before .before .write-register .ensures) _ _ (c .before .before .finished .ensures)))

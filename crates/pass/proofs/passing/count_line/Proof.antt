@@ -26,7 +26,9 @@ is-byte-requires c κs = search needs
 
 returns : tie.Need-returns Inv-loop μ-loop
 returns c =
-    let s = ap length (line-stops _ _ _ _ _ _ (c .before .before .before .loop-test .taken) (c .before .before .next-line-byte .ensures) (c .before .is-byte .ensures) (c .if1 .taken)) in
+    let s = ap length
+    (line-stops _ _ _ _ _ _ (c .before .before .before .loop-test .taken) (c .before .before .next-line-byte .ensures) (c .before .is-byte .ensures)
+    (c .if1 .taken)) in
     (omega (arith, s, c .before .before .before .before .loop .inv .0), omega (arith, c .before .before .before .before .loop .inv .1))
 
 add-k : tie.Need-add-k Inv-loop μ-loop
@@ -40,8 +42,12 @@ loop-less c = omega (arith, c .before .before .before .before .loop-test .taken)
 
 loop-again : tie.Need-loop-again Inv-loop μ-loop
 loop-again c =
-    let s = ap length (line-goes _ _ _ _ _ _ (c .before .before .before .before .loop-test .taken) (c .before .before .before .next-line-byte .ensures) (c .before .before .is-byte .ensures) (c .before .if1 .left)) in
-    (omega (arith, s, c .before .before .before .before .before .loop .inv .0), omega (arith, c .before .before .before .before .loop-test .taken, c .before .before .before .before .before .loop .inv .1))
+    let s = ap length
+    (line-goes _ _ _ _ _ _ (c .before .before .before .before .loop-test .taken) (c .before .before .before .next-line-byte .ensures)
+    (c .before .before .is-byte .ensures) (c .before .if1 .left)) in (
+      omega (arith, s, c .before .before .before .before .before .loop .inv .0),
+      omega (arith, c .before .before .before .before .loop-test .taken, c .before .before .before .before .before .loop .inv .1),
+    )
 
 returns-2 : tie.Need-returns-2 Inv-loop μ-loop
 returns-2 c = (count-ends _ _ _ _ (c .loop-test .left) (c .before .loop .inv .0), omega (arith, c .before .loop .inv .1))

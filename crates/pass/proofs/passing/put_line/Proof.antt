@@ -10,7 +10,9 @@ use Rattle.pass.proofs.passing.put_line.Statement.{statement}
 use Rattle.pass.proofs.passing.put_line.Tie as tie
 
 abbrev Inv-loop : tie.InvT-loop
-Inv-loop rx tx n out₀ to t₀ left₀ k₀ out t left k = (Rest out₀ to (bytesText (lineOut n (world t₀ rx tx))) out k (bytesText (lineOut left (world t rx tx)))) × ((k + 4 * left ≤ to + 4 * n) × (to + 4 * n ≤ length out))
+Inv-loop rx tx n out₀ to t₀ left₀ k₀ out t left k =
+    (Rest out₀ to (bytesText (lineOut n (world t₀ rx tx))) out k (bytesText (lineOut left (world t rx tx)))) ×
+    ((k + 4 * left ≤ to + 4 * n) × (to + 4 * n ≤ length out))
 
 abbrev μ-loop : tie.MeasureT-loop
 μ-loop rx tx n out₀ to t₀ left₀ k₀ out t left k = left
@@ -28,14 +30,23 @@ same-length : tie.Need-same-length Inv-loop μ-loop
 same-length c = c .before .before .before .before .loop .inv .0 .size
 
 returns : tie.Need-returns Inv-loop μ-loop
-returns c =
-    (bytes-end (line-stops _ _ _ _ _ _ (c .before .before .before .loop-test .taken) (c .before .before .next-line-byte .ensures) (c .before .is-byte .ensures) (c .if1 .taken)) (c .before .before .before .before .loop .inv .0), omega (arith, c .before .before .before .before .loop .inv .1 .0))
+returns c = (
+  bytes-end (line-stops _ _ _ _ _ _ (c .before .before .before .loop-test .taken) (c .before .before .next-line-byte .ensures)
+      (c .before .is-byte .ensures) (c .if1 .taken)) (c .before .before .before .before .loop .inv .0),
+  omega (arith, c .before .before .before .before .loop .inv .1 .0),
+)
 
 byte-in-requires : tie.Need-byte-in-requires Inv-loop μ-loop
 byte-in-requires c κs = search needs
 
 put-byte-requires : tie.Need-put-byte-requires Inv-loop μ-loop
-put-byte-requires c κs = omega (arith, c .before .before .before .before .before .loop-test .taken, c .before .before .before .before .before .before .loop .inv .1 .0, c .before .before .before .before .before .before .loop .inv .1 .1)
+put-byte-requires c κs =
+    omega (
+      arith,
+      c .before .before .before .before .before .loop-test .taken,
+      c .before .before .before .before .before .before .loop .inv .1 .0,
+      c .before .before .before .before .before .before .loop .inv .1 .1,
+    )
 
 sub-left : tie.Need-sub-left Inv-loop μ-loop
 sub-left c = omega (arith, c .before .before .before .before .before .before .before .before .before .loop-test .taken)
@@ -45,8 +56,31 @@ loop-less c = omega (arith, c .before .before .before .before .before .before .b
 
 loop-again : tie.Need-loop-again Inv-loop μ-loop
 loop-again c = (
-  bytes-again _ _ _ (omega (arith, c .before .before .before .before .before .before .before .before .before .before .loop .inv .1 .0, c .before .before .before .before .before .before .before .before .before .before .loop .inv .1 .1)) (line-goes _ _ _ _ _ _ (c .before .before .before .before .before .before .before .before .before .loop-test .taken) (c .before .before .before .before .before .before .before .before .next-line-byte .ensures) (c .before .before .before .before .before .before .before .is-byte .ensures) (c .before .before .before .before .before .before .if1 .left)) (c .before .before .before .before .byte-in .ensures) (c .before .before .before .before .before .before .before .before .before .before .loop .inv .0) (c .before .before .before .put-byte .ensures .0),
-  (omega (arith, c .before .before .before .before .before .before .before .before .before .loop-test .taken, c .before .before .before .before .before .before .before .before .before .before .loop .inv .1 .0, c .before .before .before .put-byte .ensures .1), omega (arith, c .before .before .before .before .before .before .before .before .before .before .loop .inv .1 .1, c .before .before .before .put-byte .ensures .0 .size)),
+  bytes-again _ _ _
+      (omega (
+        arith,
+        c .before .before .before .before .before .before .before .before .before .before .loop .inv .1 .0,
+        c .before .before .before .before .before .before .before .before .before .before .loop .inv .1 .1,
+      ))
+      (line-goes _ _ _ _ _ _ (c .before .before .before .before .before .before .before .before .before .loop-test .taken)
+      (c .before .before .before .before .before .before .before .before .next-line-byte .ensures)
+      (c .before .before .before .before .before .before .before .is-byte .ensures)
+      (c .before .before .before .before .before .before .if1 .left)) (c .before .before .before .before .byte-in .ensures)
+      (c .before .before .before .before .before .before .before .before .before .before .loop .inv .0)
+      (c .before .before .before .put-byte .ensures .0),
+  (
+    omega (
+      arith,
+      c .before .before .before .before .before .before .before .before .before .loop-test .taken,
+      c .before .before .before .before .before .before .before .before .before .before .loop .inv .1 .0,
+      c .before .before .before .put-byte .ensures .1,
+    ),
+    omega (
+      arith,
+      c .before .before .before .before .before .before .before .before .before .before .loop .inv .1 .1,
+      c .before .before .before .put-byte .ensures .0 .size,
+    ),
+  ),
 )
 
 same-length-2 : tie.Need-same-length-2 Inv-loop μ-loop

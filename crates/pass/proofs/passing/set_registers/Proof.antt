@@ -10,7 +10,8 @@ use Rattle.pass.proofs.passing.set_registers.Statement.{statement}
 use Rattle.pass.proofs.passing.set_registers.Tie as tie
 
 abbrev Inv-loop : tie.InvT-loop
-Inv-loop rx tx x i n t₀ at₀ left₀ t at left = (setRegisters left x at (world t rx tx) ≡ setRegisters n x i (world t₀ rx tx)) × ((at + 2 * left ≤ length x) × (at + 2 * left < 65536))
+Inv-loop rx tx x i n t₀ at₀ left₀ t at left =
+    (setRegisters left x at (world t rx tx) ≡ setRegisters n x i (world t₀ rx tx)) × ((at + 2 * left ≤ length x) × (at + 2 * left < 65536))
 
 abbrev μ-loop : tie.MeasureT-loop
 μ-loop rx tx x i n t₀ at₀ left₀ t at left = left
@@ -40,10 +41,16 @@ fault-of-requires : tie.Need-fault-of-requires Inv-loop μ-loop
 fault-of-requires c κs = search needs
 
 returns : tie.Need-returns Inv-loop μ-loop
-returns c = set-stops _ _ _ _ _ _ _ _ _ (c .before .before .before .before .before .wide32 .ensures) (c .before .before .before .wide322 .ensures) (c .before .before .write-register .ensures) _ (c .before .before .before .before .before .before .before .loop-test .taken) (c .before .fault-of .ensures) (c .if1 .taken) (c .before .before .before .before .before .before .before .before .loop .inv .0)
+returns c = set-stops _ _ _ _ _ _ _ _ _ (c .before .before .before .before .before .wide32 .ensures) (c .before .before .before .wide322 .ensures)
+    (c .before .before .write-register .ensures) _ (c .before .before .before .before .before .before .before .loop-test .taken)
+    (c .before .fault-of .ensures) (c .if1 .taken) (c .before .before .before .before .before .before .before .before .loop .inv .0)
 
 add-at : tie.Need-add-at Inv-loop μ-loop
-add-at c = omega (arith, c .before .before .before .before .before .before .before .before .before .loop .inv .1 .1, c .before .before .before .before .before .before .before .before .loop-test .taken)
+add-at c = omega (
+  arith,
+  c .before .before .before .before .before .before .before .before .before .loop .inv .1 .1,
+  c .before .before .before .before .before .before .before .before .loop-test .taken,
+)
 
 sub-left : tie.Need-sub-left Inv-loop μ-loop
 sub-left c = omega arith
@@ -52,7 +59,13 @@ loop-less : tie.Need-loop-less Inv-loop μ-loop
 loop-less c = omega arith
 
 loop-again : tie.Need-loop-again Inv-loop μ-loop
-loop-again c = (set-again _ _ _ _ _ _ _ _ _ (c .before .before .before .before .before .before .wide32 .ensures) (c .before .before .before .before .wide322 .ensures) (c .before .before .before .write-register .ensures) _ (c .before .before .before .before .before .before .before .before .loop-test .taken) (c .before .before .fault-of .ensures) (c .before .if1 .left) (c .before .before .before .before .before .before .before .before .before .loop .inv .0), (omega arith, omega arith))
+loop-again c = (
+  set-again _ _ _ _ _ _ _ _ _ (c .before .before .before .before .before .before .wide32 .ensures) (c .before .before .before .before .wide322 .ensures)
+      (c .before .before .before .write-register .ensures) _ (c .before .before .before .before .before .before .before .before .loop-test .taken)
+      (c .before .before .fault-of .ensures) (c .before .if1 .left)
+      (c .before .before .before .before .before .before .before .before .before .loop .inv .0),
+  (omega arith, omega arith),
+)
 
 returns-2 : tie.Need-returns-2 Inv-loop μ-loop
 returns-2 c = set-ends _ _ _ _ _ _ (c .loop-test .left) (c .before .loop .inv .0)

@@ -10,7 +10,8 @@ use Rattle.pass.proofs.passing.take_bytes.Statement.{statement}
 use Rattle.pass.proofs.passing.take_bytes.Tie as tie
 
 abbrev Inv-loop : tie.InvT-loop
-Inv-loop rx₀ tx x i n t₀ at₀ left₀ rx t at left = (takeBytes left x at (world t rx tx) ≡ takeBytes n x i (world t₀ rx₀ tx)) × (((at + left ≤ length x) × (at + left < 65536)) × (length rx ≡ length rx₀))
+Inv-loop rx₀ tx x i n t₀ at₀ left₀ rx t at left =
+    (takeBytes left x at (world t rx tx) ≡ takeBytes n x i (world t₀ rx₀ tx)) × (((at + left ≤ length x) × (at + left < 65536)) × (length rx ≡ length rx₀))
 
 abbrev μ-loop : tie.MeasureT-loop
 μ-loop rx₀ tx x i n t₀ at₀ left₀ rx t at left = left
@@ -25,7 +26,8 @@ line-byte-requires : tie.Need-line-byte-requires Inv-loop μ-loop
 line-byte-requires c κs = search needs
 
 add-at : tie.Need-add-at Inv-loop μ-loop
-add-at c = omega (arith, c .before .before .before .before .before .before .before .loop .inv .1 .0 .1, c .before .before .before .before .before .before .loop-test .taken)
+add-at c = omega
+    (arith, c .before .before .before .before .before .before .before .loop .inv .1 .0 .1, c .before .before .before .before .before .before .loop-test .taken)
 
 sub-left : tie.Need-sub-left Inv-loop μ-loop
 sub-left c = omega arith
@@ -34,7 +36,11 @@ loop-less : tie.Need-loop-less Inv-loop μ-loop
 loop-less c = omega arith
 
 loop-again : tie.Need-loop-again Inv-loop μ-loop
-loop-again c = (take-again _ _ _ _ _ _ _ _ (c .before .before .before .before .before .before .loop-test .taken) (c .before .before .before .line-byte .ensures) (c .before .before .before .before .before .before .before .loop .inv .0), ((omega arith, omega arith), search needs))
+loop-again c = (
+  take-again _ _ _ _ _ _ _ _ (c .before .before .before .before .before .before .loop-test .taken) (c .before .before .before .line-byte .ensures)
+      (c .before .before .before .before .before .before .before .loop .inv .0),
+  ((omega arith, omega arith), search needs),
+)
 
 same-length : tie.Need-same-length Inv-loop μ-loop
 same-length c = c .before .loop .inv .1 .1

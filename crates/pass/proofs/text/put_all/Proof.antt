@@ -13,4 +13,5 @@ put-all-spec =
     (λ c κs. search needs)
     (λ c. search needs)
     (λ c. search needs)
-    (λ c. put-text _ _ _ _ _ (c .before .before .before .before .before .before .pre) (c .before .before .copy .ensures .0) (c .before .before .copy .ensures .1)))
+    (λ c. put-text _ _ _ _ _ (c .before .before .before .before .before .before .pre) (c .before .before .copy .ensures .0)
+    (c .before .before .copy .ensures .1)))

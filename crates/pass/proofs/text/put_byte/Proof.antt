@@ -11,4 +11,6 @@ put-byte-spec =
     (λ c κs. search needs)
     (λ c κs. search needs)
     (λ c. search needs)
-    (λ c. byte-text _ _ (c .before .before .before .before .before .before .before .before .before .before .pre) (c .before .before .before .wide16 .ensures .0) (c .before .before .before .before .before .before .before .put .ensures) (c .before .before .put-number .ensures)))
+    (λ c. byte-text _ _ (c .before .before .before .before .before .before .before .before .before .before .pre)
+    (c .before .before .before .wide16 .ensures .0) (c .before .before .before .before .before .before .before .put .ensures)
+    (c .before .before .put-number .ensures)))

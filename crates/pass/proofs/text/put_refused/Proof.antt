@@ -13,4 +13,7 @@ put-refused-spec =
     (λ c κs. search needs)
     (λ c κs. search needs)
     (λ c. search needs)
-    (λ c. refusal-line _ _ (c .before .before .before .before .before .before .before .before .before .before .before .before .before .before .before .pre) (c .before .before .before .before .before .before .before .wide16 .ensures .0) (c .before .before .before .before .before .before .before .before .before .before .before .put-all .ensures) (c .before .before .before .before .before .before .put-number .ensures) (c .before .before .put .ensures)))
+    (λ c. refusal-line _ _ (c .before .before .before .before .before .before .before .before .before .before .before .before .before .before .before .pre)
+    (c .before .before .before .before .before .before .before .wide16 .ensures .0)
+    (c .before .before .before .before .before .before .before .before .before .before .before .put-all .ensures)
+    (c .before .before .before .before .before .before .put-number .ensures) (c .before .before .put .ensures)))
