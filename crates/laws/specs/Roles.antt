@@ -75,8 +75,7 @@ returnedTo r sent =
       address = r .address;
       talker = cond (leb 2 (r .talker)) (cond sent 2 1) (r .talker);
       listener = r .listener;
-      enabled =
-          r .enabled;
+      enabled = r .enabled;
       remote = r .remote;
     }
 
