@@ -8,7 +8,7 @@ use Rattle.state.specs.Answers.{Said, done, none, byte, frame, refused, part, i
 use Rattle.bridge.specs.Calls.{nextLineByte, Call, create, show, on, ofFrame, is, checks}
 use Rattle.laws.specs.Bridges.{Law}
 
--- "A call that has nothing to hand out answers that it is done"
+-- Sizes and refusals, last: done from a call with nothing to hand out
 abbrev pub doneOrRefused : Said → Bool
 doneOrRefused done = true
 doneOrRefused (refused n) = true
@@ -17,7 +17,7 @@ doneOrRefused (byte b) = false
 doneOrRefused (frame k d) = false
 doneOrRefused (part xs) = false
 
--- "with no line byte to give, the answer is none"
+-- Sizes and refusals, last: a line byte, or none where there is none to give
 abbrev pub byteOrRefused : Said → Bool
 byteOrRefused (byte b) = true
 byteOrRefused none = true
@@ -26,7 +26,7 @@ byteOrRefused done = false
 byteOrRefused (frame k d) = false
 byteOrRefused (part xs) = false
 
--- "Each frame taken gives exactly one frame out."
+-- Frames, first: one frame out for each that is taken
 abbrev pub frameOrRefused : Said → Bool
 frameOrRefused (frame k d) = true
 frameOrRefused (refused n) = true
@@ -35,7 +35,7 @@ frameOrRefused none = false
 frameOrRefused (byte b) = false
 frameOrRefused (part xs) = false
 
--- "Showing a store has no number: it returns .. a part"
+-- Sizes and refusals, showing: no number, a part
 abbrev pub isPart : Said → Bool
 isPart (part xs) = true
 isPart done = false

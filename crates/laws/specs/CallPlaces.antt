@@ -1,5 +1,5 @@
--- "The first byte after create, reset or device clear goes to place 0, each later one to the place after the one before, and nothing else
--- in a store is written.": what every call does to the places of both stores.
+-- Sizes and refusals, the places of the stores: what every call does to them. A store that was emptied begins at place 0, bytes go on place
+-- by place, and no other byte is written.
 use Prim.Native.Nat.{ℕ, _+_}
 use mathlib.Core.Path.{_≡_}
 use mathlib.Core.Bool.{Bool, true, cond}
@@ -14,7 +14,7 @@ use Rattle.laws.specs.Bridges.{Law}
 use Rattle.laws.specs.Observers.{accepted, added, empties}
 use Rattle.laws.specs.Places.{nextPlace}
 
--- the store with the bytes l written from place p on, "each later one to the place after the one before"
+-- the store with the bytes l written from place p on, each at the place after the one before it
 unfoldable pub writtenFrom : ℕ → List ℕ → List ℕ → List ℕ
 writtenFrom p [] s = s
 writtenFrom p (b ∷ l) s = writtenFrom (wrap (length s) (p + 1)) l (set s p b)
@@ -26,11 +26,11 @@ placeAfter cap p (b ∷ l) = placeAfter cap (wrap cap (p + 1)) l
 
 -- one store over a call that adds l: the bytes s and the ring r before it, s′ and r′ after it
 pub record Placed (emptied : Bool) (l s : List ℕ) (r : Ring) (s′ : List ℕ) (r′ : Ring) : Type 0 where
-  -- the bytes go to the next place and on, "and nothing else in a store is written"
+  -- the bytes go to the next place and on, and no other place is written
   pub bytes : s′ ≡ writtenFrom (nextPlace (length s) r) l s
   -- the next place is place 0 in a store that was emptied, else the one after them; bytes that leave do not move it
   pub next : nextPlace (length s) r′ ≡ cond emptied 0 (placeAfter (length s) (nextPlace (length s) r) l)
-  -- "Both stores empty"
+  -- an emptied store holds nothing
   pub none : emptied ≡ true → r′ .len ≡ 0
 
 -- both stores, which are emptied or not and to which a and b are added

@@ -10,7 +10,8 @@ use Rattle.laws.specs.Bridges.{Law}
 use Rattle.laws.specs.Events.{Event, happens, bitOf}
 use Rattle.laws.specs.StatusWay.{statusBack, endsWay}
 
--- "Bits 4, 5, 7 clear when a status byte that showed them returns unchanged, unless the thing happened again since it was sent"
+-- Status byte, bits 4, 5 and 7: clear when the status byte that showed them is back unchanged, where nothing of the kind happened while it
+-- was under way
 abbrev pub Clears : Event → Law
 Clears e =
     ofBetween

@@ -10,7 +10,7 @@ use Rattle.bridge.specs.Calls.{World}
 use Rattle.laws.specs.Observers.{accepted, lost, sent, startsAnew}
 use Rattle.laws.specs.Bridges.{Law, Saw}
 
--- "bytes stored in the receive store, bytes lost, data frames sent from the receive store"
+-- Status byte, the counts: bytes stored, bytes lost and frames sent, all of the receive store
 abbrev pub stored : World → ℕ
 stored w = w .state .counts .stored
 
@@ -20,7 +20,7 @@ losses w = w .state .counts .lost
 abbrev pub frameCount : World → ℕ
 frameCount w = w .state .counts .sent
 
--- "kept in 32 bits and starting again at 0 after 4,294,967,295"
+-- 32 bits: after 4,294,967,295 comes 0
 abbrev pub wrapped : ℕ → ℕ
 wrapped n = n % 2 ^ 32
 
@@ -30,7 +30,7 @@ pub record Counted (ss : List Saw) (v w : World) : Type 0 where
   pub lost : losses w ≡ wrapped (losses v + length (all lost ss))
   pub sent : frameCount w ≡ wrapped (frameCount v + length (all sent ss))
 
--- the counts are "kept in 32 bits"
+-- the counts are numbers of 32 bits
 pub record Small (w : World) : Type 0 where
   pub stored : stored w < 2 ^ 32
   pub lost : losses w < 2 ^ 32
@@ -40,12 +40,12 @@ pub record Small (w : World) : Type 0 where
 abbrev pub CountsGo : Law
 CountsGo = ofRuns (λ w ss. Without startsAnew ss → Small w → Counted ss w (end w ss))
 
--- "three counts since create or reset": "bytes stored in the receive store, bytes lost, data frames sent from the receive store"
+-- the three counts of a run that begins with a create or reset
 pub record CountedSince (ss : List Saw) (w : World) : Type 0 where
   pub stored : stored w ≡ wrapped (length (all accepted ss))
   pub lost : losses w ≡ wrapped (length (all lost ss))
   pub sent : frameCount w ≡ wrapped (length (all sent ss))
 
--- "since create or reset", whatever calls follow it
+-- from a create or reset on, whatever calls follow it
 abbrev pub CountsSince : Law
 CountsSince = ofSince (λ s ss. of startsAnew s ≡ true → Without startsAnew ss → CountedSince ss (end (s .after) ss))

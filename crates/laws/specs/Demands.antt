@@ -17,11 +17,11 @@ use Rattle.laws.specs.Events.{overrun, Stays}
 
 -- ---- demand 1, for the calls of a run
 
--- "Both stores, and the state, then stay exactly as they were."
+-- demand 1: a refused call leaves the state and both stores alone
 abbrev pub RefusedStays : Law
 RefusedStays = ofCalls (λ s. taken (s .answer) ≡ false → s .after ≡ s .before)
 
--- "Each frame taken gives exactly one frame out."
+-- Frames, first: one frame out for each that is taken
 abbrev pub OneFrameOut : Law
 OneFrameOut = ofCalls (λ s. (f : ℕ) → s .call ≡ on (loopFrame f) → taken (s .answer) ≡ true → isFrame (s .answer) ≡ true)
 
@@ -44,19 +44,18 @@ ElevenBits = ofCalls (λ s. isEleven (s .answer) ≡ true)
 abbrev pub lineToLoop : Reading World Call Said ℕ ℕ
 lineToLoop = record { accepted = accepted; sent = sent; held = heldToSend; reads = reading }
 
--- "Take any run of calls .., and no create, reset, register write or device clear. The data frames sent from the receive store, followed
--- by those the reading rule gives for the bytes still held, are those it gives for the bytes held at the start and then all accepted, the
--- service bit aside."
+-- first: in a run without create, reset, register write and device clear, the frames sent and then what the reading rule gives for the
+-- bytes still held are together what it gives for all the bytes there were, those held at first and then those accepted; the service bit
+-- aside
 abbrev pub FramesRead : Law
 FramesRead = ofRuns (λ w ss. Without changes ss → AllRead lineToLoop w ss)
 
--- "If a byte is lost, the overrun bit stays set until a status byte sent after that loss has come back unchanged.": also where registers
--- are written
+-- second: after a loss the overrun bit stays until a status byte that was sent later is back unchanged; also where registers are written
 abbrev pub OverrunStays : Law
 OverrunStays = Stays overrun
 
--- "If the run starts with the receiver protocol on, not holding off, and more room than the margin, and at most a margin of data bytes
--- arrives in each spell of holding off, no byte is lost."
+-- third: no byte is lost in a run that begins with the protocol on, the line not held off and more room than the margin, where in each
+-- spell of holding off no more data bytes arrive than the margin
 abbrev pub NoneLost : Law
 NoneLost =
     ofRuns

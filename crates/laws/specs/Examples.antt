@@ -1,4 +1,4 @@
--- "Proved examples": "Those marked P are proved together, a single statement over one table."
+-- Proved examples: those marked P, in one table and one statement.
 use Prim.Native.Nat.{ℕ}
 use mathlib.Core.Path.{_≡_}
 use mathlib.Core.List.{List, [], _∷_, map}
@@ -47,7 +47,7 @@ given (taken c d) = answers (taking c d .said) (taking c d .world .state .role .
 abbrev crlf : List ℕ → List Said → List ℕ → Example
 crlf xs fs rest = record { trial = held 13 10 xs; wanted = reads fs rest }
 
--- "Pair 13, 10 unless said; R10 bit 3 on."
+-- the pair is 13, 10 where none is said, and R10 bit 3 is on
 unfoldable pub table : List Example
 table =
     -- "no bytes; 50; 50 13: no frames"

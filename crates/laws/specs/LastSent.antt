@@ -1,4 +1,4 @@
--- "the last of go and stop we sent (at start: go)", by the line bytes handed out, over a run, register writes included.
+-- Holding the line off, last: the last of go and stop that we sent, by the line bytes handed out, over a run, register writes included.
 use Prim.Native.Nat.{ℕ}
 use mathlib.Core.Path.{_≡_}
 use mathlib.Core.Bool.{Bool, true, false, cond}
@@ -37,13 +37,13 @@ recorded w = w .state .line .stopped
 abbrev pub LastKept : Law
 LastKept = ofRuns (λ w ss. Without startsAnew ss → recorded (end w ss) ≡ lastSent (recorded w) ss)
 
--- "at start: go"
+-- at start it is go
 abbrev pub LastSince : Law
 LastSince = ofSince (λ s ss. of startsAnew s ≡ true → Without startsAnew ss → recorded (end (s .after) ss) ≡ lastSent false ss)
 
 -- ---- our own character
 
--- "If the last of go and stop we sent (at start: go) differs from what holds, the next line byte is that character, before all else"
+-- Holding the line off, last: where the last of go and stop that we sent is not what holds, the next line byte is the one that is
 abbrev pub OwnGiven : Law
 OwnGiven =
     ofBetween

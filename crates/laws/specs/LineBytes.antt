@@ -1,4 +1,4 @@
--- "Loop to line" over a run, register writes included.
+-- Loop to line over a run, register writes included.
 use mathlib.Core.Path.{_≡_}
 use mathlib.Core.Bool.{true}
 use mathlib.Core.List.{_++_}
@@ -20,7 +20,7 @@ loopToLine = record { accepted = added; sent = handedOut; held = heldForLine; re
 abbrev pub LineKept : Law
 LineKept = ofRuns (λ w ss. Without empties ss → AllRead loopToLine w ss)
 
--- "Since the last create, reset or device clear, the line bytes handed out in order, our own go and stop aside, followed by those held,
--- are these."
+-- Loop to line, last: what was handed out since the stores were emptied, without our own go and stop, and then what is held, is what the
+-- frames added
 abbrev pub LineSince : Law
 LineSince = ofSince (λ s ss. of empties s ≡ true → Without empties ss → all handedOut ss ++ heldForLine (end (s .after) ss) ≡ all added ss)

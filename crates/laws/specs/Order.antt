@@ -1,4 +1,4 @@
--- "Checked in the order of their numbers."
+-- Sizes and refusals, the table: its checks go by their numbers.
 use mathlib.Core.Path.{_≡_}
 use mathlib.Core.Bool.{true}
 use Rattle.cases.specs.Refusals.{rising}

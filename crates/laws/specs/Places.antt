@@ -1,5 +1,5 @@
--- "The first byte after create, reset or device clear goes to place 0, each later one to the place after the one before, and nothing else
--- in a store is written."
+-- Sizes and refusals, the places of the stores: place 0 first after create, reset or device clear, then place after place, and no other
+-- byte is written.
 use Prim.Native.Nat.{ℕ, _+_, _≤_, _<_}
 use mathlib.Core.Path.{_≡_}
 use mathlib.Core.List.{List}

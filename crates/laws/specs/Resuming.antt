@@ -1,4 +1,4 @@
--- "(With two bytes undecided the bridge must still reach its resume level.)"
+-- Sizes and refusals, first: two bytes that stay undecided do not keep the line held off.
 use Prim.Native.Nat.{ℕ}
 use mathlib.Core.Path.{_≡_}
 use mathlib.Core.Bool.{true, false}

@@ -11,8 +11,7 @@ use Rattle.bridge.specs.Calls.{Call, World}
 use Rattle.laws.specs.Observers.{taken, onFrame, statusSent, restarts}
 use Rattle.laws.specs.Bridges.{Saw}
 
--- it is under way no more: "A data frame taken while ours is under way is its return", and at a command "an active talker becomes merely
--- addressed and forgets the frame under way"
+-- it is under way no more: a data frame taken by an active talker is the return, and a command makes an active talker merely addressed
 unfoldable pub endsWay : Call → Said → Bool
 endsWay c a = onFrame (λ f. taken a && (isData f || eqb (controlOf f) 4)) (restarts c a) c
 
@@ -25,7 +24,7 @@ newest (g ∷ gs) l = g ∷ []
 unfoldable pub underWay : List ℕ → Call → World → Said → List ℕ
 underWay l c w a = newest (statusSent c w a) (cond (endsWay c a) [] l)
 
--- the frame is the one under way, "Compared without the service bit"
+-- the frame is the one under way, the service bit aside
 abbrev pub isUnchanged : List ℕ → ℕ → Bool
 isUnchanged [] f = false
 isUnchanged (g ∷ gs) f = sameApart f g

@@ -29,7 +29,7 @@ use Rattle.raftershim.specs.Calls.{lent, cDid, opened, blockAfter, close
 
 -- ---- a state that does not fit is refused
 
--- "the state does not fit the lent stores": refusal 2, and the world as it was
+-- a state that does not fit its stores: refusal 2, and the world as it was
 abbrev pub refusedDid : ℕ → World → Did
 refusedDid n w = record { said = refused n; world = w }
 

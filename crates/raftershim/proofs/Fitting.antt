@@ -1,4 +1,4 @@
--- "what create and the calls return always fits the same stores". Assumes nothing.
+-- What a C call leaves fits the same stores. Assumes nothing.
 use Prim.Native.Nat.{ℕ}
 use native.Mathlib.Omega.{arith}
 use mathlib.Core.Path.{_≡_, refl, sym, ap, subst, _∙_}

@@ -42,12 +42,12 @@ pub wrong-block-refused : WrongBlockRefused
 unfolding cStep createdFor
 wrong-block-refused m l e = rw e
 
--- "state and stores stay as they were", and so does the block
+-- a refusal leaves state and stores, and so the block
 closed-keeps : (l : Lent) (d : Did) → (isRefusal (d .said) ≡ true → d .world ≡ opened l) → isRefusal (d .said) ≡ true → closed l d .lent ≡ l
 unfolding closed
 closed-keeps l d k e = rw (e, k e)
 
--- "Each returns its number alone; state and stores stay as they were"
+-- a refusal is a number alone
 pub refusal-keeps : (c : Call) (w : World) → isRefusal (step c w .said) ≡ true → step c w .world ≡ w
 refusal-keeps c w = refusal-leaves c w
 
@@ -87,7 +87,7 @@ shown-place side w = pick (eqb (length p) 0) refl
         let high : placeWord k (length p) / 4294967296 ≡ k = omega (arith, t .start, t .len) in
         rw (e, part-word p, low, high) (t .place)
 
--- "an empty part if .. the state misfits"
+-- an empty part for a misfit state
 shown-none : (side : ℕ) (w : World) → fits (w .state) (length (w .rx)) (length (w .tx)) ≡ false → shown side w ≡ []
 unfolding shown
 shown-none side w e = cond-false _ _ _ e

@@ -1,5 +1,5 @@
--- "Our app, written in Rust, calls it as ordinary C functions on numbers and byte buffers; there (showing aside) the state travels as a
--- lent block of bytes of one fixed length, and a block that is not a fitting state gets refusal 2."
+-- What is built, the C functions: numbers and byte buffers, the state in a lent block of one length, and refusal 2 for a block that is no
+-- fitting state; showing alone gets no refusal.
 use Prim.Native.Nat.{ℕ}
 use mathlib.Core.Path.{_≡_}
 use mathlib.Core.Bool.{cond}
@@ -42,7 +42,7 @@ blockAfter b d s = cond (isRefusal d) b (packed s)
 unfoldable pub closed : Lent → Did → CDid
 closed l d = cDid (word (d .said)) (blockAfter (l .block) (d .said) (d .world .state)) (d .world .rx) (d .world .tx)
 
--- "create: a size above is broken, or the lent block has the wrong length"
+-- Sizes and refusals, the table, create: a size, or the length of the block
 unfoldable pub createdFor : Lent → Did → CDid
 createdFor l d = cond (eqb (length (l .block)) blockLen) (closed l d) (record { word = word (refused 1); lent = l })
 

@@ -1,4 +1,4 @@
--- "what create and the calls return always fits the same stores"
+-- Sizes and refusals, fitting: what create and the other C calls leave fits the same stores
 use Prim.Native.Nat.{ℕ}
 use mathlib.Core.Path.{_≡_}
 use mathlib.Core.Bool.{true}
@@ -22,7 +22,7 @@ BlockKeepsFit = (c : Call) (l : Lent) → OfBytes l → FitsStores l → FitsSto
 abbrev pub CreateFits : Type 0
 CreateFits = (m : ℕ) (l : Lent) → cStep (create m) l .word ≡ word done → FitsStores (cStep (create m) l .lent)
 
--- "the same stores": no C call makes a buffer longer or shorter
+-- the same stores: no C call makes a buffer longer or shorter
 pub record SameLengths (before after : Lent) : Type 0 where
   pub block : length (after .block) ≡ length (before .block)
   pub rx : length (after .rx) ≡ length (before .rx)

@@ -30,12 +30,12 @@ OneResultInC =
 abbrev pub WordTells : Type 0
 WordTells = (a : Said) → valueOf a < 65536 → (word a / 65536 ≡ kindOf a) × (word a % 65536 ≡ valueOf a)
 
--- "the longest unbroken run of bytes from the oldest one, as a part of the receive or the transmit buffer": bits 0 to 31 of the number are
--- its length and bits 32 to 63 its start in the buffer of that side
+-- Sizes and refusals, showing: from the oldest byte on, as far as the bytes stand together, as a part of the buffer of that side; bits 0 to
+-- 31 of the number are its length and bits 32 to 63 its start
 abbrev pub ShownPlace : Type 0
 ShownPlace = (side : ℕ) (w : World) → shown side w ≡ take (shownWord side w % 4294967296) (drop (shownWord side w / 4294967296) (storeOf side w))
 
--- "showing a store with a misfit state gives an empty part", the number 0, and nothing is written: of any block that is no fitting state
+-- Sizes and refusals, showing: of any block that is no fitting state an empty part, which is the number 0, and nothing is written
 abbrev pub MisfitShowsNothing : Type 0
 MisfitShowsNothing =
     (side : ℕ) (l : Lent) → fittingBlock (l .block) (length (l .rx)) (length (l .tx)) ≡ false → cStep (show side) l ≡ record { word = 0; lent = l }
@@ -46,24 +46,25 @@ MisfitShowsNothing =
 abbrev pub refusedBy : ℕ → Lent → CDid
 refusedBy n l = record { word = word (refused n); lent = l }
 
--- "a block that is not a fitting state gets refusal 2", and nothing is written; a block of the wrong length is no state
+-- What is built, the C functions: refusal 2 for a block that is no fitting state, and nothing is written; a block of another length is no
+-- state
 abbrev pub MisfitRefused : Type 0
 MisfitRefused =
     (c : OnState) (l : Lent) → fittingBlock (l .block) (length (l .rx)) (length (l .tx)) ≡ false → cStep (on c) l ≡ refusedBy 2 l
 
--- "or the lent block has the wrong length"
+-- Sizes and refusals, the table, create: the length of the block
 abbrev pub WrongBlockRefused : Type 0
 WrongBlockRefused = (m : ℕ) (l : Lent) → eqb (length (l .block)) blockLen ≡ false → cStep (create m) l ≡ refusedBy 1 l
 
--- "Each returns its number alone; state and stores stay as they were", and so does the block: of every C call whose number tells a
--- refusal, whatever the block is and how long it is
+-- Sizes and refusals, below the table: the number alone, and state, stores and block stay; of every C call whose number tells a refusal,
+-- whatever the block is and how long it is
 abbrev pub RefusalKeepsAll : Type 0
 RefusalKeepsAll = (c : Call) (l : Lent) → OfBytes l → isRefusal (cAnswer c l) ≡ true → cStep c l .lent ≡ l
 
 -- ---- every C function is the call of its name
 
--- "the state travels as a lent block": a C call on the block of a state answers the number of what the call answers, and leaves the
--- block of the state that the call leaves
+-- What is built, the lent block: a C call on the block of a state answers the number of what the call answers, and leaves the block of the
+-- state that the call leaves
 abbrev pub SameCall : Type 0
 SameCall = (c : Call) (w : World) → Ranged (w .state) → cStep c (packedWorld w) ≡ record { word = answerWord c w; lent = packedWorld (step c w .world) }
 
@@ -96,6 +97,6 @@ pub record RunMeans (cs : List Call) (l : Lent) : Type 0 where
 abbrev pub RunsMean : Type 0
 RunsMean = (cs : List Call) (l : Lent) → AllFair cFunctions cs → Whole l → RunMeans cs l
 
--- "Where an answer is an enum, a definition gives this paper's number and values": the number of a C call tells its whole answer
+-- Forms, answers: the number of a C call tells its whole answer
 abbrev pub AnswersTold : Type 0
 AnswersTold = (c : Call) (l : Lent) → Whole l → cAnswer c l ≡ step c (opened l) .said

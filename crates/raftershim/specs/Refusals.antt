@@ -1,4 +1,4 @@
--- The table of refusals, "Given exactly when", of the C calls.
+-- The table of refusals, of the C calls.
 use Prim.Native.Nat.{ℕ}
 use mathlib.Core.Bool.{_||_, not}
 use mathlib.Core.List.{List, [], _∷_}
@@ -14,11 +14,11 @@ use Rattle.raftershim.specs.Calls.{Lent, opened, cStep}
 use Rattle.raftershim.specs.Runs.{OfBytes}
 use Rattle.raftershim.specs.Told.{cAnswer}
 
--- "create: a size above is broken, or the lent block has the wrong length"
+-- Sizes and refusals, the table, create: a size, or the length of the block
 abbrev pub cannotCreate : ℕ → Lent → Check
 cannotCreate m l = check 1 (not (sizesObeyed m (length (l .rx)) (length (l .tx))) || not (eqb (length (l .block)) blockLen))
 
--- "any other call but showing: the state does not fit the lent stores", and "a block that is not a fitting state gets refusal 2"
+-- Sizes and refusals, the table, any other call but showing: a state that does not fit, and a block that is none
 abbrev pub misfitBlock : Lent → Check
 misfitBlock l = check 2 (not (fittingBlock (l .block) (length (l .rx)) (length (l .tx))))
 
@@ -28,7 +28,7 @@ cChecks (create m) l = cannotCreate m l ∷ []
 cChecks (show side) l = []
 cChecks (on c) l = misfitBlock l ∷ checksOn c (opened l .state)
 
--- "Given exactly when": every C call, on any buffers of bytes, a block of any length among them, answers by its number the refusal of the
--- first of its checks that is given, and only then a refusal
+-- Sizes and refusals, the table: every C call, on any buffers of bytes, a block of any length among them, answers by its number the refusal
+-- of the first of its checks that is given, and only then a refusal
 abbrev pub RefusedExactlyInC : Type 0
 RefusedExactlyInC = (c : Call) (l : Lent) → OfBytes l → Refuses (cAnswer c l) (cStep c l .lent) (firstRefusal (cChecks c l)) l

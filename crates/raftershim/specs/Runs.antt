@@ -41,7 +41,7 @@ pub record OfBytes (l : Lent) : Type 0 where
   pub rx : Bytes (l .rx)
   pub tx : Bytes (l .tx)
 
--- and "a lent block of bytes of one fixed length", a state or not
+-- and a lent block of the one length, a state or not
 pub record Whole (l : Lent) : Type 0 where
   pub size : length (l .block) ≡ blockLen
   pub bytes : OfBytes l

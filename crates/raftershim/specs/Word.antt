@@ -46,6 +46,6 @@ placeOf side s = cond (eqb side 0) (s .rx .oldest) (s .tx .oldest)
 abbrev pub storeOf : ℕ → World → List ℕ
 storeOf side w = cond (eqb side 0) (w .rx) (w .tx)
 
--- "an empty part if nothing is held, the state misfits or the side is neither": the number 0
+-- Sizes and refusals, showing: an empty part is the number 0
 unfoldable pub shownWord : ℕ → World → ℕ
 shownWord side w = cond (eqb (length (shown side w)) 0) 0 (placeWord (placeOf side (w .state)) (word (part (shown side w))))

@@ -53,7 +53,7 @@ status-small s =
       weight (c .key) 128,
     )
 
--- its frame, "the service bit aside", is what it is
+-- its frame, the service bit aside, is what it is
 pub status-frame : (s : State) → dataFrame (said (Frame (serviced s (made 0 (statusOf s))))) ≡ stripped (made 0 (statusOf s)) ∷ []
 unfolding said
 status-frame s =

@@ -1,4 +1,4 @@
--- "three counts since create or reset, kept in 32 bits and starting again at 0 after 4,294,967,295". Assumes nothing.
+-- The three counts, in 32 bits. Assumes nothing.
 use Prim.Native.Nat.{ℕ, _+_, _^_, _<_}
 use native.Mathlib.Omega.{arith}
 use mathlib.Core.Path.{_≡_, refl, sym, ap, _∙_}

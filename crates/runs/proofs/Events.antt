@@ -1,5 +1,4 @@
--- "Bits 4, 5, 7 clear when a status byte that showed them returns unchanged, unless the thing happened again since it was sent." Assumes
--- nothing.
+-- Bits 4, 5 and 7: when they are set and when they clear. Assumes nothing.
 use Prim.Native.Nat.{ℕ}
 use mathlib.Core.Path.{_≡_, refl, sym, ap, _∙_}
 use mathlib.Core.Bool.{Bool, true, false, cond, _||_, not, false≢true}

@@ -1,5 +1,4 @@
--- "The data frames sent from the receive store, followed by those the reading rule gives for the bytes still held, are those it gives for
--- the bytes held at the start and then all accepted, the service bit aside." Assumes nothing.
+-- Demand 3, first: the frames sent, and those of the bytes still held, are those of all the bytes there were. Assumes nothing.
 use Prim.Native.Nat.{ℕ, _<_}
 use mathlib.Core.Path.{_≡_, refl, sym, ap, subst, _∙_}
 use mathlib.Core.Bool.{false, false≢true}

@@ -1,4 +1,4 @@
--- "the last of go and stop we sent" is what the bridge recorded. Assumes nothing.
+-- The last of go and stop that we sent is what the bridge recorded. Assumes nothing.
 use Prim.Native.Nat.{ℕ}
 use mathlib.Core.Path.{_≡_, refl, sym, ap, _∙_}
 use mathlib.Core.Bool.{Bool, true, false, cond, _||_}
@@ -85,7 +85,7 @@ module _ (s : State) (rx : List ℕ) (f : ℕ) where
 
 -- ---- our own character
 
--- "go and stop differ"
+-- go and stop are two characters
 own-character : (h : Bool) (x y : ℕ) → (x ≡ y → ⊥) → h ≡ eqb (cond h y x) y
 own-character true x y d = sym (eq-eqb y y refl)
 own-character false x y d = sym (ne-eqb x y d)
@@ -119,7 +119,7 @@ module _ (w : World) where
 -- ---- every call
 
 module _ (c : Call) (w : World) where
-  -- "at start: go"
+  -- at start it is go
   abbrev LastRight : Did → Type 0
   LastRight d = recorded (d .world) ≡ cond (startsAnew c w (d .said)) false (lastOf (recorded w) c w (d .said))
 

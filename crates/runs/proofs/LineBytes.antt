@@ -1,5 +1,4 @@
--- "Since the last create, reset or device clear, the line bytes handed out in order, our own go and stop aside, followed by those held,
--- are these." Assumes nothing.
+-- Loop to line, last: what was handed out and what is held is what the frames added. Assumes nothing.
 use Prim.Native.Nat.{ℕ, _+_, _≤_, _<_}
 use native.Mathlib.Omega.{arith}
 use mathlib.Core.Path.{_≡_, refl, sym, ap, _∙_}

@@ -1,5 +1,4 @@
--- "If the run starts with the receiver protocol on, not holding off, and more room than the margin, and at most a margin of data bytes
--- arrives in each spell of holding off, no byte is lost." Assumes nothing.
+-- Demand 3, third: no byte is lost where each spell of holding off brings no more than the margin. Assumes nothing.
 use Prim.Native.Nat.{ℕ, suc, _+_, _-_, _*_, _≤_, _<_}
 use native.Mathlib.Omega.{arith}
 use mathlib.Core.Path.{_≡_, refl, sym, subst}

@@ -1,4 +1,4 @@
--- "Both stores, and the state, then stay exactly as they were." "Each frame taken gives exactly one frame out." Assumes nothing.
+-- A refused call leaves all alone, and a frame taken gives one out. Assumes nothing.
 use Prim.Native.Nat.{ℕ}
 use mathlib.Core.Path.{_≡_, refl, sym, _∙_}
 use mathlib.Core.Bool.{true, false, false≢true}

@@ -1,4 +1,4 @@
--- "send the first frame, or 5,64 if the reading rule has none". Assumes nothing.
+-- A send gives the first frame of the reading rule, or 5,64 where there is none. Assumes nothing.
 use Prim.Native.Nat.{ℕ}
 use mathlib.Core.Path.{_≡_, refl, sym, ap, subst, _∙_}
 use mathlib.Core.Bool.{Bool, true, false, cond}

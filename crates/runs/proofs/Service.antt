@@ -1,5 +1,4 @@
--- "Data frames sent (status too) or passed, and identify frames, get the service bit if a request showed before the call, and otherwise
--- keep theirs." Assumes nothing.
+-- Frames, last: which frames get the service bit. Assumes nothing.
 use Prim.Native.Nat.{ℕ, _+_, _-_, _%_, _<_}
 use native.Mathlib.Omega.{arith}
 use mathlib.Core.Path.{_≡_, refl, sym, ap, subst, _∙_}

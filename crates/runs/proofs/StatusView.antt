@@ -121,7 +121,7 @@ still-noted x y d broken p q = stays-true (x .brk) (showed d 16) (y .brk) p q
 still-noted x y d overrun p q = stays-true (x .overrun) (showed d 32) (y .overrun) p q
 still-noted x y d pressed p q = stays-true (x .key) (showed d 128) (y .key) p q
 
--- "an active talker becomes merely addressed", and no order makes one active
+-- a command leaves an active talker merely addressed, and no order makes one active
 merely : (r : Role) → eqb (merelyAddressed r .talker) 3 ≡ false
 unfolding merelyAddressed
 merely r = by-cond (λ (t : ℕ). eqb t 3 ≡ false) (isActive r) addressed (r .talker) (λ _. refl)
