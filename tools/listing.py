@@ -36,12 +36,12 @@ def layers():
 def below(crate, known=None):
     """The crates of the repository that a crate rests on, itself among them."""
     known = known or crates()
-    found, todo = set(), [crate]
-    while todo:
-        name = todo.pop()
+    found, ahead = set(), [crate]
+    while ahead:
+        name = ahead.pop()
         if name in known and name not in found:
             found.add(name)
-            todo += known[name]
+            ahead += known[name]
     return found
 
 
