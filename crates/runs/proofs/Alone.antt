@@ -1,19 +1,19 @@
 -- A break and a key press change nothing but the notes. Assumes nothing.
 use Prim.Native.Nat.{ℕ}
 use mathlib.Core.Path.{_≡_, refl, sym, _∙_}
-use mathlib.Core.Bool.{true, false, _||_, or-true, or-false, false≢true}
+use mathlib.Core.Bool.{Bool, true, false, cond, _||_, or-true, or-false, false≢true}
 use Rattle.cases.specs.Refusals.{firstRefusal}
 use Rattle.machine.specs.Machine.{Obeys}
 use Rattle.status.specs.declared.Events.{Events}
 use Rattle.state.specs.Answers.{refused}
 use Rattle.state.specs.Status.{settled, breakState, keyState}
 use Rattle.bridge.specs.Calls.{OnState, reset, write, lineByte, lineBreak, key, nextLineByte, loopFrame, Call, create, show}
-use Rattle.bridge.specs.Calls.{on, is, World, Did, checks, outcome, settledBy, rxAfter, txAfter, notRefused}
+use Rattle.bridge.specs.Calls.{on, is, World, Did, checks, outcome, settledBy, rxAfter, txAfter, notRefused, step}
 use Rattle.laws.specs.Bridges.{Saw}
 use Rattle.laws.specs.Observers.{taken, onOne}
-use Rattle.laws.specs.Events.{Event, broken, overrun, pressed, noted, happens, same, OnlyNoted, Alone}
+use Rattle.laws.specs.Events.{Event, broken, overrun, pressed, noted, same, OnlyNoted, Alone}
 use Rattle.laws.proofs.Refusing.{by-refusal}
-use Rattle.runs.proofs.Quiet.{same-either}
+use Rattle.runs.proofs.Alike.{same-either}
 use Rattle.runs.proofs.Steps.{ours}
 
 -- one more note
@@ -37,42 +37,46 @@ none-refused n d (on c) h = false≢true (sym (same-either (is d c) false) ∙ h
 abbrev saw : Call → World → Did → Saw
 saw c w d = record { call = c; before = w; answer = d .said; after = d .world }
 
-break-noted : (w : World) → OnlyNoted broken (saw (on lineBreak) w (notRefused (on lineBreak) w))
-unfolding notRefused outcome settledBy settled rxAfter txAfter breakState
-break-noted w = record { rest = refl; seen = set-broken (w .state .notes .seen); again = set-broken (w .state .notes .again) }
+abbrev Noted : Event → World → OnState → Type 0
+Noted e w c = OnlyNoted e (saw (on c) w (notRefused (on c) w))
 
-key-noted : (w : World) → OnlyNoted pressed (saw (on key) w (notRefused (on key) w))
-unfolding notRefused outcome settledBy settled rxAfter txAfter keyState
-key-noted w = record { rest = refl; seen = set-pressed (w .state .notes .seen); again = set-pressed (w .state .notes .again) }
+-- a call that is neither
+neither : {A B : Type 0} → (false ≡ true → A) × (false ≡ true → B)
+neither = (λ h. absurd (false≢true h), λ h. absurd (false≢true h))
+
+-- a break notes a break, and a key press notes a key press
+notes : (w : World) (c : OnState) → (is lineBreak c ≡ true → Noted broken w c) × (is key c ≡ true → Noted pressed w c)
+unfolding notRefused outcome settledBy settled rxAfter txAfter breakState keyState
+notes w reset = neither
+notes w (write n v) = neither
+notes w (lineByte b) = neither
+notes w lineBreak =
+    (λ _. record { rest = refl; seen = set-broken (w .state .notes .seen); again = set-broken (w .state .notes .again) }, λ h. absurd (false≢true h))
+notes w key =
+    (λ h. absurd (false≢true h), λ _. record { rest = refl; seen = set-pressed (w .state .notes .seen); again = set-pressed (w .state .notes .again) })
+notes w nextLineByte = neither
+notes w (loopFrame f) = neither
+
+-- ---- both laws
+
+holds-first : (t x : Bool) → cond t x false ≡ true → t ≡ true
+holds-first true x h = refl
+holds-first false x h = absurd (false≢true h)
+
+-- of the event e, which happens in the call d
+alone : (e : Event) (d : OnState) (w : World) → ((c : OnState) → is d c ≡ true → Noted e w c) → (c : Call) →
+    onOne d (taken (step c w .said)) false c ≡ true → OnlyNoted e (saw c w (step c w))
+alone e d w n c =
+    by-refusal (λ (x : Did). onOne d (taken (x .said)) false c ≡ true → OnlyNoted e (saw c w x)) c w (λ _. go c)
+    (λ _ h. absurd (none-refused (firstRefusal (checks c w)) d c h))
+  where
+    go : (c : Call) → onOne d (taken (notRefused c w .said)) false c ≡ true → OnlyNoted e (saw c w (notRefused c w))
+    go (create m) h = absurd (false≢true h)
+    go (show side) h = absurd (false≢true h)
+    go (on c) h = n c (holds-first (is d c) _ h)
 
 pub broken-alone : Obeys ours (Alone broken)
-broken-alone c w _ =
-    by-refusal (λ (d : Did). happens broken c w (d .said) ≡ true → OnlyNoted broken (saw c w d)) c w (λ _. go c)
-    (λ _ h. absurd (none-refused (firstRefusal (checks c w)) lineBreak c h))
-  where
-    go : (c : Call) → happens broken c w (notRefused c w .said) ≡ true → OnlyNoted broken (saw c w (notRefused c w))
-    go (create m) h = absurd (false≢true h)
-    go (show side) h = absurd (false≢true h)
-    go (on reset) h = absurd (false≢true h)
-    go (on (write n v)) h = absurd (false≢true h)
-    go (on (lineByte b)) h = absurd (false≢true h)
-    go (on lineBreak) h = break-noted w
-    go (on key) h = absurd (false≢true h)
-    go (on nextLineByte) h = absurd (false≢true h)
-    go (on (loopFrame f)) h = absurd (false≢true h)
+broken-alone c w _ = alone broken lineBreak w (λ c. notes w c .0) c
 
 pub pressed-alone : Obeys ours (Alone pressed)
-pressed-alone c w _ =
-    by-refusal (λ (d : Did). happens pressed c w (d .said) ≡ true → OnlyNoted pressed (saw c w d)) c w (λ _. go c)
-    (λ _ h. absurd (none-refused (firstRefusal (checks c w)) key c h))
-  where
-    go : (c : Call) → happens pressed c w (notRefused c w .said) ≡ true → OnlyNoted pressed (saw c w (notRefused c w))
-    go (create m) h = absurd (false≢true h)
-    go (show side) h = absurd (false≢true h)
-    go (on reset) h = absurd (false≢true h)
-    go (on (write n v)) h = absurd (false≢true h)
-    go (on (lineByte b)) h = absurd (false≢true h)
-    go (on lineBreak) h = absurd (false≢true h)
-    go (on key) h = key-noted w
-    go (on nextLineByte) h = absurd (false≢true h)
-    go (on (loopFrame f)) h = absurd (false≢true h)
+pressed-alone c w _ = alone pressed key w (λ c. notes w c .1) c

@@ -33,7 +33,7 @@ use Rattle.laws.specs.Holding.{sends, writesR11, holdingAfter, HoldingGoes}
 use Rattle.laws.specs.NextByte.{afterByte, forbiddenAfter, ForbiddenGoes}
 use Rattle.runs.proofs.Refused.{frame-answers, frame-taken}
 use Rattle.runs.proofs.Shapes.{Fits}
-use Rattle.runs.proofs.Quiet.{same-either}
+use Rattle.runs.proofs.Alike.{same-either}
 use Rattle.runs.proofs.FrameKinds.{Kind, isSent, isStatus, isBack, isCleared, isKept, isOther, kind-of}
 use Rattle.machine.specs.Machine.{Obeys}
 use Rattle.runs.proofs.Steps.{ours}

@@ -36,7 +36,7 @@ use Rattle.laws.specs.Observers.{restarts, startsAnew}
 use Rattle.laws.specs.LastSent.{afterOwn, lastOf, recorded, LastKept, LastSince}
 use Rattle.runs.proofs.Shapes.{Fits}
 use Rattle.runs.proofs.FrameKinds.{Kind, isSent, isStatus, isBack, isCleared, isKept, isOther, kind-of}
-use Rattle.runs.proofs.Quiet.{same-either}
+use Rattle.runs.proofs.Alike.{same-either}
 use Rattle.runs.proofs.Refusals.{or-refused, next-fits, frame-fits}
 use Rattle.runs.proofs.Runs.{first-not}
 use Rattle.runs.proofs.Steps.{answer, after, Without, lastSent, ours}

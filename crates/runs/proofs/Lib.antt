@@ -1,7 +1,8 @@
--- `FrameKinds` finds what a loop frame does. `Shapes` names the kinds of change of the stores, `View` finds the kind of every call, with its
--- parts `Quiet`, `LineView` and `FrameView`; `StatusView` does the same for the status byte. They are all that knows the conditions of a
--- step. `Refusals` takes what holds of a call that is not refused to the call. Then each statement by the kinds: `FramesRead`, `Events` and
--- `Margin` are demand 3.
+-- That our bridge obeys every law. What a loop frame does is found once, in `Ways` of the crate laws; `FrameKinds`, `FrameView` and
+-- `StatusView` are what the laws see of it, by a clause for each way. `Shapes` names the kinds of change of the stores, and `View` finds that
+-- of every call, with its parts `Quiet`, `LineView` and `FrameView`. `Refusals` takes what holds of a call that is not refused to the call.
+-- Then each law by these: `FramesRead`, `Events` and `Margin` are demand 3, and `Laws` has them all.
+pub mod Alike
 pub mod Steps
 pub mod Answered
 pub mod Shapes

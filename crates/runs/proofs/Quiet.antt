@@ -1,22 +1,17 @@
 -- A call in which no byte arrives. Assumes nothing.
 use Prim.Native.Nat.{ℕ}
-use mathlib.Core.Path.{_≡_, refl, sym, subst}
-use mathlib.Core.Bool.{Bool, true, false, cond}
+use mathlib.Core.Path.{_≡_, sym, subst}
 use mathlib.Core.List.{List, []}
 use Rattle.store.specs.Ring.{full}
 use Rattle.state.specs.Answers.{Said}
 use Rattle.bridge.specs.Calls.{Call, World, Did}
 use Rattle.laws.specs.Observers.{arrived, accepted, lost, sent, added, handedOut, changes, empties, startsAnew}
+use Rattle.runs.proofs.Alike.{same-either}
 use Rattle.runs.proofs.Shapes.{Seen, seen, Heart, heart, Shape}
 
 -- what a call did has a shape
 abbrev pub Shaped : (w : World) → Call → Did → Type 0
 Shaped w c d = Shape w (seen c w (d .said)) (heart (d .world .state)) (d .world .rx) (d .world .tx)
-
--- a test that changes nothing
-pub same-either : {A : Type 0} (t : Bool) (x : A) → cond t x x ≡ x
-same-either true x = refl
-same-either false x = refl
 
 -- ---- nothing arrives
 

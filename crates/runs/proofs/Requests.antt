@@ -42,7 +42,7 @@ use Rattle.runs.proofs.Answered.{status-frame}
 use Rattle.runs.proofs.Refused.{frame-answers, frame-taken}
 use Rattle.runs.proofs.FrameKinds.{Kind, isSent, isStatus, isBack, isCleared, isKept, isOther, clears-all, send-notes, kind-of}
 use Rattle.runs.proofs.Refusals.{or-refused, frame-fits}
-use Rattle.runs.proofs.Quiet.{same-either}
+use Rattle.runs.proofs.Alike.{same-either}
 use Rattle.runs.proofs.Steps.{answer, after, ours}
 use Rattle.machine.specs.Machine.{Obeys}
 

@@ -38,7 +38,7 @@ use Rattle.role.specs.Parts.{isActive}
 use Rattle.laws.proofs.Fitting.{keeps-bytes}
 use Rattle.laws.proofs.Refusing.{by-refusal, fitting}
 use Rattle.runs.proofs.Refusals.{if-taken}
-use Rattle.runs.proofs.Quiet.{same-either}
+use Rattle.runs.proofs.Alike.{same-either}
 use Rattle.runs.proofs.Runs.{first-not}
 use Rattle.runs.proofs.SendRule.{send-rule}
 use Rattle.laws.proofs.Answers.{frame-not-refused}

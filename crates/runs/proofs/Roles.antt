@@ -31,6 +31,7 @@ use Rattle.laws.specs.Worlds.{heldToSend}
 use Rattle.laws.specs.Roles.{commanded, readied, returnedTo, byFrame, RoleGoes}
 use Rattle.laws.proofs.Answers.{frame-not-refused}
 use Rattle.laws.proofs.Refusing.{by-refusal, fitting}
+use Rattle.runs.proofs.Alike.{same-kind}
 use Rattle.runs.proofs.Bytes.{held-all, sent-plain}
 use Rattle.runs.proofs.Sends.{seen-plain}
 use Rattle.runs.proofs.FrameKinds.{address-high, role-fits}
@@ -182,15 +183,7 @@ done-goes (on (loopFrame f)) w B e q =
     (w .state .role))
 
 refused-goes : (c : Call) (w : World) (n : ℕ) → Goes c w (record { said = refused n; world = w })
-refused-goes (create m) w n e = refl
-refused-goes (show side) w n e = refl
-refused-goes (on reset) w n e = refl
-refused-goes (on (write k v)) w n e = refl
-refused-goes (on (lineByte b)) w n e = refl
-refused-goes (on lineBreak) w n e = refl
-refused-goes (on key) w n e = refl
-refused-goes (on nextLineByte) w n e = refl
-refused-goes (on (loopFrame f)) w n e = refl
+refused-goes c w n e = sym (same-kind (w .state .role) c .0)
 
 pub role-goes : Obeys ours RoleGoes
 role-goes c w B = by-refusal (Goes c w) c w (done-goes c w B) (λ _. refused-goes c w _)

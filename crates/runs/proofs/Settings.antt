@@ -1,6 +1,6 @@
 -- A register write writes its register, and nothing else does; only a create or reset changes the sizes. Assumes nothing.
 use Prim.Native.Nat.{ℕ}
-use mathlib.Core.Path.{_≡_, refl, ap}
+use mathlib.Core.Path.{_≡_, refl, sym, ap}
 use mathlib.Core.Bool.{Bool, true, false, cond, true≢false}
 use mathlib.Core.List.{List}
 use lib.Dec.{eqb}
@@ -29,6 +29,7 @@ use Rattle.laws.specs.Registers.{numbers, writtenTo, RegistersGo}
 use Rattle.laws.proofs.Refusing.{by-refusal}
 use Rattle.laws.proofs.Ways.{Way, isNext, isBack, isLast, isDamaged, isStored, isPassed, isCleared}
 use Rattle.laws.proofs.Ways.{isObeyed, isAssigned, isSendAsked, isTold, isFinishing, isReady, isIdentified, way}
+use Rattle.runs.proofs.Alike.{same-kind}
 use Rattle.runs.proofs.Steps.{ours}
 
 -- the registers and the sizes stay
@@ -111,15 +112,7 @@ done-goes (on (loopFrame f)) w e =
     (frame-same (w .state) (w .rx) f (frameTaken (w .state) (w .rx) f) (way (w .state) (w .rx) f)) .regs)
 
 refused-goes : (c : Call) (w : World) (n : ℕ) → Goes c w (record { said = refused n; world = w })
-refused-goes (create m) w n e = refl
-refused-goes (show side) w n e = refl
-refused-goes (on reset) w n e = refl
-refused-goes (on (write k v)) w n e = refl
-refused-goes (on (lineByte b)) w n e = refl
-refused-goes (on lineBreak) w n e = refl
-refused-goes (on key) w n e = refl
-refused-goes (on nextLineByte) w n e = refl
-refused-goes (on (loopFrame f)) w n e = refl
+refused-goes c w n e = sym (same-kind (registerValues (w .state .regs)) c .1)
 
 pub registers-go : Obeys ours RegistersGo
 registers-go c w _ = by-refusal (Goes c w) c w (λ _. done-goes c w) (λ _. refused-goes c w _)

@@ -39,7 +39,7 @@ use Rattle.laws.specs.Observers.{taken, dataFrame, asksStatus, statusSent, rest
 use Rattle.laws.specs.StatusWay.{endsWay, statusBack}
 use Rattle.laws.specs.Events.{Event, broken, overrun, pressed, noted}
 use Rattle.runs.proofs.Refusals.{or-refused}
-use Rattle.runs.proofs.Quiet.{same-either}
+use Rattle.runs.proofs.Alike.{same-either}
 use Rattle.runs.proofs.Answered.{status-frame}
 use Rattle.loops.proofs.Clears.{clear-order}
 use Rattle.laws.proofs.Ways as ways
