@@ -1,19 +1,11 @@
 -- What the ends of short runs are seen to be. Assumes nothing.
 use Prim.Native.Nat.{ℕ}
-use mathlib.Core.Path.{refl}
 use mathlib.Core.Bool.{Bool, false}
 use mathlib.Core.List.{List}
 use lib.Dec.{eqb}
 use lib.ListN.{getD}
 use Rattle.frame.specs.Frame.{made}
-use Rattle.store.specs.Bytes.{Bytes}
 use Rattle.state.specs.Answers.{Said, done, none, byte, frame, refused, part}
-use Rattle.wrong.specs.SmallWorlds.{receiveBytes}
-use Rattle.wrong.proofs.Small.{bytes}
-
--- the receive store has bytes
-pub are-bytes : Bytes receiveBytes
-are-bytes = bytes receiveBytes refl
 
 -- the number at a place of the list is this one
 abbrev pub hasAt : ℕ → ℕ → List ℕ → Bool

@@ -38,8 +38,8 @@ full-bytes = bytes twoLines refl
 pub undecided-bytes : Bytes undecidedBytes
 undecided-bytes = bytes undecidedBytes refl
 
-pub line-bytes : Bytes oneToFour
-line-bytes = bytes oneToFour refl
+pub are-bytes : Bytes oneToFour
+are-bytes = bytes oneToFour refl
 
 -- calls that bring bytes, by a test
 abbrev pub byteCall : Call → Bool

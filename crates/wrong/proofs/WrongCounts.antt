@@ -11,7 +11,7 @@ use Rattle.wrong.specs.WrongTelling.{losesUnnoted}
 use Rattle.wrong.specs.WrongCounts.{countsEveryCall, countsStatus, restartKeepsCounts, clearRestartsCounts}
 use Rattle.wrong.specs.Broken.{Breaks}
 use Rattle.wrong.proofs.Computing.{computes}
-use Rattle.wrong.proofs.Small.{full-bytes, line-bytes, numbers-differ}
+use Rattle.wrong.proofs.Small.{full-bytes, are-bytes, numbers-differ}
 
 -- one byte came in
 abbrev came : World
@@ -28,7 +28,7 @@ small-full = record { stored = omega arith; lost = omega arith; sent = omega ari
 -- no byte is stored by a break
 pub counts-every-call-falls : Breaks countsEveryCall CountsGo
 unfolding computes
-counts-every-call-falls law = numbers-differ _ _ refl (law (on lineBreak ∷ []) came line-bytes (tt, tt) refl small-came .stored)
+counts-every-call-falls law = numbers-differ _ _ refl (law (on lineBreak ∷ []) came are-bytes (tt, tt) refl small-came .stored)
 
 -- no data frame is sent by status
 pub counts-status-falls : Breaks countsStatus CountsGo
@@ -38,7 +38,7 @@ counts-status-falls law = numbers-differ _ _ refl (law (on (loopFrame sendStatus
 -- the point is accepted and not counted
 pub swallows-the-point-miscounts : Breaks swallowsThePoint CountsGo
 unfolding computes
-swallows-the-point-miscounts law = numbers-differ _ _ refl (law (on (lineByte 46) ∷ []) came line-bytes (omega arith, tt) refl small-came .stored)
+swallows-the-point-miscounts law = numbers-differ _ _ refl (law (on (lineByte 46) ∷ []) came are-bytes (omega arith, tt) refl small-came .stored)
 
 -- a byte is lost and not counted
 pub loses-unnoted-miscounts : Breaks losesUnnoted CountsGo
@@ -48,13 +48,13 @@ loses-unnoted-miscounts law = numbers-differ _ _ refl (law (on (lineByte 51) ∷
 -- a device clear takes the byte that came in from the count
 pub clear-restarts-counts-falls : Breaks clearRestartsCounts CountsGo
 unfolding computes
-clear-restarts-counts-falls law = numbers-differ _ _ refl (law (on (loopFrame clearAll) ∷ []) came line-bytes (tt, tt) refl small-came .stored)
+clear-restarts-counts-falls law = numbers-differ _ _ refl (law (on (loopFrame clearAll) ∷ []) came are-bytes (tt, tt) refl small-came .stored)
 
 -- at a reset, with nothing after it
 pub counts-every-call-falls-since : Breaks countsEveryCall CountsSince
 unfolding computes
-counts-every-call-falls-since law = numbers-differ _ _ refl (law (on reset) [] came line-bytes tt tt refl refl .stored)
+counts-every-call-falls-since law = numbers-differ _ _ refl (law (on reset) [] came are-bytes tt tt refl refl .stored)
 
 pub restart-keeps-counts-falls : Breaks restartKeepsCounts CountsSince
 unfolding computes
-restart-keeps-counts-falls law = numbers-differ _ _ refl (law (on reset) [] came line-bytes tt tt refl refl .stored)
+restart-keeps-counts-falls law = numbers-differ _ _ refl (law (on reset) [] came are-bytes tt tt refl refl .stored)

@@ -12,13 +12,14 @@ use Rattle.bridge.specs.Calls.{reset, lineByte, lineBreak, key, Call, create, o
 use Rattle.laws.specs.Bridges.{bridge}
 use Rattle.laws.specs.Events.{Event, broken, overrun, pressed, noted, happens, Alone}
 use Rattle.laws.specs.Cleared.{NotInvented, NotAtStart}
-use Rattle.wrong.specs.SmallWorlds.{fresh, holdingBytes, sendingForbidden, happened, takesCommand}
+use Rattle.wrong.specs.SmallWorlds.{fresh, holdingBytes, happened, takesCommand}
+use Rattle.wrong.specs.Worlds.{forbidding}
 use Rattle.wrong.specs.Seeing.{noting}
 use Rattle.wrong.specs.WrongEvents.{breakEmpties, breakPresses, pressPermits, pressForgets}
 use Rattle.wrong.specs.WrongEvents.{commandSets, lineByteSets, clearKeeps, resetKeeps, createSets}
 use Rattle.wrong.specs.Broken.{Breaks}
 use Rattle.wrong.proofs.Computing.{computes}
-use Rattle.wrong.proofs.Ends.{are-bytes}
+use Rattle.wrong.proofs.Small.{are-bytes}
 
 -- ---- a break and a press that do more
 
@@ -32,7 +33,7 @@ break-presses-falls law = true≢false (law (on lineBreak) fresh are-bytes refl 
 
 pub press-permits-falls : Breaks pressPermits (Alone pressed)
 unfolding computes
-press-permits-falls law = false≢true (ap (λ (w : World). w .state .line .forbidden) (law (on key) sendingForbidden are-bytes refl .rest))
+press-permits-falls law = false≢true (ap (λ (w : World). w .state .line .forbidden) (law (on key) (forbidding fresh) are-bytes refl .rest))
 
 pub press-forgets-falls : Breaks pressForgets (Alone pressed)
 unfolding computes

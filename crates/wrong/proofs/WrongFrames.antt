@@ -10,11 +10,13 @@ use Rattle.laws.specs.Demands.{ElevenBits}
 use Rattle.laws.specs.Passing.{FramesPass}
 use Rattle.laws.specs.Service.{ServiceBit}
 use Rattle.laws.specs.Worlds.{heldToSend}
-use Rattle.wrong.specs.SmallWorlds.{receiveBytes, fresh, activeTalker, hiddenRequest, shownRequest, takes, takesCommand, takesReady}
+use Rattle.wrong.specs.SmallWorlds.{fresh, activeTalker, hiddenRequest, shownRequest, takes, takesCommand, takesReady}
+use Rattle.wrong.specs.Worlds.{oneToFour}
 use Rattle.wrong.specs.WrongFrames.{sameAddressOn, serviceOnCommands, takesService, showsHidden, carriesServiceOver, countsReadyOn, packsControl}
 use Rattle.wrong.specs.Broken.{Breaks}
 use Rattle.wrong.proofs.Computing.{computes}
-use Rattle.wrong.proofs.Ends.{are-bytes, isAnswer}
+use Rattle.wrong.proofs.Ends.{isAnswer}
+use Rattle.wrong.proofs.Small.{are-bytes}
 
 -- 5,130 where 5,131 is due
 pub same-address-on-falls : Breaks sameAddressOn FramesPass
@@ -44,7 +46,7 @@ shows-hidden-falls law = true≢false (law (takes 0 68) hiddenRequest are-bytes 
 
 two-held : heldToSend activeTalker ≡ 49 ∷ 50 ∷ []
 unfolding startState
-two-held = held-unbroken receiveBytes (record { oldest = 0; len = 2 }) (omega arith)
+two-held = held-unbroken oneToFour (record { oldest = 0; len = 2 }) (omega arith)
 
 -- 1,48 comes back for 0,48, and 1,49 is sent
 pub carries-service-falls : Breaks carriesServiceOver ServiceBit

@@ -9,7 +9,7 @@ use Rattle.wrong.specs.Worlds.{cameIn, switchedOff, begunWith, oneForThe
 use Rattle.wrong.specs.WrongLine.{takesDataForStop, neverRecordsSent, switchOffDropsGo, withholdsGoWhenOff}
 use Rattle.wrong.specs.Broken.{Breaks}
 use Rattle.wrong.proofs.Computing.{computes}
-use Rattle.wrong.proofs.Small.{line-bytes, holds, no-round, answers-differ}
+use Rattle.wrong.proofs.Small.{are-bytes, holds, no-round, answers-differ}
 use Rattle.wrong.proofs.Written.{Turn, turn, takes, Does}
 use Rattle.wrong.proofs.Trying.{in-since, in-between}
 
@@ -18,17 +18,17 @@ use Rattle.wrong.proofs.Trying.{in-since, in-between}
 -- the data byte 19 is handed out
 pub takes-data-for-stop-falls : Breaks takesDataForStop LastKept
 unfolding computes
-takes-data-for-stop-falls law = true≢false (rw (holds (begunWith 19) 0 1 refl) at (law (on nextLineByte ∷ []) (oneForTheLine 19) line-bytes (tt, tt) refl))
+takes-data-for-stop-falls law = true≢false (rw (holds (begunWith 19) 0 1 refl) at (law (on nextLineByte ∷ []) (oneForTheLine 19) are-bytes (tt, tt) refl))
 
 -- our own 19 is handed out
 pub never-records-sent-falls : Breaks neverRecordsSent LastKept
 unfolding computes
-never-records-sent-falls law = false≢true (law (on nextLineByte ∷ []) (cameIn 3 true false) line-bytes (tt, tt) refl)
+never-records-sent-falls law = false≢true (law (on nextLineByte ∷ []) (cameIn 3 true false) are-bytes (tt, tt) refl)
 
 -- a reset where stop was the last
 pub never-records-sent-falls-since : Breaks neverRecordsSent LastSince
 unfolding computes
-never-records-sent-falls-since law = true≢false (law (on reset) [] (cameIn 3 true true) line-bytes tt tt refl refl)
+never-records-sent-falls-since law = true≢false (law (on reset) [] (cameIn 3 true true) are-bytes tt tt refl refl)
 
 -- ---- an owed go
 

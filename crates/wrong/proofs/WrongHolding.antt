@@ -14,7 +14,7 @@ use Rattle.wrong.specs.Worlds.{fullOf, oneToFour, cameIn, talkerCameIn, 
 use Rattle.wrong.specs.WrongHolding.{beginsLate, endsAtMargin}
 use Rattle.wrong.specs.Broken.{Breaks}
 use Rattle.wrong.proofs.Computing.{computes}
-use Rattle.wrong.proofs.Small.{line-bytes, holds, no-round, lists-differ}
+use Rattle.wrong.proofs.Small.{are-bytes, holds, no-round, lists-differ}
 use Rattle.wrong.proofs.Written.{Turn, turn, takes, does, Does}
 use Rattle.wrong.proofs.Trying.{in-run}
 
@@ -23,14 +23,14 @@ use Rattle.wrong.proofs.Trying.{in-run}
 -- the third byte of four leaves one free
 pub begins-late-falls : Breaks beginsLate HoldingGoes
 unfolding computes
-begins-late-falls law = false≢true (law (on (lineByte 51)) (cameIn 2 false false) line-bytes)
+begins-late-falls law = false≢true (law (on (lineByte 51)) (cameIn 2 false false) are-bytes)
 
 -- a send leaves one free, where two end it
 pub ends-at-margin-falls : Breaks endsAtMargin HoldingGoes
 unfolding computes
 ends-at-margin-falls law =
     false≢true
-    (rw (holds oneToFour 0 4 refl) at (law (on (loopFrame sendData)) (having (λ s. withHolding s true) (fullOf oneToFour)) line-bytes))
+    (rw (holds oneToFour 0 4 refl) at (law (on (loopFrame sendData)) (having (λ s. withHolding s true) (fullOf oneToFour)) are-bytes))
 
 -- ---- no byte is lost, where at most one arrives in each spell
 

@@ -10,7 +10,7 @@ use Rattle.wrong.specs.Worlds.{full, twoLines, cameIn, oneToFour, sendDa
 use Rattle.wrong.specs.WrongSends.{impatient, repeats, swallowsThePoint, clearKeepsStore, restartKeepsStore}
 use Rattle.wrong.specs.Broken.{Breaks}
 use Rattle.wrong.proofs.Computing.{computes}
-use Rattle.wrong.proofs.Small.{full-bytes, full-holds, line-bytes, holds, lists-differ}
+use Rattle.wrong.proofs.Small.{full-bytes, full-holds, are-bytes, holds, lists-differ}
 
 -- ---- the frames that are read
 
@@ -30,7 +30,7 @@ repeats-falls law =
 pub swallows-the-point-falls : Breaks swallowsThePoint FramesRead
 unfolding computes
 swallows-the-point-falls law =
-    lists-differ _ _ refl (rw (holds oneToFour 0 1 refl) at (law (on (lineByte 46) ∷ []) (cameIn 1 false false) line-bytes (omega arith, tt) refl))
+    lists-differ _ _ refl (rw (holds oneToFour 0 1 refl) at (law (on (lineByte 46) ∷ []) (cameIn 1 false false) are-bytes (omega arith, tt) refl))
 
 -- ---- since the store was emptied
 

@@ -14,7 +14,7 @@ use Rattle.wrong.specs.WrongRefusals.{doneForNone, refusesToShow, swallo
 use Rattle.wrong.specs.WrongRefusals.{alwaysBusy, alwaysRefusing, refusesAndWrites, busyAndStores}
 use Rattle.wrong.specs.Broken.{Breaks}
 use Rattle.wrong.proofs.Computing.{computes}
-use Rattle.wrong.proofs.Ends.{are-bytes}
+use Rattle.wrong.proofs.Small.{are-bytes}
 
 -- ---- answers
 

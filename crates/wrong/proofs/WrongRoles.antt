@@ -12,7 +12,7 @@ use Rattle.wrong.specs.WrongRoles.{ignoring, neverTalker, neverListener,
 use Rattle.wrong.specs.WrongRoles.{activeThroughout, neverEnds, readdressed, remoteUnasked}
 use Rattle.wrong.specs.Broken.{Breaks}
 use Rattle.wrong.proofs.Computing.{computes}
-use Rattle.wrong.proofs.Ends.{are-bytes}
+use Rattle.wrong.proofs.Small.{are-bytes}
 
 abbrev isListener : Role → Bool
 isListener r = r .listener

@@ -10,12 +10,13 @@ use Rattle.state.specs.declared.Sizes.{Sizes}
 use Rattle.bridge.specs.Calls.{write, show, on}
 use Rattle.laws.specs.Showing.{ShowsSo}
 use Rattle.laws.specs.Starting.{SizesStay}
-use Rattle.wrong.specs.SmallWorlds.{receiveBytes, holdingBytes, misfitting, takesCommand}
+use Rattle.wrong.specs.SmallWorlds.{holdingBytes, misfitting, takesCommand}
+use Rattle.wrong.specs.Worlds.{oneToFour}
 use Rattle.wrong.specs.WrongShows.{showsNothing, showsMisfits, clearsMargin, writesMargin, wideBytes, wide}
 use Rattle.wrong.specs.Broken.{Breaks}
-use Rattle.wrong.proofs.Small.{bytes}
+use Rattle.wrong.proofs.Small.{bytes, are-bytes}
 use Rattle.wrong.proofs.Computing.{computes}
-use Rattle.wrong.proofs.Ends.{are-bytes, hasAt}
+use Rattle.wrong.proofs.Ends.{hasAt}
 
 -- two bytes are held
 pub shows-nothing-falls : Breaks showsNothing ShowsSo
@@ -26,7 +27,7 @@ shows-nothing-falls law =
 
 pub shows-misfits-falls : Breaks showsMisfits ShowsSo
 unfolding computes
-shows-misfits-falls law = true≢false (ap (hasAt 0 49) (law (show 0) misfitting are-bytes 0 receiveBytes refl refl .misfit refl))
+shows-misfits-falls law = true≢false (ap (hasAt 0 49) (law (show 0) misfitting are-bytes 0 oneToFour refl refl .misfit refl))
 
 wide-bytes : Bytes wideBytes
 wide-bytes = bytes wideBytes refl

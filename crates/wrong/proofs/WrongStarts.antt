@@ -14,7 +14,8 @@ use Rattle.wrong.specs.WrongStarts.{startsAt12, startsAssigned, createKe
 use Rattle.wrong.specs.WrongStarts.{resetWidens, resetKeepsRegisters, resetKeepsCounts, clearsRegisters, writesBothPairs}
 use Rattle.wrong.specs.Broken.{Breaks}
 use Rattle.wrong.proofs.Computing.{computes}
-use Rattle.wrong.proofs.Ends.{are-bytes, hasAt}
+use Rattle.wrong.proofs.Ends.{hasAt}
+use Rattle.wrong.proofs.Small.{are-bytes}
 
 -- ---- create and reset
 

@@ -9,16 +9,18 @@ use Rattle.store.proofs.Laws.{held-unbroken, held-empty}
 use Rattle.bridge.specs.Calls.{write, key, on}
 use Rattle.laws.specs.StatusTold.{StatusTold}
 use Rattle.laws.specs.Requests.{RequestsGo}
-use Rattle.wrong.specs.SmallWorlds.{receiveBytes, transmitBytes, fresh, holdingBytes, talkerOfOne, talkerWithoutRoom}
+use Rattle.wrong.specs.SmallWorlds.{transmitBytes, fresh, holdingBytes, talkerOfOne, talkerWithoutRoom}
+use Rattle.wrong.specs.Worlds.{oneToFour}
 use Rattle.wrong.specs.SmallWorlds.{hiddenRequest, shownRequest, takesCommand, takesReady}
 use Rattle.wrong.specs.WrongStatus.{showsExchanged, showsRoom, showsAfter, showsAnyRequest}
 use Rattle.wrong.specs.WrongStatus.{enablesExchanged, enablesAll, requestsOn, requestsForever}
 use Rattle.wrong.specs.Broken.{Breaks}
 use Rattle.wrong.proofs.Computing.{computes}
-use Rattle.wrong.proofs.Ends.{are-bytes, hasAt}
+use Rattle.wrong.proofs.Ends.{hasAt}
+use Rattle.wrong.proofs.Small.{are-bytes}
 
-one-held : held receiveBytes (record { oldest = 0; len = 1 }) ≡ 49 ∷ []
-one-held = held-unbroken receiveBytes (record { oldest = 0; len = 1 }) (omega arith)
+one-held : held oneToFour (record { oldest = 0; len = 1 }) ≡ 49 ∷ []
+one-held = held-unbroken oneToFour (record { oldest = 0; len = 1 }) (omega arith)
 
 all-held : held transmitBytes (record { oldest = 0; len = 3 }) ≡ transmitBytes
 all-held = held-unbroken transmitBytes (record { oldest = 0; len = 3 }) (omega arith)
@@ -38,7 +40,7 @@ pub shows-room-falls : Breaks showsRoom StatusTold
 unfolding computes
 shows-room-falls law =
     let sent = law (takesReady 97) talkerWithoutRoom are-bytes (made 5 97) refl refl refl in
-    let z : true ≡ false = rw (all-held, held-empty receiveBytes) at (ap (hasAt 0 2) sent) in
+    let z : true ≡ false = rw (all-held, held-empty oneToFour) at (ap (hasAt 0 2) sent) in
     true≢false z
 
 -- bit 6 is due, since a request showed
@@ -46,7 +48,7 @@ pub shows-after-falls : Breaks showsAfter StatusTold
 unfolding computes
 shows-after-falls law =
     let sent = law (takesReady 97) shownRequest are-bytes (made 5 97) refl refl refl in
-    let z : true ≡ false = rw (held-empty receiveBytes, held-empty transmitBytes) at (ap (hasAt 0 3) sent) in
+    let z : true ≡ false = rw (held-empty oneToFour, held-empty transmitBytes) at (ap (hasAt 0 3) sent) in
     true≢false z
 
 -- bit 6 where R00 bit 3 is off
@@ -54,7 +56,7 @@ pub shows-any-request-falls : Breaks showsAnyRequest StatusTold
 unfolding computes
 shows-any-request-falls law =
     let sent = law (takesReady 97) hiddenRequest are-bytes (made 5 97) refl refl refl in
-    let z : true ≡ false = rw (held-empty receiveBytes, held-empty transmitBytes) at (ap (hasAt 0 67) sent) in
+    let z : true ≡ false = rw (held-empty oneToFour, held-empty transmitBytes) at (ap (hasAt 0 67) sent) in
     true≢false z
 
 -- ---- requests

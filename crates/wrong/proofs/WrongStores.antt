@@ -9,12 +9,14 @@ use Rattle.store.proofs.Laws.{wrap-low}
 use Rattle.bridge.specs.Calls.{write, lineByte, nextLineByte, create, on}
 use Rattle.laws.specs.CallPlaces.{Places}
 use Rattle.laws.specs.Fitting.{KeepsFit, CreateMakesFit, KeepsStores}
-use Rattle.wrong.specs.SmallWorlds.{fresh, holdingBytes, oneByteForLine, takesCommand}
+use Rattle.wrong.specs.SmallWorlds.{fresh, holdingBytes, takesCommand}
+use Rattle.wrong.specs.Worlds.{oneForTheLine}
 use Rattle.wrong.specs.Changing.{heedless}
 use Rattle.wrong.specs.WrongStores.{oneTooFar, clearsInPlace, wiping, growing, clearsAway, createsAlike}
 use Rattle.wrong.specs.Broken.{Breaks}
 use Rattle.wrong.proofs.Computing.{computes}
-use Rattle.wrong.proofs.Ends.{are-bytes, hasAt}
+use Rattle.wrong.proofs.Ends.{hasAt}
+use Rattle.wrong.proofs.Small.{are-bytes}
 
 -- ---- places
 
@@ -35,7 +37,7 @@ clears-in-place-falls law =
 
 pub wiping-falls : Breaks wiping Places
 unfolding computes
-wiping-falls law = true≢false (ap (hasAt 0 0) (law (on nextLineByte) oneByteForLine are-bytes .tx .bytes))
+wiping-falls law = true≢false (ap (hasAt 0 0) (law (on nextLineByte) (oneForTheLine 65) are-bytes .tx .bytes))
 
 -- ---- the stores themselves
 

@@ -9,22 +9,20 @@ use Rattle.role.specs.declared.Role.{Role}
 use Rattle.role.specs.Parts.{withTalker, withEnabled}
 use Rattle.state.specs.declared.State.{State}
 use Rattle.state.specs.Sizes.{startState}
-use Rattle.state.specs.State.{withRegisters, withRole, withUnder, withRx, withTx, withLine, withCounts}
+use Rattle.state.specs.State.{withRegisters, withRole, withUnder, withRx, withTx, withCounts}
 use Rattle.state.specs.Status.{withRequest}
 use Rattle.bridge.specs.Calls.{Call, on, loopFrame, World, world}
 use Rattle.laws.specs.Events.{Event}
 use Rattle.wrong.specs.Seeing.{withNoted}
+use Rattle.wrong.specs.Worlds.{ring, oneToFour}
 
--- the bytes of the two stores: four places, as a margin of 1 wants, and three
-abbrev pub receiveBytes : List ℕ
-receiveBytes = 49 ∷ 50 ∷ 51 ∷ 52 ∷ []
-
+-- the bytes of a transmit store of three places
 abbrev pub transmitBytes : List ℕ
 transmitBytes = 65 ∷ 66 ∷ 67 ∷ []
 
--- the start, with its state changed
+-- the start with a margin of 1, a receive store of four places that "1" to "4" stand in, and its state changed
 abbrev pub started : (State → State) → World
-started change = world (change (startState 1 4 3)) receiveBytes transmitBytes
+started change = world (change (startState 1 4 3)) oneToFour transmitBytes
 
 abbrev pub fresh : World
 fresh = started (λ s. s)
@@ -35,7 +33,7 @@ registered n v s = withRegisters s (written startRegisters n v)
 
 -- a state that holds n bytes of the receive store
 abbrev holds : ℕ → State → State
-holds n s = withRx s (record { oldest = 0; len = n })
+holds n s = withRx s (ring 0 n)
 
 -- R10 bit 3 is on
 abbrev pub detecting : World
@@ -43,7 +41,7 @@ detecting = started (λ s. registered 10 8 s)
 
 -- a margin of 2 is recorded, which wants six places and not four
 abbrev pub misfitting : World
-misfitting = world (startState 2 4 3) receiveBytes transmitBytes
+misfitting = world (startState 2 4 3) oneToFour transmitBytes
 
 -- ---- roles
 
@@ -82,7 +80,7 @@ activeTalker = started (λ s. holds 2 (withUnder (withRole s active) (record { f
 
 -- a listener that has room for one byte, where an end byte adds three
 abbrev pub nearlyFull : World
-nearlyFull = started (λ s. withTx (withRole (registered 10 4 s) listener) (record { oldest = 0; len = 2 }))
+nearlyFull = started (λ s. withTx (withRole (registered 10 4 s) listener) (ring 0 2))
 
 -- ---- stores
 
@@ -93,14 +91,11 @@ holdingBytes n = started (λ s. holds n s)
 abbrev pub talkerOfOne : World
 talkerOfOne = started (λ s. holds 1 (withRole s talker))
 
-abbrev pub oneByteForLine : World
-oneByteForLine = started (λ s. withTx s (record { oldest = 0; len = 1 }))
-
 -- an addressed talker whose transmit store is full
 abbrev pub talkerWithoutRoom : World
-talkerWithoutRoom = started (λ s. withTx (withRole s talker) (record { oldest = 0; len = 3 }))
+talkerWithoutRoom = started (λ s. withTx (withRole s talker) (ring 0 3))
 
--- ---- notes, counts, line
+-- ---- notes and counts
 
 abbrev pub happened : Event → World
 happened e = started (λ s. withNoted e true s)
@@ -114,9 +109,6 @@ shownRequest = started (λ s. withRequest (withRole (registered 0 8 s) talker) t
 
 abbrev pub counting : World
 counting = started (λ s. withCounts s (record { stored = 3; lost = 2; sent = 1 }))
-
-abbrev pub sendingForbidden : World
-sendingForbidden = started (λ s. withLine s (record { holding = false; forbidden = true; stopped = false }))
 
 -- ---- calls
 

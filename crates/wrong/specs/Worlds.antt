@@ -127,5 +127,5 @@ abbrev pub oneForTheLine : ℕ → World
 oneForTheLine b = world (withTx (startState 1 4 3) (ring 0 1)) oneToFour (begunWith b)
 
 -- a listener that adds C02, C03 to an end byte
-abbrev pub listening : World
-listening = world (withRole (withRegisters (startState 1 4 3) (written startRegisters 10 4)) (withListener startRole true)) oneToFour (begunWith 0)
+abbrev pub listenerAddingEnds : World
+listenerAddingEnds = world (withRole (withRegisters (startState 1 4 3) (written startRegisters 10 4)) (withListener startRole true)) oneToFour (begunWith 0)
