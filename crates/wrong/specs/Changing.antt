@@ -61,6 +61,10 @@ withSizes s x =
       counts = s .counts;
     }
 
+-- the state with this margin
+abbrev pub withMargin : State → ℕ → State
+withMargin s m = withSizes s (record { rx = s .sizes .rx; tx = s .sizes .tx; margin = m })
+
 -- ---- calls
 
 abbrev pub isCommand : ℕ → Call → Bool

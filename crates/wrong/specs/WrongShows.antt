@@ -3,12 +3,11 @@ use Prim.Native.Nat.{ℕ}
 use mathlib.Core.Bool.{cond, _&&_}
 use mathlib.Core.List.{List, [], _∷_}
 use lib.Dec.{eqb}
-use Rattle.state.specs.declared.State.{State}
 use Rattle.state.specs.Answers.{part, done}
 use Rattle.state.specs.Sizes.{startState}
 use Rattle.bridge.specs.Calls.{Call, World, world, Did, misfit}
 use Rattle.laws.specs.Observers.{onWrite, clears}
-use Rattle.wrong.specs.Changing.{answering, afterwards, withSizes, isShow}
+use Rattle.wrong.specs.Changing.{answering, afterwards, withMargin, isShow}
 
 -- shows an empty part whatever is held
 abbrev pub showsNothing : Call → World → Did
@@ -18,17 +17,13 @@ showsNothing = answering (λ c w a. cond (isShow c) (part []) a)
 abbrev pub showsMisfits : Call → World → Did
 showsMisfits = answering (λ c w a. cond (isShow c && misfit w .given) (part (w .rx)) a)
 
--- the state with a margin of 1
-abbrev narrowed : State → State
-narrowed s = withSizes s (record { rx = s .sizes .rx; tx = s .sizes .tx; margin = 1 })
-
 -- a device clear sets the margin to 1
 abbrev pub clearsMargin : Call → World → Did
-clearsMargin = afterwards (λ c w s. cond (clears c w done) (narrowed s) s)
+clearsMargin = afterwards (λ c w s. cond (clears c w done) (withMargin s 1) s)
 
 -- writing R11 sets the margin to 1
 abbrev pub writesMargin : Call → World → Did
-writesMargin = afterwards (λ c w s. onWrite (λ n v. cond (eqb n 11) (narrowed s) s) s c)
+writesMargin = afterwards (λ c w s. onWrite (λ n v. cond (eqb n 11) (withMargin s 1) s) s c)
 
 -- a world whose margin is 2
 abbrev pub wideBytes : List ℕ

@@ -1,5 +1,5 @@
 -- Bridges that start wrongly, or whose registers go wrong.
-use Prim.Native.Nat.{ℕ, _+_}
+use Prim.Native.Nat.{_+_}
 use mathlib.Core.Bool.{cond}
 use lib.Dec.{eqb}
 use Rattle.registers.specs.Table.{startRegisters}
@@ -10,15 +10,11 @@ use Rattle.state.specs.Answers.{done}
 use Rattle.state.specs.State.{withRegisters, withRole, withCounts}
 use Rattle.bridge.specs.Calls.{reset, Call, World, Did}
 use Rattle.laws.specs.Observers.{onOne, onWrite, restarts, clears}
-use Rattle.wrong.specs.Changing.{afterwards, withSizes, isCreate}
+use Rattle.wrong.specs.Changing.{afterwards, withMargin, isCreate}
 
 -- ours, where a reset leaves another state
 abbrev resetting : (World → State → State) → Call → World → Did
 resetting change = afterwards (λ c w s. onOne reset (change w s) s c)
-
--- the state with this margin
-abbrev withMargin : State → ℕ → State
-withMargin s m = withSizes s (record { rx = s .sizes .rx; tx = s .sizes .tx; margin = m })
 
 -- ---- create and reset
 
