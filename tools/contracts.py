@@ -35,7 +35,7 @@ NAMES = {name: module for module, names in HOME.items() for name in names.split(
 WORDS = {name.strip("_") for name in NAMES} | {"×", "Unit", "⊥", "now"}
 
 # the functions of libc that the programs assume
-ASSUMED = {"examples": {"libc::write"}, "onepass": {"libc::read", "libc::write"}}
+ASSUMED = {"examples": {"libc::read", "libc::write"}, "onepass": {"libc::read", "libc::write"}}
 
 USE = re.compile(r"^\s*(?:pub )?(?:ghost )?use ([^\s{;]+)\.\{([^}]*)\}", re.M)
 ALIAS = re.compile(r"^\s*(?:pub )?(?:ghost )?use \S+ as ([^\s;]+)", re.M)

@@ -1,6 +1,10 @@
-// The paper's examples that are run, and the slips that we have seen, over the proved calls: each call and its answer, a line each.
+// Plays a script of calls over the proved bridge: each line of it is printed, and behind it what the call answers. The script is the
+// file stdin: the paper's examples that are run, and the slips that we have seen.
+ghost use Prim.Native.Nat.{_≤_, _<_};
+ghost use lib.ListN.{length};
 use libc::STDOUT_FILENO;
 use state::Answer;
+use state::Outcome;
 use state::State;
 
 fn text(t: &[u8]) {
@@ -39,294 +43,141 @@ fn answer(a: Answer) {
             number(n as u64);
         }
     }
-    text(b"\n");
 }
 
-fn title(t: &[u8]) {
-    text(t);
-    text(b"\n");
-}
-
-fn created(rx: &[u8], tx: &[u8], margin: usize) -> State {
-    let o = bridge::create(rx, tx, margin);
-    text(b"create, margin ");
-    number(margin as u64);
+// The state after a call whose answer is printed.
+fn answered(o: Outcome) -> State {
     text(b": ");
     let a = o.answer;
     answer(a);
     o.state
 }
 
-fn written(s: State, rx: &[u8], tx: &[u8], n: u32, v: u32) -> State {
-    let o = bridge::write_register(s, rx, tx, n, v);
-    text(b"register ");
-    number(n as u64);
-    text(b" is ");
-    number(v as u64);
-    text(b": ");
-    let a = o.answer;
-    answer(a);
-    o.state
+fn is_digit(b: u8) -> bool {
+    (48 <= b) & (b <= 57)
 }
 
-fn line(s: State, rx: &mut [u8], tx: &[u8], b: u8) -> State {
-    let o = bridge::line_byte(s, rx, tx, b);
-    text(b"line byte ");
-    number(b as u64);
-    text(b": ");
-    let a = o.answer;
-    answer(a);
-    o.state
+// A number with one digit more behind it, in 16 bits, where there is one.
+fn with_digit(value: u32, digit: bool, b: u8) -> u32
+    requires { ⌜ value < 65536 ⌝ }
+    ensures { λ r. ⌜ r < 65536 ⌝ }
+{
+    if digit {
+        return (value * 10 + (b % 48) as u32) % 65536;
+    }
+    value
 }
 
-fn next(s: State, rx: &[u8], tx: &[u8]) -> State {
-    let o = bridge::next_line_byte(s, rx, tx);
-    text(b"next line byte: ");
-    let a = o.answer;
-    answer(a);
-    o.state
+// How many numbers have ended, with the one that ends here.
+fn ended(seen: u32, ends: bool) -> u32
+    requires { ⌜ seen < 65536 ⌝ }
+    ensures { λ r. ⌜ r < 65536 ⌝ }
+{
+    if ends {
+        return (seen + 1) % 65536;
+    }
+    seen
 }
 
-// The loop frame control,data is offered.
-fn offer(s: State, rx: &[u8], tx: &mut [u8], control: u8, data: u8) -> State {
-    let f = frame::make(control, data);
-    let o = bridge::loop_frame(s, rx, tx, f as u32);
-    text(b"frame ");
-    frame(f);
-    text(b": ");
-    let a = o.answer;
-    answer(a);
-    o.state
+// The k-th number of a line, from 0, in 16 bits; 0 where there is none.
+fn number_in(line: &[u8], k: u32) -> u32
+    ensures { λ r. ⌜ r < 65536 ⌝ }
+{
+    let mut value: u32 = 0;
+    let mut seen: u32 = 0;
+    let mut inside = false;
+    let mut i = 0;
+    while i < line.len() {
+        let b = line[i];
+        let digit = is_digit(b);
+        value = with_digit(value, digit & (seen == k), b);
+        seen = ended(seen, inside & !digit);
+        inside = digit;
+        i = i + 1;
+    }
+    value
 }
 
-fn raw(s: State, rx: &[u8], tx: &mut [u8], f: u32) -> State {
-    let o = bridge::loop_frame(s, rx, tx, f);
-    text(b"frame number ");
-    number(f as u64);
-    text(b": ");
-    let a = o.answer;
-    answer(a);
-    o.state
+// Where the line that begins at a place ends.
+fn line_end(script: &[u8], from: usize) -> usize
+    requires { ⌜ from ≤ length (now script) ⌝ }
+    ensures { λ r. ⌜ (from ≤ r) × (r ≤ length (now (script .entry))) ⌝ }
+{
+    let mut at = from;
+    while at < script.len() {
+        if script[at] == 10 {
+            return at;
+        }
+        at = at + 1;
+    }
+    at
+}
+
+// The state after the call of a line, by the first letter of the line: c, r, l, n, f, a, s; any other line is a title.
+fn called(s: State, rx: &mut [u8], tx: &mut [u8], line: &[u8], first: u8) -> State {
+    let a = number_in(line, 0);
+    let b = number_in(line, 1);
+    match first {
+        99 => answered(bridge::create(rx, tx, a as usize)),
+        114 => answered(bridge::write_register(s, rx, tx, a, b)),
+        108 => answered(bridge::line_byte(s, rx, tx, (a % 256) as u8)),
+        110 => answered(bridge::next_line_byte(s, rx, tx)),
+        102 => answered(bridge::loop_frame(s, rx, tx, a * 256 + b)),
+        97 => answered(bridge::loop_frame(s, rx, tx, a)),
+        _ => s,
+    }
 }
 
 // How many bytes a store shows.
 fn shown<'a>(s: State, rx: &'a [u8], tx: &'a [u8], side: u32) {
+    text(b": ");
     let part = bridge::show(s, rx, tx, side);
-    text(b"side ");
-    number(side as u64);
-    text(b" shows ");
     number(part.len() as u64);
+}
+
+// A line of the script, which has a first letter: its call, or how many bytes a store shows.
+fn played(s: State, rx: &mut [u8], tx: &mut [u8], line: &[u8], first: u8) -> State {
+    text(line);
+    if first == 115 {
+        shown(s, rx, tx, number_in(line, 0));
+        text(b"\n");
+        return s;
+    }
+    let t = called(s, rx, tx, line, first);
     text(b"\n");
+    t
 }
 
-// Address 0, talker.
-fn talker(s: State, rx: &[u8], tx: &mut [u8]) -> State {
-    let a = offer(s, rx, tx, 5, 128);
-    offer(a, rx, tx, 4, 64)
-}
-
-// Address 0, listener.
-fn listener(s: State, rx: &[u8], tx: &mut [u8]) -> State {
-    let a = offer(s, rx, tx, 5, 128);
-    offer(a, rx, tx, 4, 32)
-}
-
-fn three(s: State, rx: &mut [u8], tx: &[u8], from: u8) -> State {
-    let a = line(s, rx, tx, from % 128);
-    let b = line(a, rx, tx, from % 128 + 1);
-    line(b, rx, tx, from % 128 + 2)
-}
-
-// Four bytes fill the smallest receive store, and the fifth is lost.
-fn overrun(s: State, rx: &mut [u8], tx: &[u8]) -> State {
-    let a = three(s, rx, tx, 65);
-    let b = line(a, rx, tx, 68);
-    line(b, rx, tx, 69)
-}
-
-// A byte is lost, and we are talker.
-fn overrun_talker(s: State, rx: &mut [u8], tx: &mut [u8]) -> State {
-    let lost = overrun(s, rx, tx);
-    talker(lost, rx, tx)
-}
-
-fn sizes() {
-    title(b"Receive store of 7, margin 3: refusal 1.");
-    let rx = [0u8; 7];
-    let tx = [0u8; 3];
-    created(&rx, &tx, 3);
-}
-
-fn frames() {
-    title(b"Frame 2,047 passes; 2,048 is refusal 3.");
-    let rx = [0u8; 4];
-    let mut tx = [0u8; 3];
-    let s = created(&rx, &tx, 1);
-    let a = raw(s, &rx, &mut tx, 2047);
-    raw(a, &rx, &mut tx, 2048);
-}
-
-fn busy_at_one(s: State, rx: &[u8], tx: &mut [u8]) {
-    shown(s, rx, tx, 1);
-    let b = next(s, rx, tx);
-    let c = next(b, rx, tx);
-    let d = offer(c, rx, tx, 2, 66);
-    shown(d, rx, tx, 1);
-}
-
-fn transmit() {
-    title(b"Transmit store of 3, R10 bit 2 on: an end byte is taken at none held, busy at one.");
-    let rx = [0u8; 4];
-    let mut tx = [0u8; 3];
-    let s = created(&rx, &tx, 1);
-    let w = written(s, &rx, &tx, 10, 12);
-    let l = listener(w, &rx, &mut tx);
-    let a = offer(l, &rx, &mut tx, 2, 65);
-    busy_at_one(a, &rx, &mut tx);
-}
-
-// The fifth byte, and what we owe the line after it.
-fn fifth(s: State, rx: &mut [u8], tx: &[u8]) -> State {
-    let five = line(s, rx, tx, 5);
-    next(five, rx, tx)
-}
-
-// Bytes five to eight and the one that is lost.
-fn five_to_nine(s: State, rx: &mut [u8], tx: &[u8]) -> State {
-    let stop = fifth(s, rx, tx);
-    let eight = three(stop, rx, tx, 6);
-    line(eight, rx, tx, 9)
-}
-
-fn three_sent(s: State, rx: &[u8], tx: &mut [u8]) -> State {
-    let a = offer(s, rx, tx, 5, 96);
-    let b = offer(a, rx, tx, 0, 1);
-    offer(b, rx, tx, 0, 2)
-}
-
-// Five frames leave three bytes held, the sixth two.
-fn five_sent(s: State, rx: &[u8], tx: &mut [u8]) -> State {
-    let a = three_sent(s, rx, tx);
-    let b = offer(a, rx, tx, 0, 3);
-    offer(b, rx, tx, 0, 4)
-}
-
-fn six_sent(s: State, rx: &[u8], tx: &mut [u8]) -> State {
-    let five = five_sent(s, rx, tx);
-    let still = next(five, rx, tx);
-    offer(still, rx, tx, 0, 5)
-}
-
-// Sending finishes, and the status byte tells of the loss: 39 is overrun 32, receive not empty 4, transmit not full 2, transmit empty 1.
-fn ninth_lost(s: State, rx: &[u8], tx: &mut [u8]) {
-    let a = offer(s, rx, tx, 5, 66);
-    let b = offer(a, rx, tx, 0, 6);
-    offer(b, rx, tx, 5, 97);
-}
-
-fn two_held_ends_it(s: State, rx: &[u8], tx: &mut [u8]) {
-    shown(s, rx, tx, 0);
-    let t = talker(s, rx, tx);
-    let end = six_sent(t, rx, tx);
-    shown(end, rx, tx, 0);
-    let go = next(end, rx, tx);
-    ninth_lost(go, rx, tx);
-}
-
-fn holding_off() {
-    title(
-        b"Receive store of 8, margin 3: the fourth byte does not hold off, the fifth does, the ninth is lost; two held ends it.",
-    );
-    let mut rx = [0u8; 8];
-    let mut tx = [0u8; 3];
-    let s = created(&rx, &tx, 3);
-    let on = written(s, &rx, &tx, 10, 8);
-    let first = three(on, &mut rx, &tx, 1);
-    let four = line(first, &mut rx, &tx, 4);
-    let none = next(four, &rx, &tx);
-    let nine = five_to_nine(none, &mut rx, &tx);
-    two_held_ends_it(nine, &rx, &mut tx);
-}
-
-fn damage() {
-    title(
-        b"Slip: clearing overrun when status is sent. The status byte is damaged on the loop, and the next one still tells.",
-    );
-    let mut rx = [0u8; 4];
-    let mut tx = [0u8; 3];
-    let s = created(&rx, &tx, 1);
-    let t = overrun_talker(s, &mut rx, &mut tx);
-    let a = offer(t, &rx, &mut tx, 5, 97);
-    let b = offer(a, &rx, &mut tx, 0, 46);
-    offer(b, &rx, &mut tx, 5, 97);
-}
-
-// The status byte comes back, and the next one is asked for.
-fn told(s: State, rx: &[u8], tx: &mut [u8]) -> State {
-    let a = offer(s, rx, tx, 0, 47);
-    offer(a, rx, tx, 5, 97)
-}
-
-fn lost_in_between() {
-    title(
-        b"Slip: clearing overrun on return though a byte was lost in between. Only the second return clears it.",
-    );
-    let mut rx = [0u8; 4];
-    let mut tx = [0u8; 3];
-    let s = created(&rx, &tx, 1);
-    let t = overrun_talker(s, &mut rx, &mut tx);
-    let a = offer(t, &rx, &mut tx, 5, 97);
-    let again = line(a, &mut rx, &tx, 70);
-    let twice = told(again, &rx, &mut tx);
-    told(twice, &rx, &mut tx);
-}
-
-fn service_bit() {
-    title(b"Slip: comparing returns with the service bit. Another device's request is no damage.");
-    let mut rx = [0u8; 4];
-    let mut tx = [0u8; 3];
-    let s = created(&rx, &tx, 1);
-    let a = line(s, &mut rx, &tx, 50);
-    let b = line(a, &mut rx, &tx, 46);
-    let t = talker(b, &rx, &mut tx);
-    let c = offer(t, &rx, &mut tx, 5, 96);
-    offer(c, &rx, &mut tx, 1, 50);
-}
-
-fn unassigned() {
-    title(b"Slip: reading 63 as listen address 31 while unassigned. Nothing is stored.");
-    let rx = [0u8; 4];
-    let mut tx = [0u8; 3];
-    let s = created(&rx, &tx, 1);
-    let a = offer(s, &rx, &mut tx, 4, 63);
-    let b = offer(a, &rx, &mut tx, 0, 65);
-    shown(b, &rx, &tx, 1);
-}
-
-fn switched_off(s: State, rx: &[u8], tx: &[u8]) {
-    let off = written(s, rx, tx, 11, 0);
-    let go = next(off, rx, tx);
-    next(go, rx, tx);
-}
-
-fn owed_go() {
-    title(b"Slip: dropping an owed go when the protocol is switched off. The meter is let go.");
-    let mut rx = [0u8; 4];
-    let tx = [0u8; 3];
-    let s = created(&rx, &tx, 1);
-    let held = three(s, &mut rx, &tx, 1);
-    let stop = next(held, &rx, &tx);
-    switched_off(stop, &rx, &tx);
+// The lines of a script from a place up to an empty line or its end, on these stores; gives the place behind.
+fn play(script: &[u8], from: usize, rx: &mut [u8], tx: &mut [u8]) -> usize
+    requires { ⌜ (from ≤ length (now script)) × (length (now script) ≤ 4096) ⌝ }
+    ensures { λ r. ⌜ r ≤ length (now (script .entry)) ⌝ }
+{
+    let mut s = state::fitting::start(1, 4, 3);
+    let mut at = from;
+    while at < script.len() {
+        let end = line_end(script, at);
+        let first = script[at];
+        s = played(s, rx, tx, &script[at..end], first);
+        if end >= script.len() {
+            return end;
+        }
+        at = end + 1;
+        if first == 10 {
+            return at;
+        }
+    }
+    at
 }
 
 fn main() {
-    sizes();
-    frames();
-    transmit();
-    holding_off();
-    damage();
-    lost_in_between();
-    service_bit();
-    unassigned();
-    owed_go();
+    let mut input = io::buffer();
+    let n = io::read_full(0, &mut input);
+    let mut seven = [0u8; 7];
+    let mut eight = [0u8; 8];
+    let mut four = [0u8; 4];
+    let mut tx = [0u8; 3];
+    let a = play(&input[..n], 0, &mut seven, &mut tx);
+    let b = play(&input[..n], a, &mut eight, &mut tx);
+    play(&input[..n], b, &mut four, &mut tx);
 }
