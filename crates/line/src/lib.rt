@@ -5,7 +5,7 @@ ghost use lib.Dec.{leb};
 ghost use Rattle.state.specs.Sizes.{RxFits, TxFits};
 ghost use Rattle.line.specs.HoldingOff.{isGoOrStop, flowed, free, storedWith, lostState, Taken, resumed, afterWrite, nextOut, goneState, outAnswer};
 use registers::Registers;
-use state::Answer;
+use answers::Answer;
 use state::Out;
 use state::State;
 use store::Ring;

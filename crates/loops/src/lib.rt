@@ -8,7 +8,7 @@ ghost use Rattle.loops.specs.Frames.{isClear, cleared, obeyed, commandSe
 use registers::Registers;
 use role::Order;
 use role::Ready;
-use state::Answer;
+use answers::Answer;
 use state::Outcome;
 use state::State;
 

@@ -5,7 +5,7 @@ ghost use Rattle.loops.specs.Sending.{talking, ended, ruleOf, sendState,
 use reading::Rule;
 use registers::Registers;
 use sending::Given;
-use state::Answer;
+use answers::Answer;
 use state::Outcome;
 use state::State;
 
