@@ -6,8 +6,8 @@ use Rattle.frame.specs.Frame.{controlOf, dataOf}
 use Rattle.answers.specs.declared.Answer.{Answer}
 use Rattle.answers.specs.declared.Answer.the-variants.{Done, Nothing, Byte, Frame, Refused}
 
--- "A call that has nothing to hand out answers that it is done; with no line byte to give, the answer is none";
--- a line byte; a frame, "written control,data"; a refusal: "its number alone"; showing "returns the longest unbroken run of bytes"
+-- Sizes and refusals, last: done where nothing is given, and none where there is no line byte; a line byte; a frame by its control bits and its
+-- data; a refusal by its number; and of showing the bytes of a part
 pub data Said : Type 0 where
   done : Said
   none : Said

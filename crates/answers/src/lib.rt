@@ -17,7 +17,11 @@ pub enum Answer {
 pub fn is_refusal(a: Answer) -> bool
     ensures { λ r. ⌜ r ≡ isRefusal (said a) ⌝ }
 {
-    if let Answer::Refused(_) = a { true } else { false }
+    if let Answer::Refused(_) = a {
+        true
+    } else {
+        false
+    }
 }
 
 // The number of a refusal, 0 for any other answer.

@@ -1,6 +1,6 @@
 // The paper's examples that are run, and the slips that we have seen, over the proved calls: each call and its answer, a line each.
-use libc::STDOUT_FILENO;
 use answers::Answer;
+use libc::STDOUT_FILENO;
 use state::State;
 
 fn text(t: &[u8]) {

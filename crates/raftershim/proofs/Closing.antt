@@ -1,5 +1,5 @@
 -- From what a call of the bridge gave to the promise of the C function, on plain values. Assumes nothing.
-use Prim.Native.Nat.{ℕ, _+_, _-_, _<_, min}
+use Prim.Native.Nat.{ℕ, _-_, _<_, min}
 use native.Mathlib.Omega.{arith}
 use mathlib.Core.Path.{_≡_, refl, sym, ap, _∙_}
 use mathlib.Core.Bool.{Bool, true, false, cond, true≢false}
@@ -12,8 +12,7 @@ use Rattle.store.specs.Ring.{Fit, run}
 use Rattle.store.proofs.Laws.{run-part}
 use Rattle.state.specs.declared.State.{State}
 use Rattle.state.specs.declared.Outcome.{Outcome}
-use Rattle.answers.specs.declared.Answer.{Answer}
-use Rattle.answers.specs.declared.Answer.the-variants.{Done, Nothing, Byte, Frame, Refused}
+use Rattle.answers.specs.declared.Answer.the-variants.{Refused}
 use Rattle.answers.specs.Answers.{said, refused, part, isRefusal}
 use Rattle.state.specs.Sizes.{fits}
 use Rattle.state.proofs.Fits.{rx-fits, tx-fits}

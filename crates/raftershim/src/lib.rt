@@ -6,7 +6,7 @@ ghost use lib.ListN.{length};
 ghost use Rattle.answers.specs.Answers.{said, isRefusal};
 ghost use Rattle.block.specs.Packed.{blockLen};
 ghost use Rattle.bridge.specs.Calls.{create, show, on, reset, write, lineByte, lineBreak, key, nextLineByte, loopFrame};
-ghost use Rattle.answers.specs.Word.{ofKind, word};
+ghost use Rattle.answers.specs.Word.{word};
 ghost use Rattle.raftershim.specs.Word.{placeWord, placeOf};
 ghost use Rattle.raftershim.specs.Calls.{lent, cDid, blockAfter, CPromised};
 use answers::Answer;
