@@ -10,7 +10,7 @@
  *
  *   bits 0 to 15    the value: a line byte, a frame or the number of a refusal, and 0 where there is none
  *   bits 16 to 23   the kind: 0 done, 1 none, 2 a line byte, 3 a frame, 4 refused
- *   the rest        0
+ *   bits 24 to 63   reserved: 0 for now, and a reader masks them off, as RAFTERSHIM_KIND and RAFTERSHIM_VALUE do
  *
  * A frame is 11 bits: three control bits above eight data bits, control * 256 + data.
  *
@@ -37,7 +37,7 @@
 extern "C" {
 #endif
 
-/* The kind and the value of an answer. */
+/* The kind and the value of an answer, whatever its reserved bits are. */
 #define RAFTERSHIM_KIND(answer) ((uint32_t)((answer) >> 16) & 0xFFu)
 #define RAFTERSHIM_VALUE(answer) ((uint32_t)(answer) & 0xFFFFu)
 

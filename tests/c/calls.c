@@ -62,6 +62,14 @@ static uint64_t next(void) { return raftershim_next_line_byte(B, R, T); }
 static uint64_t frame(uint32_t c, uint32_t d) { return raftershim_loop_frame(B, R, T, c << 8 | d); }
 static uint64_t show(uint32_t side) { return raftershim_show(B, R, T, side); }
 
+/* the header reads an answer alike, whatever its reserved bits are */
+static void reserved(void) {
+    IS(RAFTERSHIM_KIND(BYTE(50)), RAFTERSHIM_BYTE);
+    IS(RAFTERSHIM_VALUE(BYTE(50)), 50);
+    IS(RAFTERSHIM_KIND(~0ull << 24 | BYTE(50)), RAFTERSHIM_BYTE);
+    IS(RAFTERSHIM_VALUE(~0ull << 24 | BYTE(50)), 50);
+}
+
 /* "Sizes and refusals": refusal 1 */
 static void sizes(void) {
     IS(raftershim_block_len(), BLOCK);
@@ -246,6 +254,7 @@ static void onepass(void) {
 }
 
 int main(void) {
+    reserved();
     sizes();
     other_blocks();
     registers();

@@ -5,13 +5,13 @@ use mathlib.Core.List.{List, []}
 use mathlib.Core.Bool.{true, false}
 use lib.ListN.{length}
 use borrow.Author.Tests.{eq-eqb, ne-eqb, lt-ltb, le-ltb}
-use Rattle.cases.specs.Refusals.{Check, firstRefusal}
+use Rattle.answers.specs.Refusals.{Check, firstRefusal}
 use Rattle.store.specs.Ring.{run}
 use Rattle.state.specs.declared.State.{State}
 use Rattle.state.specs.declared.Outcome.{Outcome}
-use Rattle.state.specs.declared.Answer.{Answer}
+use Rattle.answers.specs.declared.Answer.{Answer}
 use Rattle.state.specs.declared.Out.{Out}
-use Rattle.state.specs.Answers.{said}
+use Rattle.answers.specs.Answers.{said}
 use Rattle.state.specs.Sizes.{sizesObeyed, startState, fits}
 use Rattle.loops.specs.LoopToLine.{busy}
 use Rattle.loops.specs.Frames.{frameSettled, Framed}

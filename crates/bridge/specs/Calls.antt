@@ -5,13 +5,13 @@ use mathlib.Core.Bool.{Bool, false, cond, not}
 use mathlib.Core.List.{List, [], _∷_}
 use lib.Dec.{eqb, ltb}
 use lib.ListN.{length}
-use Rattle.cases.specs.Refusals.{Check, check, firstRefusal}
+use Rattle.answers.specs.Refusals.{Check, check, firstRefusal}
 use Rattle.registers.specs.Writing.{writeChecks, written}
 use Rattle.store.specs.Ring.{run}
 use Rattle.state.specs.declared.State.{State}
 use Rattle.state.specs.declared.Outcome.{Outcome}
-use Rattle.state.specs.declared.Answer.the-variants as answer
-use Rattle.state.specs.Answers.{Said, said, refused, part}
+use Rattle.answers.specs.declared.Answer.the-variants as answer
+use Rattle.answers.specs.Answers.{Said, said, refused, part}
 use Rattle.state.specs.Sizes.{sizesObeyed, startState, fits}
 use Rattle.loops.specs.LoopToLine.{busy}
 use Rattle.line.specs.HoldingOff.{lineState, lineBytes, afterWrite, nextOut, goneState, outAnswer}

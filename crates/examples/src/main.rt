@@ -2,8 +2,8 @@
 // file stdin: the paper's examples that are run, and the slips that we have seen.
 ghost use Prim.Native.Nat.{_≤_, _<_};
 ghost use lib.ListN.{length};
+use answers::Answer;
 use libc::STDOUT_FILENO;
-use state::Answer;
 use state::Outcome;
 use state::State;
 

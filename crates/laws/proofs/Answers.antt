@@ -3,7 +3,7 @@ use Prim.Native.Nat.{ℕ}
 use mathlib.Core.Path.{_≡_, refl, sym, ap, _∙_}
 use mathlib.Core.Bool.{true, false, false≢true}
 use mathlib.Core.List.{List}
-use Rattle.cases.specs.Refusals.{firstRefusal}
+use Rattle.answers.specs.Refusals.{firstRefusal}
 use Rattle.machine.specs.Machine.{Obeys}
 use Rattle.sending.specs.declared.Given.{Given}
 use Rattle.sending.specs.declared.Given.the-variants.{Nothing, One}
@@ -11,7 +11,7 @@ use Rattle.state.specs.declared.State.{State}
 use Rattle.state.specs.declared.Outcome.{Outcome}
 use Rattle.state.specs.declared.Out.{Out}
 use Rattle.state.specs.declared.Out.the-variants as out
-use Rattle.state.specs.Answers.{Said, frame, refused, said, isRefusal}
+use Rattle.answers.specs.Answers.{Said, frame, refused, said, isRefusal, byteOrRefused, frameOrRefused}
 use Rattle.line.specs.HoldingOff.{nextOut, outAnswer}
 use Rattle.loops.specs.Sending.{ended, sendState, sendFrom, sendStatus}
 use Rattle.loops.specs.Frames.{frameTaken}
@@ -19,7 +19,8 @@ use Rattle.bridge.specs.Calls.{Call, create, show, on, reset, write, lineByte, 
 use Rattle.bridge.specs.Calls.{key, nextLineByte, loopFrame, World, outcome, checks, notRefused, step}
 use Rattle.laws.specs.Bridges.{bridge}
 use Rattle.laws.specs.Observers.{isFrame}
-use Rattle.laws.specs.Answers.{byteOrRefused, frameOrRefused, canAnswer, AnswersSo, Refuses, RefusedExactly}
+use Rattle.answers.specs.Refusing.{Refuses}
+use Rattle.laws.specs.Answers.{canAnswer, AnswersSo, RefusedExactly}
 use Rattle.laws.proofs.Refusing.{by-refusal}
 use Rattle.laws.proofs.Ways.{Way, isNext, isBack, isLast, isDamaged, isStored, isPassed, isCleared}
 use Rattle.laws.proofs.Ways.{isObeyed, isAssigned, isSendAsked, isTold, isFinishing, isReady, isIdentified, way}

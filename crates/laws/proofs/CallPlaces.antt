@@ -7,7 +7,7 @@ use mathlib.Core.List.{List, [], _∷_}
 use lib.Dec.{eqb, ltb}
 use lib.ListN.{length}
 use borrow.Author.Tests.{leb-true, leb-false, ltb-false, lt-leb}
-use Rattle.cases.specs.Refusals.{firstRefusal}
+use Rattle.answers.specs.Refusals.{firstRefusal}
 use Rattle.cases.proofs.Cases.{by-cond}
 use Rattle.machine.specs.Machine.{Obeys}
 use Rattle.frame.specs.Frame.{isData}
@@ -28,7 +28,7 @@ use Rattle.loops.specs.LoopToLine.{adds, busy, addedBytes}
 use Rattle.loops.specs.Frames.{frameTaken, deviceClear, addsBytes, frameBytes}
 use Rattle.bridge.specs.Calls.{reset, write, lineByte, lineBreak, key, nextLineByte, loopFrame, Call, create, show, on}
 use Rattle.bridge.specs.Calls.{World, world, Did, outcome, settledBy, rxAfter, txAfter, notRefused, checks, step}
-use Rattle.state.specs.Answers.{refused, said}
+use Rattle.answers.specs.Answers.{refused, said}
 use Rattle.laws.specs.Fitting.{Fits}
 use Rattle.laws.specs.Places.{nextPlace}
 use Rattle.laws.specs.Bridges.{bridge}

@@ -9,7 +9,7 @@ use Rattle.registers.specs.Fit.{values, allInRange, registersFit}
 use Rattle.registers.specs.Writing.{written}
 use Rattle.role.specs.ReadyFrames.{readyOf}
 use Rattle.store.specs.Ring.{fitTest}
-use Rattle.state.specs.Answers.{said}
+use Rattle.answers.specs.Answers.{said}
 use Rattle.state.specs.Sizes.{sizesObeyed, startState, fits}
 use Rattle.state.specs.Status.{conditions, enabledBy, asking, settled, shows, serviced}
 use Rattle.loops.specs.LoopToLine.{adds, busy}

@@ -5,9 +5,9 @@ use mathlib.Core.Path.{_≡_, refl, sym, ap, subst, _∙_}
 use mathlib.Core.Bool.{Bool, true, false, false≢true}
 use mathlib.Core.List.{List}
 use lib.ListN.{length}
-use Rattle.state.specs.declared.Answer.{Answer}
-use Rattle.state.specs.declared.Answer.the-variants.{Done, Nothing, Byte, Frame, Refused}
-use Rattle.state.specs.Answers.{part, said}
+use Rattle.answers.specs.declared.Answer.{Answer}
+use Rattle.answers.specs.declared.Answer.the-variants.{Done, Nothing, Byte, Frame, Refused}
+use Rattle.answers.specs.Answers.{part, said}
 use Rattle.state.specs.declared.Outcome.{Outcome}
 use Rattle.state.specs.Sizes.{sizesObeyed, startState}
 use Rattle.bridge.specs.Calls.{create, Did, did, checks, notRefused, refusedOr, step, Promised, unmade}

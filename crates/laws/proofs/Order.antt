@@ -1,7 +1,7 @@
 -- The checks of every call stand in the order of their numbers. Assumes nothing.
 use mathlib.Core.Path.{_≡_, refl}
 use mathlib.Core.Bool.{true}
-use Rattle.cases.specs.Refusals.{rising}
+use Rattle.answers.specs.Refusals.{rising}
 use Rattle.state.specs.declared.State.{State}
 use Rattle.registers.specs.Writing.{writeChecks}
 use Rattle.bridge.specs.Calls.{OnState, reset, write, lineByte, lineBreak, key, nextLineByte, loopFrame, create, show, on, checksOn, checks}

@@ -5,10 +5,10 @@ use mathlib.Core.Path.{_≡_, refl}
 use mathlib.Core.Bool.{Bool, true, false, cond, not, false≢true}
 use lib.Dec.{eqb, ltb}
 use borrow.Author.Tests.{eqb-true, eqb-false}
-use Rattle.cases.specs.Refusals.{firstRefusal}
+use Rattle.answers.specs.Refusals.{firstRefusal}
 use Rattle.cases.proofs.Cases.{by-cond}
 use Rattle.registers.specs.Writing.{writeChecks}
-use Rattle.state.specs.Answers.{refused}
+use Rattle.answers.specs.Answers.{refused}
 use Rattle.loops.specs.LoopToLine.{busy}
 use Rattle.bridge.specs.Calls.{OnState, write, loopFrame, Call, on, World, Did, checksOn, checks, notRefused, refusedOr, step}
 use Rattle.laws.specs.Observers.{taken}

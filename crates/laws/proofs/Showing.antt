@@ -10,7 +10,7 @@ use Rattle.machine.specs.Machine.{Obeys, seen}
 use Rattle.store.specs.declared.Ring.{Ring}
 use Rattle.store.specs.Ring.{Fit, run}
 use Rattle.store.proofs.Laws.{run-first, run-part}
-use Rattle.state.specs.Answers.{part}
+use Rattle.answers.specs.Answers.{part}
 use Rattle.state.specs.Sizes.{fits}
 use Rattle.state.proofs.Fits.{rx-fits, tx-fits}
 use Rattle.bridge.specs.Calls.{show, Call, World, checks, refusedOr, notRefused, shown, step}

@@ -7,7 +7,7 @@ use lib.ListN.{length}
 use Rattle.machine.specs.Machine.{Obeys, course, finally}
 use Rattle.registers.specs.Table as registers-table
 use Rattle.state.specs.declared.State.{State}
-use Rattle.state.specs.Answers.{said, refused}
+use Rattle.answers.specs.Answers.{said, refused}
 use Rattle.state.specs.Sizes.{sizesObeyed, startState, fits}
 use Rattle.state.specs.Status.{conditions, enabledBy, asking, settled}
 use Rattle.state.proofs.Fits.{tests}

@@ -3,7 +3,7 @@ use Prim.Native.Nat.{_<_}
 use Rattle.machine.specs.Course.{Seen}
 use Rattle.machine.specs.Machine as machine
 use Rattle.store.specs.Bytes.{Bytes}
-use Rattle.state.specs.Answers.{Said}
+use Rattle.answers.specs.Answers.{Said}
 use Rattle.bridge.specs.Calls.{OnState, reset, write, lineByte, lineBreak, key, nextLineByte, loopFrame, Call, create, show, on, World, Did}
 
 -- what takes the nine calls and shows worlds and answers, and a law of it

@@ -5,7 +5,7 @@ use mathlib.Core.Logic.{_⊎_}
 use Rattle.machine.specs.Course.{of, end, Without}
 use Rattle.machine.specs.Machine.{ofCalls, ofSince}
 use Rattle.status.specs.declared.Events.{Events}
-use Rattle.state.specs.Answers.{Said}
+use Rattle.answers.specs.Answers.{Said}
 use Rattle.state.specs.State.{withNotes}
 use Rattle.bridge.specs.Calls.{lineBreak, key, Call, World, world}
 use Rattle.laws.specs.Bridges.{Law, Saw}

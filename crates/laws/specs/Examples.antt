@@ -9,7 +9,7 @@ use Rattle.reading.specs.Steps.{cut}
 use Rattle.registers.specs.Table.{startRegisters}
 use Rattle.registers.specs.Writing.{written}
 use Rattle.loops.specs.Sending.{ruleOf}
-use Rattle.state.specs.Answers.{Said, frame}
+use Rattle.answers.specs.Answers.{Said, frame}
 use Rattle.state.specs.Sizes.{startState}
 use Rattle.bridge.specs.Calls.{on, Did, loopFrame, world, step}
 

@@ -4,7 +4,7 @@ use mathlib.Core.Path.{_≡_}
 use mathlib.Core.Bool.{true}
 use lib.ListN.{length}
 use Rattle.machine.specs.Machine.{ofCalls}
-use Rattle.state.specs.Answers.{done}
+use Rattle.answers.specs.Answers.{done}
 use Rattle.state.specs.Sizes.{fits}
 use Rattle.bridge.specs.Calls.{create, World}
 use Rattle.laws.specs.Bridges.{Law}

@@ -5,7 +5,7 @@ use mathlib.Core.Path.{_≡_}
 use mathlib.Core.Bool.{Bool, false, cond, _&&_, _||_, not}
 use Rattle.machine.specs.Course.{of}
 use Rattle.machine.specs.Machine.{ofCalls}
-use Rattle.state.specs.Answers.{Said}
+use Rattle.answers.specs.Answers.{Said}
 use Rattle.bridge.specs.Calls.{Call, World}
 use Rattle.laws.specs.Bridges.{Law}
 use Rattle.laws.specs.Observers.{any, taken, onFrame, onWrite, isSend, accepted, empties}

@@ -6,7 +6,7 @@ use mathlib.Core.List.{List, [], _∷_}
 use lib.Dec.{eqb}
 use Rattle.machine.specs.Course.{of, end, Without}
 use Rattle.machine.specs.Machine.{ofRuns, ofSince, ofBetween}
-use Rattle.state.specs.Answers.{Said, byte}
+use Rattle.answers.specs.Answers.{Said, byte}
 use Rattle.bridge.specs.Calls.{nextLineByte, Call, on, World}
 use Rattle.laws.specs.Bridges.{Law, Saw}
 use Rattle.laws.specs.Observers.{taken, lineByteOf, onOne, owes, ownCharacter, startsAnew}

@@ -6,7 +6,7 @@ use Prim.Native.Nat.{ℕ}
 use Rattle.machine.specs.Course.{of, end, all, Without}
 use Rattle.machine.specs.Machine.{ofRuns, ofSince}
 use Rattle.machine.specs.Turns.{Reading, AllRead}
-use Rattle.state.specs.Answers.{Said}
+use Rattle.answers.specs.Answers.{Said}
 use Rattle.bridge.specs.Calls.{Call, World}
 use Rattle.laws.specs.Observers.{added, handedOut, empties}
 use Rattle.laws.specs.Bridges.{Law}

@@ -6,7 +6,7 @@ use mathlib.Core.Bool.{Bool, true, false, cond, _&&_}
 use mathlib.Core.List.{List, [], _∷_}
 use Rattle.machine.specs.Course.{of}
 use Rattle.machine.specs.Machine.{ofCalls}
-use Rattle.state.specs.Answers.{Said, none, byte}
+use Rattle.answers.specs.Answers.{Said, none, byte}
 use Rattle.bridge.specs.Calls.{nextLineByte, Call, on, World}
 use Rattle.laws.specs.Bridges.{Law}
 use Rattle.laws.specs.Observers.{taken, onLineByte, isFlow, owes, ownCharacter, empties}

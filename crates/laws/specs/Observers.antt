@@ -9,7 +9,7 @@ use Rattle.registers.specs.Bits.{bit}
 use Rattle.role.specs.Parts.{addressed, activeData, isActive}
 use Rattle.store.specs.Ring.{full}
 use Rattle.state.specs.declared.State.{State}
-use Rattle.state.specs.Answers.{Said, done, none, byte, frame, refused, part, isRefusal}
+use Rattle.answers.specs.Answers.{Said, done, none, byte, frame, refused, part, isRefusal}
 use Rattle.loops.specs.Frames.{deviceClear}
 use Rattle.bridge.specs.Calls.{OnState, reset, nextLineByte, Call, create, show, on, onState, ofFrame, ofLineByte, ofWrite, is, World}
 

@@ -6,7 +6,7 @@ use mathlib.Core.Bool.{true, false}
 use mathlib.Core.List.{List}
 use Rattle.state.specs.declared.State.{State}
 use Rattle.state.specs.declared.Outcome.{Outcome}
-use Rattle.state.specs.Answers.{isRefusal}
+use Rattle.answers.specs.Answers.{isRefusal}
 use Rattle.bridge.specs.Calls.{Call, create, show, World, Did, world, did, handed, step, Promised, unmade}
 
 -- two results are the same

@@ -1,7 +1,7 @@
 -- Sizes and refusals, the table: its checks go by their numbers.
 use mathlib.Core.Path.{_≡_}
 use mathlib.Core.Bool.{true}
-use Rattle.cases.specs.Refusals.{rising}
+use Rattle.answers.specs.Refusals.{rising}
 use Rattle.bridge.specs.Calls.{Call, World, checks}
 
 -- of every call: the numbers of its checks rise, so the first that is given has the lowest number of all that are

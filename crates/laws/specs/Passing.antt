@@ -4,7 +4,7 @@ use mathlib.Core.Path.{_≡_}
 use mathlib.Core.Bool.{true, false, cond, _||_}
 use Rattle.machine.specs.Machine.{ofCalls}
 use Rattle.frame.specs.Frame.{controlOf, dataOf, withService}
-use Rattle.state.specs.Answers.{Said, frame}
+use Rattle.answers.specs.Answers.{Said, frame}
 use Rattle.bridge.specs.Calls.{loopFrame, on}
 use Rattle.laws.specs.Bridges.{Law, Saw}
 use Rattle.laws.specs.Observers.{taken, passesOn, isAsked}

@@ -8,7 +8,7 @@ use lib.Dec.{eqb}
 use Rattle.machine.specs.Course.{of, some, Without}
 use Rattle.machine.specs.Machine.{ofBetween}
 use Rattle.frame.specs.Frame.{made, isData, sameApart}
-use Rattle.state.specs.Answers.{Said, frame}
+use Rattle.answers.specs.Answers.{Said, frame}
 use Rattle.bridge.specs.Calls.{loopFrame, Call, on, World}
 use Rattle.laws.specs.Bridges.{Law, Saw}
 use Rattle.laws.specs.Observers.{taken, onFrame, sent, statusSent}

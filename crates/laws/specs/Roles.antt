@@ -7,7 +7,7 @@ use Rattle.machine.specs.Course.{of}
 use Rattle.machine.specs.Machine.{ofCalls}
 use Rattle.frame.specs.Frame.{controlOf, dataOf, isData}
 use Rattle.role.specs.declared.Role.{Role}
-use Rattle.state.specs.Answers.{Said}
+use Rattle.answers.specs.Answers.{Said}
 use Rattle.laws.specs.Bridges.{Law}
 use Rattle.laws.specs.Observers.{any, taken, dataFrame, startsAnew, onFrame}
 

@@ -7,7 +7,7 @@ use Rattle.machine.specs.Course.{of, end, all, Without}
 use Rattle.machine.specs.Machine.{ofCalls, ofSince}
 use Rattle.reading.specs.Reading.{sentRest, send}
 use Rattle.reading.specs.Steps.{cut}
-use Rattle.state.specs.Answers.{frame}
+use Rattle.answers.specs.Answers.{frame}
 use Rattle.bridge.specs.Calls.{loopFrame, on}
 use Rattle.laws.specs.Bridges.{Law, Saw}
 use Rattle.laws.specs.Observers.{taken, onFrame, isSend, accepted, sent, changes, empties}

@@ -5,7 +5,7 @@ use mathlib.Core.Bool.{Bool, true, false, _&&_, _||_}
 use lib.Dec.{eqb, ltb}
 use Rattle.machine.specs.Machine.{ofCalls}
 use Rattle.frame.specs.Frame.{controlOf, hasService}
-use Rattle.state.specs.Answers.{frame}
+use Rattle.answers.specs.Answers.{frame}
 use Rattle.bridge.specs.Calls.{on, loopFrame, World}
 use Rattle.laws.specs.Observers.{passesOn}
 use Rattle.laws.specs.StatusTold.{shows}

@@ -7,7 +7,7 @@ use lib.ListN.{length, take}
 use Rattle.machine.specs.Machine.{ofCalls}
 use Rattle.store.specs.declared.Ring.{Ring}
 use Rattle.store.specs.Ring.{held}
-use Rattle.state.specs.Answers.{part}
+use Rattle.answers.specs.Answers.{part}
 use Rattle.state.specs.Sizes.{fits}
 use Rattle.bridge.specs.Calls.{show}
 use Rattle.laws.specs.Bridges.{Law, Saw}

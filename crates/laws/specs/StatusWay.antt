@@ -6,7 +6,7 @@ use mathlib.Core.List.{List, [], _∷_}
 use lib.Dec.{eqb}
 use Rattle.machine.specs.Course.{of}
 use Rattle.frame.specs.Frame.{controlOf, isData, sameApart}
-use Rattle.state.specs.Answers.{Said}
+use Rattle.answers.specs.Answers.{Said}
 use Rattle.bridge.specs.Calls.{Call, World}
 use Rattle.laws.specs.Observers.{taken, onFrame, statusSent, restarts}
 use Rattle.laws.specs.Bridges.{Saw}

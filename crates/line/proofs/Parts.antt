@@ -16,7 +16,7 @@ use Rattle.store.specs.Promises.{Put, Dropped}
 use Rattle.state.specs.declared.State.{State}
 use Rattle.state.specs.declared.Out.{Out}
 use Rattle.state.specs.declared.Out.the-variants.{Own, Held, Nothing}
-use Rattle.state.specs.declared.Answer.the-variants as answer
+use Rattle.answers.specs.declared.Answer.the-variants as answer
 use Rattle.state.specs.State.{withRegisters, withLine, withRx, withTx, withNotes, withCounts}
 use Rattle.state.specs.Counts.{counted}
 use Rattle.line.specs.HoldingOff.{isGoOrStop, flowed, free, storedWith, lostState, lineState, lineBytes, Taken, setAfresh, afterWrite, owed, nextOut, goneState, outAnswer}

@@ -13,8 +13,8 @@ use Rattle.state.specs.declared.State.{State}
 use Rattle.state.specs.declared.Line.{Line}
 use Rattle.state.specs.declared.Out.{Out}
 use Rattle.state.specs.declared.Out.the-variants.{Own, Held, Nothing}
-use Rattle.state.specs.declared.Answer.{Answer}
-use Rattle.state.specs.declared.Answer.the-variants as answer
+use Rattle.answers.specs.declared.Answer.{Answer}
+use Rattle.answers.specs.declared.Answer.the-variants as answer
 use Rattle.state.specs.State.{withRegisters, withLine, withRx, withTx, withNotes}
 use Rattle.state.specs.Counts.{storedMore, lostMore}
 

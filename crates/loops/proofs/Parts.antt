@@ -30,7 +30,7 @@ use Rattle.sending.specs.declared.Sending.{Sending}
 use Rattle.sending.specs.Sending.{Sends}
 use Rattle.state.specs.declared.State.{State}
 use Rattle.state.specs.declared.Outcome.{Outcome}
-use Rattle.state.specs.declared.Answer.the-variants.{Frame}
+use Rattle.answers.specs.declared.Answer.the-variants.{Frame}
 use Rattle.state.specs.State.{withRole, withUnder, withRx, withTx, withLine, withCounts, noFrame, noEvents, notesWith}
 use Rattle.state.specs.Counts.{counted}
 use Rattle.loops.specs.LoopToLine.{adds, busy}

@@ -14,7 +14,7 @@ use Rattle.store.specs.Ring.{putsRing, putsBytes}
 use Rattle.store.specs.Promises.{Puts}
 use Rattle.state.specs.declared.State.{State}
 use Rattle.state.specs.declared.Outcome.{Outcome}
-use Rattle.state.specs.declared.Answer.the-variants.{Frame}
+use Rattle.answers.specs.declared.Answer.the-variants.{Frame}
 use Rattle.state.specs.State.{withTx}
 use Rattle.loops.proofs.Clears.{clear-order}
 use Rattle.loops.specs.LoopToLine.{adds, addedState, addedBytes, Added}

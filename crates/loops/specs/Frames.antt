@@ -18,7 +18,7 @@ use Rattle.store.specs.Ring.{emptyRing}
 use Rattle.state.specs.declared.State.{State}
 use Rattle.state.specs.declared.Under.{Under}
 use Rattle.state.specs.declared.Outcome.{Outcome}
-use Rattle.state.specs.declared.Answer.the-variants.{Frame}
+use Rattle.answers.specs.declared.Answer.the-variants.{Frame}
 use Rattle.state.specs.State.{withRole, withUnder, withRx, withTx, withLine, withNotes, noEvents, noFrame}
 use Rattle.loops.specs.LoopToLine.{addedState, addedBytes}
 use Rattle.state.specs.Status.{serviced, settled, afterStatusBack}

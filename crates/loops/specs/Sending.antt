@@ -12,7 +12,7 @@ use Rattle.sending.specs.Sending.{givenOf, sendHeld, sentRing}
 use Rattle.role.specs.Parts.{addressed, activeData, activeStatus, withTalker}
 use Rattle.state.specs.declared.State.{State}
 use Rattle.state.specs.declared.Outcome.{Outcome}
-use Rattle.state.specs.declared.Answer.the-variants.{Frame}
+use Rattle.answers.specs.declared.Answer.the-variants.{Frame}
 use Rattle.state.specs.State.{withRole, withUnder, withRx}
 use Rattle.state.specs.Counts.{sentMore}
 use Rattle.line.specs.HoldingOff.{resumed}

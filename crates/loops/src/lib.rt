@@ -5,10 +5,10 @@ ghost use lib.ListN.{length};
 ghost use Rattle.state.specs.Sizes.{RxFits, TxFits};
 ghost use Rattle.loops.specs.LoopToLine.{adds, busy, Added};
 ghost use Rattle.loops.specs.Frames.{isClear, cleared, obeyed, commandSettled, finishing, ready, returned, Passed, outcomeSettled, Framed};
+use answers::Answer;
 use registers::Registers;
 use role::Order;
 use role::Ready;
-use state::Answer;
 use state::Outcome;
 use state::State;
 

@@ -2,10 +2,10 @@
 ghost use mathlib.Core.Path.{_≡_};
 ghost use Rattle.state.specs.Sizes.{RxFits};
 ghost use Rattle.loops.specs.Sending.{talking, ended, ruleOf, sendState, sendFrom, sendStatus};
+use answers::Answer;
 use reading::Rule;
 use registers::Registers;
 use sending::Given;
-use state::Answer;
 use state::Outcome;
 use state::State;
 

@@ -7,14 +7,14 @@ use mathlib.Core.List.{List, [], _∷_}
 use lib.ListN.{length, getD}
 use lib.Dec.{eqb}
 use borrow.Author.Tests.{eqb-false}
-use Rattle.cases.specs.Refusals.{firstRefusal}
+use Rattle.answers.specs.Refusals.{firstRefusal}
 use Rattle.cases.proofs.Cases.{by-cond}
 use Rattle.registers.specs.Meanings.{go, stop}
 use Rattle.store.specs.Ring.{held, dropRing}
 use Rattle.state.specs.declared.State.{State}
 use Rattle.state.specs.declared.Out.{Out}
 use Rattle.state.specs.declared.Out.the-variants.{Own, Held, Nothing}
-use Rattle.state.specs.Answers.{said, none}
+use Rattle.answers.specs.Answers.{said, none, isByte, byteIn}
 use Rattle.state.specs.Sizes.{TxFits}
 use Rattle.state.specs.Status.{settled}
 use Rattle.state.proofs.Fits.{tx-fits}
@@ -23,7 +23,7 @@ use Rattle.bridge.specs.Calls.{on, nextLineByte, World, Did, checksOn, checks, 
 use Rattle.laws.specs.Fitting.{Fits}
 use Rattle.store.specs.Bytes.{Bytes}
 use Rattle.laws.proofs.Fitting.{keeps-fit, keeps-bytes}
-use Rattle.pass.specs.Passing.{isByte, byteIn, lineOut, asks}
+use Rattle.pass.specs.Passing.{lineOut, asks}
 use Rattle.pass.specs.UntilNone.{lineWorld, Enough}
 
 -- how much there is to give: the bytes held, and the go or stop that is owed

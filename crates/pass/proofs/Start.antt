@@ -1,6 +1,6 @@
 -- The run starts from what create gives. Assumes nothing.
 use mathlib.Core.Path.{refl}
-use Rattle.state.specs.Answers.{said}
+use Rattle.answers.specs.Answers.{said}
 use Rattle.state.specs.Sizes.{sizesObeyed}
 use Rattle.bridge.specs.Calls.{checks, outcome, settledBy, rxAfter, txAfter, notRefused, refusedOr, step}
 use Rattle.pass.specs.Start.{StartsCreated}

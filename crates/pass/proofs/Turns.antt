@@ -9,12 +9,12 @@ use lib.Dec.{eqb}
 use borrow.Author.Tests.{eq-eqb, ne-eqb, not-true, not-false}
 use Rattle.state.specs.declared.State.{State}
 use Rattle.state.specs.declared.Outcome.{Outcome}
-use Rattle.state.specs.Answers.{said}
+use Rattle.answers.specs.Answers.{said, faultOf, isByte, byteIn}
 use Rattle.bridge.specs.Calls.{on, write, lineByte, nextLineByte, loopFrame, World, world, Did, did, step}
 use Rattle.pass.specs.declared.Set.{Set}
 use Rattle.pass.specs.Text.{decimal, answerText, bytesText, over, Wrote}
 use Rattle.pass.specs.Input.{high}
-use Rattle.pass.specs.Passing.{faultOf, setRegisters, takeBytes, framesText, framesWorld, Offers, isByte, byteIn, lineOut}
+use Rattle.pass.specs.Passing.{setRegisters, takeBytes, framesText, framesWorld, Offers, lineOut}
 use Rattle.pass.proofs.Writing.{over-then, over-none}
 
 none-left : (n : ℕ) → n ≤ 0 → n ≡ 0

@@ -5,7 +5,7 @@ use mathlib.Core.Path.{_≡_, refl, _∙_}
 use mathlib.Core.List.{List}
 use lib.Dec.{eqb}
 use lib.ListN.{length, getD, replicate}
-use Rattle.cases.specs.Refusals.{firstRefusal}
+use Rattle.answers.specs.Refusals.{firstRefusal}
 use Rattle.cases.proofs.Cases.{by-cond}
 use Rattle.state.specs.declared.State.{State}
 use Rattle.state.specs.Sizes.{sizesObeyed, startState}
@@ -17,7 +17,8 @@ use Rattle.laws.proofs.States.{start-fits}
 use Rattle.laws.proofs.Fitting.{keeps-fit, keeps-bytes, stores-stay}
 use Rattle.pass.specs.declared.Set.{Set}
 use Rattle.pass.specs.Input.{high, sectionsOf}
-use Rattle.pass.specs.Passing.{faultOf, setRegisters, takeBytes, framesWorld, store}
+use Rattle.answers.specs.Answers.{faultOf}
+use Rattle.pass.specs.Passing.{setRegisters, takeBytes, framesWorld, store}
 use Rattle.pass.specs.UntilNone.{runWorld, UntilNone}
 use Rattle.pass.proofs.Asks.{asks-enough}
 

@@ -8,9 +8,9 @@ use lib.ListN.{length, take, drop, set, length-append, length-take, length-drop,
 use lib.Seq.{take-all, take-length, take-at, drop-append-add, drop-drop, set-split}
 use borrow.Author.Tests.{lt-ltb, le-ltb}
 use Rattle.frame.specs.Frame.{controlOf, dataOf}
-use Rattle.state.specs.declared.Answer.{Answer}
-use Rattle.state.specs.declared.Answer.the-variants.{Frame, Refused}
-use Rattle.state.specs.Answers.{said}
+use Rattle.answers.specs.declared.Answer.{Answer}
+use Rattle.answers.specs.declared.Answer.the-variants.{Frame, Refused}
+use Rattle.answers.specs.Answers.{said}
 use Rattle.pass.specs.Text.{answerText, digit, decimal, newline, refusedWord, refusedText, frameText, over, Wrote}
 
 pub over-size : (at : ℕ) (text out : List ℕ) → at + length text ≤ length out → length (over at text out) ≡ length out

@@ -1,27 +1,18 @@
 -- "Program `onepass` (stores of 64, m 8)": what it prints, by the calls of the bridge.
 use Prim.Native.Nat.{ℕ, zero, suc, _+_, _*_, _≤_}
 use mathlib.Core.Path.{_≡_}
-use mathlib.Core.Bool.{Bool, true, false, cond}
+use mathlib.Core.Bool.{cond}
 use mathlib.Core.List.{List, [], _∷_, _++_}
 use lib.ListN.{length, getD, replicate}
 use lib.Dec.{eqb}
 use Rattle.state.specs.declared.State.{State}
-use Rattle.state.specs.Answers.{Said, done, none, byte, frame, refused, part}
+use Rattle.answers.specs.Answers.{faultOf, isByte, byteIn}
 use Rattle.state.specs.Sizes.{startState}
 use Rattle.bridge.specs.Calls.{on, write, lineByte, nextLineByte, loopFrame, World, world, step}
 use Rattle.pass.specs.declared.Sections.{Sections}
 use Rattle.pass.specs.declared.Set.{Set}
 use Rattle.pass.specs.Input.{high, sectionsOf}
 use Rattle.pass.specs.Text.{decimal, newline, firstLine, lineWord, refusedText, answerText, bytesText, Wrote}
-
--- the number of a refusal, 0 for any other answer
-unfoldable pub faultOf : Said → ℕ
-faultOf (refused n) = n
-faultOf done = 0
-faultOf none = 0
-faultOf (byte b) = 0
-faultOf (frame c d) = 0
-faultOf (part xs) = 0
 
 -- n register pairs from place i are written; "a refused register .. ends the run"
 unfoldable pub setRegisters : ℕ → List ℕ → ℕ → World → Set
@@ -50,23 +41,6 @@ pub record Offers (n : ℕ) (x : List ℕ) (i : ℕ) (w : World) (out : List ℕ
   pub world : world t (w .rx) tx′ ≡ framesWorld n x i w
   pub wrote : Wrote out at (framesText n x i w) out′ r
   pub short : r ≤ at + 12 * n
-
--- whether a line byte is given, and which
-unfoldable pub isByte : Said → Bool
-isByte (byte b) = true
-isByte done = false
-isByte none = false
-isByte (frame c d) = false
-isByte (refused n) = false
-isByte (part xs) = false
-
-unfoldable pub byteIn : Said → ℕ
-byteIn (byte b) = b
-byteIn done = 0
-byteIn none = 0
-byteIn (frame c d) = 0
-byteIn (refused n) = 0
-byteIn (part xs) = 0
 
 -- "and asks for line bytes until none", at most n times
 unfoldable pub lineOut : ℕ → World → List ℕ

@@ -2,7 +2,7 @@
 use mathlib.Core.Path.{_≡_}
 use lib.ListN.{length}
 use Rattle.state.specs.declared.State.{State}
-use Rattle.state.specs.Answers.{done}
+use Rattle.answers.specs.Answers.{done}
 use Rattle.state.specs.Sizes.{startState}
 use Rattle.bridge.specs.Calls.{create, world, step}
 use Rattle.pass.specs.Passing.{store}

@@ -3,11 +3,11 @@ use Prim.Native.Nat.{ℕ, zero, suc, _≤_}
 use mathlib.Core.Path.{_≡_}
 use mathlib.Core.Bool.{cond}
 use mathlib.Core.List.{List}
-use Rattle.state.specs.Answers.{none}
+use Rattle.answers.specs.Answers.{none, isByte}
 use Rattle.bridge.specs.Calls.{on, nextLineByte, World, world, step}
 use Rattle.store.specs.Bytes.{Bytes}
 use Rattle.pass.specs.Input.{sectionsOf}
-use Rattle.pass.specs.Passing.{isByte, lineOut, asks, lastWorld, registersSet, store}
+use Rattle.pass.specs.Passing.{lineOut, asks, lastWorld, registersSet, store}
 
 -- the world after the bytes of `lineOut`
 unfoldable pub lineWorld : ℕ → World → World

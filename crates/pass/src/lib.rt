@@ -8,7 +8,6 @@ ghost use Rattle.pass.specs.Input.{Whole};
 ghost use Rattle.pass.specs.Passing.{lineText, restText, runText, printed};
 use state::State;
 
-mod answers;
 mod input;
 mod passing;
 mod text;

@@ -27,7 +27,7 @@ pub fn set_registers(s: State, rx: &[u8], tx: &[u8], x: &[u8], i: usize, n: usiz
     while 0 < left {
         let o = bridge::write_register(t, rx, tx, wide32(x[at]), wide32(x[at + 1]));
         let a = o.answer;
-        let fault = crate::answers::fault_of(a);
+        let fault = answers::fault_of(a);
         if fault != 0 {
             return Set {
                 state: t,
@@ -97,7 +97,7 @@ pub fn count_line(s: State, rx: &[u8], tx: &[u8], n: usize) -> usize
     while 0 < left {
         let o = bridge::next_line_byte(t, rx, tx);
         let a = o.answer;
-        if !crate::answers::is_byte(a) {
+        if !answers::is_byte(a) {
             return k;
         }
         k = k + 1;
@@ -118,10 +118,10 @@ pub fn put_line(s: State, rx: &[u8], tx: &[u8], n: usize, out: &mut [u8], to: us
     while 0 < left {
         let o = bridge::next_line_byte(t, rx, tx);
         let a = o.answer;
-        if !crate::answers::is_byte(a) {
+        if !answers::is_byte(a) {
             return k;
         }
-        k = crate::text::put_byte(out, k, crate::answers::byte_in(a));
+        k = crate::text::put_byte(out, k, answers::byte_in(a));
         t = o.state;
         left = left - 1;
     }

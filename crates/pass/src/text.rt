@@ -4,9 +4,9 @@ ghost use Prim.Native.Nat.{_+_, _≤_, _<_};
 ghost use mathlib.Core.List.{[], _∷_, _++_};
 ghost use lib.ListN.{length};
 ghost use Rattle.frame.specs.Frame.{controlOf, dataOf};
-ghost use Rattle.state.specs.Answers.{said};
+ghost use Rattle.answers.specs.Answers.{said};
 ghost use Rattle.pass.specs.Text.{decimal, refusedText, frameText, answerText, Wrote};
-use state::Answer;
+use answers::Answer;
 
 // Writes one byte.
 pub fn put(out: &mut [u8], at: usize, b: u8) -> usize

@@ -1,5 +1,5 @@
 -- From what a call of the bridge gave to the promise of the C function, on plain values. Assumes nothing.
-use Prim.Native.Nat.{ℕ, _+_, _-_, _<_, min}
+use Prim.Native.Nat.{ℕ, _-_, _<_, min}
 use native.Mathlib.Omega.{arith}
 use mathlib.Core.Path.{_≡_, refl, sym, ap, _∙_}
 use mathlib.Core.Bool.{Bool, true, false, cond, true≢false}
@@ -12,9 +12,8 @@ use Rattle.store.specs.Ring.{Fit, run}
 use Rattle.store.proofs.Laws.{run-part}
 use Rattle.state.specs.declared.State.{State}
 use Rattle.state.specs.declared.Outcome.{Outcome}
-use Rattle.state.specs.declared.Answer.{Answer}
-use Rattle.state.specs.declared.Answer.the-variants.{Done, Nothing, Byte, Frame, Refused}
-use Rattle.state.specs.Answers.{said, refused, part, isRefusal}
+use Rattle.answers.specs.declared.Answer.the-variants.{Refused}
+use Rattle.answers.specs.Answers.{said, refused, part, isRefusal}
 use Rattle.state.specs.Sizes.{fits}
 use Rattle.state.proofs.Fits.{rx-fits, tx-fits}
 use Rattle.block.specs.Packed.{blockLen, packed}
@@ -24,7 +23,8 @@ use Rattle.block.proofs.Laws.{no-state-misfits}
 use Rattle.bridge.specs.Calls.{OnState, create, show, on, World, Did, world, did, handed, checks, notRefused, refusedOr, step, shown, Promised, unmade}
 use Rattle.laws.specs.OneResult.{CreatedAnywhere}
 use Rattle.laws.proofs.OneResult.{create-takes-no-state}
-use Rattle.raftershim.specs.Word.{word, kindOf, valueOf, placeWord, placeOf, storeOf, shownWord}
+use Rattle.answers.specs.Word.{word, kindOf, valueOf}
+use Rattle.raftershim.specs.Word.{placeWord, placeOf, storeOf, shownWord}
 use Rattle.raftershim.specs.Calls.{lent, cDid, opened, blockAfter, closed, createdFor, cStep}
 
 -- ---- a state that does not fit is refused
@@ -59,29 +59,6 @@ module _ (c : OnState) (b rx tx rx′ tx′ : List ℕ) (s : State) (o : Outcome
   unfolding closed
   written r b′ h =
       (λ i. cDid (h .0 i) (h .1 i) rx′ tx′) ∙ ap (closed (lent b rx tx)) (e ∙ ap (λ (x : State). step (on c) (world x rx tx)) m)
-
--- ---- the number of an answer
-
-pub done-word : (a : Answer) → a ≡ Done → 0 ≡ word (said a)
-unfolding said word kindOf valueOf
-done-word a e = rw e
-
-pub none-word : (a : Answer) → a ≡ Nothing → 65536 ≡ word (said a)
-unfolding said word kindOf valueOf
-none-word a e = rw e
-
-module _ (a : Answer) (n r : ℕ) (h : r ≡ n) where
-  pub byte-word : a ≡ Byte n → 131072 + r ≡ word (said a)
-  unfolding said word kindOf valueOf
-  byte-word e = rw (e, h)
-
-  pub frame-word : a ≡ Frame n → 196608 + r ≡ word (said a)
-  unfolding said word kindOf valueOf
-  frame-word e = rw (e, h) (omega arith)
-
-  pub refused-word : a ≡ Refused n → 262144 + r ≡ word (said a)
-  unfolding said word kindOf valueOf
-  refused-word e = rw (e, h)
 
 -- ---- create
 

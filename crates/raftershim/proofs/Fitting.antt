@@ -8,7 +8,7 @@ use lib.ListN.{length}
 use lib.Dec.{eqb}
 use borrow.Author.Tests.{eqb-true}
 use Rattle.cases.proofs.Cases.{and-left, by-cond}
-use Rattle.state.specs.Answers.{said, done, refused, isRefusal}
+use Rattle.answers.specs.Answers.{said, done, refused, isRefusal}
 use Rattle.state.specs.Sizes.{sizesObeyed}
 use Rattle.block.specs.Packed.{blockLen}
 use Rattle.block.specs.States.{isState, fittingBlock, Ranged}
@@ -17,7 +17,7 @@ use Rattle.block.proofs.Same.{state-length}
 use Rattle.bridge.specs.Calls.{Call, create, show, on, World, checks, notRefused, refusedOr, step}
 use Rattle.laws.specs.Fitting.{Fits, SameStores}
 use Rattle.laws.proofs.Fitting.{keeps-fit, create-fits-so, stores-stay}
-use Rattle.raftershim.specs.Word.{word, kindOf, valueOf}
+use Rattle.answers.specs.Word.{word, kindOf, valueOf}
 use Rattle.raftershim.specs.Calls.{Lent, CDid, opened, closed, cStep}
 use Rattle.raftershim.specs.Fitting.{FitsStores, BlockKeepsFit, CreateFits, SameLengths, LengthsStay}
 use Rattle.raftershim.proofs.Laws.{refusal-keeps, misfit-refused, wrong-block-refused}

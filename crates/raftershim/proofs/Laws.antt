@@ -13,9 +13,10 @@ use Rattle.block.specs.Packed.{blockLen, packed}
 use Rattle.block.specs.States.{Ranged}
 use Rattle.block.proofs.Laws.{packed-length, packed-means, meaning-fits}
 use Rattle.bridge.specs.Calls.{Call, create, show, on, World, Did, checks, notRefused, refusedOr, step, shown}
-use Rattle.state.specs.Answers.{part, isRefusal}
+use Rattle.answers.specs.Answers.{part, isRefusal}
 use Rattle.laws.proofs.Answers.{refusal-leaves}
-use Rattle.raftershim.specs.Word.{word, placeWord, placeOf, storeOf, shownWord}
+use Rattle.answers.specs.Word.{word}
+use Rattle.raftershim.specs.Word.{placeWord, placeOf, storeOf, shownWord}
 use Rattle.raftershim.specs.Calls.{Lent, lent, CDid, cDid, opened, closed, createdFor, cStep}
 use Rattle.raftershim.specs.Runs.{packedWorld, answerWord}
 use Rattle.raftershim.specs.Laws.{OneResultInC, WordTells, ShownPlace, MisfitShowsNothing, MisfitRefused, WrongBlockRefused, SameCall}

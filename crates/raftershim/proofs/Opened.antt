@@ -14,10 +14,10 @@ use Rattle.store.specs.Bytes.{Bytes}
 use Rattle.block.proofs.Laws.{packed-length, packed-bytes, packed-means, unpacked-ranged, start-ranged}
 use Rattle.block.proofs.Same.{means, means-none}
 use Rattle.bridge.specs.Calls.{Call, create, show, on, World, world, Did, checks, notRefused, refusedOr, step}
-use Rattle.state.specs.Answers.{isRefusal}
+use Rattle.answers.specs.Answers.{isRefusal}
 use Rattle.machine.specs.Machine.{finally}
 use Rattle.laws.specs.Bridges.{bridge, ByteCall}
-use Rattle.raftershim.specs.Word.{word}
+use Rattle.answers.specs.Word.{word}
 use Rattle.raftershim.specs.Calls.{Lent, CDid, opened, closed, createdFor, cStep}
 use Rattle.raftershim.specs.Runs.{answerWord, words, cWords, Typed, OfBytes, Whole}
 use Rattle.raftershim.specs.Laws.{Means, CallMeans, RunMeans, RunsMean}

@@ -7,16 +7,16 @@ use mathlib.Core.List.{[], _∷_}
 use lib.ListN.{length}
 use lib.Dec.{eqb}
 use borrow.Author.Tests.{eqb-true}
-use Rattle.cases.specs.Refusals.{check, firstRefusal}
-use Rattle.state.specs.Answers.{Said, refused, isRefusal}
+use Rattle.answers.specs.Refusals.{check, firstRefusal}
+use Rattle.answers.specs.Answers.{Said, refused, isRefusal}
 use Rattle.state.specs.Sizes.{sizesObeyed, fits}
 use Rattle.block.specs.Packed.{blockLen}
 use Rattle.block.specs.States.{isState, fittingBlock}
 use Rattle.block.proofs.Laws.{meaning-fits}
 use Rattle.bridge.specs.Calls.{OnState, Call, create, show, on, World, checks, step}
-use Rattle.laws.specs.Answers.{Refuses}
+use Rattle.answers.specs.Refusing.{Refuses}
 use Rattle.laws.proofs.Answers as bridge-answers
-use Rattle.raftershim.specs.Word.{word, kindOf, valueOf}
+use Rattle.answers.specs.Word.{word, kindOf, valueOf}
 use Rattle.raftershim.specs.Calls.{Lent, CDid, opened, cStep}
 use Rattle.raftershim.specs.Told.{told, saidBy, toldPart, cAnswer}
 use Rattle.raftershim.specs.Laws.{refusedBy}

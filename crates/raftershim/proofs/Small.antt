@@ -6,15 +6,15 @@ use mathlib.Core.Bool.{_||_}
 use mathlib.Core.List.{List, [], _∷_}
 use lib.Dec.{eqb}
 use borrow.Author.Tests.{ltb-false}
-use Rattle.cases.specs.Refusals.{Check, firstRefusal}
+use Rattle.answers.specs.Refusals.{Check, firstRefusal}
 use Rattle.cases.proofs.Cases.{by-cond}
 use Rattle.frame.specs.Frame.{controlOf, dataOf, made}
 use Rattle.registers.specs.Writing.{writeChecks}
 use Rattle.store.specs.Ring.{Fit}
 use Rattle.state.specs.declared.State.{State}
-use Rattle.state.specs.declared.Answer.{Answer}
-use Rattle.state.specs.declared.Answer.the-variants as answer
-use Rattle.state.specs.Answers.{Said, said, done, none, byte, frame, refused}
+use Rattle.answers.specs.declared.Answer.{Answer}
+use Rattle.answers.specs.declared.Answer.the-variants as answer
+use Rattle.answers.specs.Answers.{Said, said, done, none, byte, frame, refused}
 use Rattle.state.proofs.Fits.{rx-fits, tx-fits}
 use Rattle.line.specs.HoldingOff.{owed, nextOut, outAnswer}
 use Rattle.loops.specs.Frames.{frameTaken}
@@ -26,7 +26,7 @@ use Rattle.laws.proofs.Refusing.{by-refusal, fitting, frame-fitting}
 use Rattle.laws.proofs.Ways.{way}
 use Rattle.runs.proofs.ElevenBits.{SmallFrame, frame-small}
 use Rattle.laws.proofs.Small.{held-bytes}
-use Rattle.raftershim.specs.Word.{word, kindOf, valueOf}
+use Rattle.answers.specs.Word.{word, kindOf, valueOf}
 use Rattle.raftershim.specs.Told.{saidBy, told}
 use Rattle.raftershim.proofs.Laws.{word-tells}
 

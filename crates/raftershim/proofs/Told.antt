@@ -7,9 +7,10 @@ use lib.Dec.{eqb}
 use borrow.Author.Tests.{eqb-true}
 use Rattle.block.specs.Packed.{blockLen}
 use Rattle.block.specs.States.{isState, fittingBlock}
-use Rattle.state.specs.Answers.{part, isRefusal}
+use Rattle.answers.specs.Answers.{part, isRefusal}
 use Rattle.bridge.specs.Calls.{Call, create, show, on, checks, notRefused, refusedOr, step}
-use Rattle.raftershim.specs.Word.{word, storeOf}
+use Rattle.answers.specs.Word.{word}
+use Rattle.raftershim.specs.Word.{storeOf}
 use Rattle.raftershim.specs.Calls.{Lent, CDid, opened, cStep}
 use Rattle.raftershim.specs.Runs.{answerWord, Typed, Whole}
 use Rattle.raftershim.specs.Told.{told, toldPart, cAnswer}

@@ -7,11 +7,12 @@ use mathlib.Core.List.{List}
 use lib.ListN.{length}
 use lib.Dec.{eqb}
 use Rattle.state.specs.declared.State.{State}
-use Rattle.state.specs.Answers.{Said, refused, isRefusal}
+use Rattle.answers.specs.Answers.{Said, refused, isRefusal}
 use Rattle.block.specs.Packed.{blockLen, packed}
 use Rattle.block.specs.States.{meaning}
 use Rattle.bridge.specs.Calls.{Call, create, show, on, World, world, Did, step}
-use Rattle.raftershim.specs.Word.{word, shownWord}
+use Rattle.answers.specs.Word.{word}
+use Rattle.raftershim.specs.Word.{shownWord}
 
 -- the buffers lent at every call
 pub record Lent : Type 0 where

@@ -3,10 +3,10 @@ use Prim.Native.Nat.{ℕ}
 use mathlib.Core.Path.{_≡_}
 use mathlib.Core.Bool.{true}
 use lib.ListN.{length}
-use Rattle.state.specs.Answers.{done}
+use Rattle.answers.specs.Answers.{done}
 use Rattle.block.specs.States.{fittingBlock}
 use Rattle.bridge.specs.Calls.{Call, create}
-use Rattle.raftershim.specs.Word.{word}
+use Rattle.answers.specs.Word.{word}
 use Rattle.raftershim.specs.Calls.{Lent, cStep}
 use Rattle.raftershim.specs.Runs.{OfBytes}
 

@@ -5,13 +5,14 @@ use mathlib.Core.Bool.{true, false}
 use mathlib.Core.List.{List}
 use lib.ListN.{length, take, drop}
 use lib.Dec.{eqb}
-use Rattle.state.specs.Answers.{Said, refused, isRefusal}
+use Rattle.answers.specs.Answers.{Said, refused, isRefusal}
 use Rattle.block.specs.Packed.{blockLen}
 use Rattle.block.specs.States.{fittingBlock, Ranged}
 use Rattle.bridge.specs.Calls.{OnState, Call, create, show, on, World, step, shown}
 use Rattle.machine.specs.Machine.{AllFair, finally}
 use Rattle.laws.specs.Bridges.{bridge}
-use Rattle.raftershim.specs.Word.{word, kindOf, valueOf, storeOf, shownWord}
+use Rattle.answers.specs.Word.{word, kindOf, valueOf}
+use Rattle.raftershim.specs.Word.{storeOf, shownWord}
 use Rattle.raftershim.specs.Calls.{Lent, CDid, cDid, opened, cStep, CPromised}
 use Rattle.raftershim.specs.Runs.{packedWorld, answerWord, words, cWords, Typed, OfBytes, Whole}
 use Rattle.raftershim.specs.Told.{cAnswer}

@@ -4,12 +4,12 @@ use mathlib.Core.Bool.{_||_, not}
 use mathlib.Core.List.{List, [], _∷_}
 use lib.ListN.{length}
 use lib.Dec.{eqb}
-use Rattle.cases.specs.Refusals.{Check, check, firstRefusal}
+use Rattle.answers.specs.Refusals.{Check, check, firstRefusal}
 use Rattle.state.specs.Sizes.{sizesObeyed}
 use Rattle.block.specs.Packed.{blockLen}
 use Rattle.block.specs.States.{fittingBlock}
 use Rattle.bridge.specs.Calls.{Call, create, show, on, checksOn}
-use Rattle.laws.specs.Answers.{Refuses}
+use Rattle.answers.specs.Refusing.{Refuses}
 use Rattle.raftershim.specs.Calls.{Lent, opened, cStep}
 use Rattle.raftershim.specs.Runs.{OfBytes}
 use Rattle.raftershim.specs.Told.{cAnswer}

@@ -7,7 +7,8 @@ use Rattle.block.specs.Packed.{blockLen, packed}
 use Rattle.block.specs.States.{Ranged}
 use Rattle.store.specs.Bytes.{Bytes}
 use Rattle.bridge.specs.Calls.{Call, create, show, on, World, step}
-use Rattle.raftershim.specs.Word.{word, shownWord}
+use Rattle.answers.specs.Word.{word}
+use Rattle.raftershim.specs.Word.{shownWord}
 use Rattle.raftershim.specs.Calls.{Lent, lent, cStep}
 
 -- the buffers that a world is lent in

@@ -5,7 +5,7 @@ use mathlib.Core.List.{List}
 use lib.ListN.{take, drop}
 use lib.Dec.{eqb}
 use Rattle.frame.specs.Frame.{controlOf, dataOf}
-use Rattle.state.specs.Answers.{Said, done, none, byte, frame, refused, part}
+use Rattle.answers.specs.Answers.{Said, done, none, byte, frame, refused, part}
 use Rattle.bridge.specs.Calls.{Call, create, show, on}
 use Rattle.raftershim.specs.Word.{storeOf}
 use Rattle.raftershim.specs.Calls.{Lent, opened, cStep}

@@ -3,52 +3,15 @@ ghost use mathlib.Core.Path.{_≡_};
 ghost use mathlib.Core.Bool.{false};
 ghost use Prim.Native.Nat.{_<_};
 ghost use lib.ListN.{length};
-ghost use Rattle.state.specs.Answers.{said, isRefusal};
+ghost use Rattle.answers.specs.Answers.{said, isRefusal};
 ghost use Rattle.block.specs.Packed.{blockLen};
 ghost use Rattle.bridge.specs.Calls.{create, show, on, reset, write, lineByte, lineBreak, key, nextLineByte, loopFrame};
-ghost use Rattle.raftershim.specs.Word.{ofKind, word, placeWord, placeOf};
+ghost use Rattle.answers.specs.Word.{word};
+ghost use Rattle.raftershim.specs.Word.{placeWord, placeOf};
 ghost use Rattle.raftershim.specs.Calls.{lent, cDid, blockAfter, CPromised};
-use state::Answer;
+use answers::Answer;
 use state::Outcome;
 use state::State;
-
-fn wide8(x: u8) -> u64
-    ensures { λ r. ⌜ (r ≡ x) × (r < 256) ⌝ }
-{
-    x as u64
-}
-
-fn wide16(x: u16) -> u64
-    ensures { λ r. ⌜ (r ≡ x) × (r < 65536) ⌝ }
-{
-    x as u64
-}
-
-// The number that an answer is: its kind above 16 bits of value.
-fn word_of(a: Answer) -> u64
-    ensures { λ r. ⌜ r ≡ word (said a) ⌝ }
-{
-    match a {
-        Answer::Done => 0,
-        Answer::Nothing => 65536,
-        Answer::Byte(b) => 131072 + wide8(b),
-        Answer::Frame(f) => 196608 + wide16(f),
-        Answer::Refused(n) => 262144 + wide8(n),
-    }
-}
-
-// Whether an answer is a refusal.
-fn is_refusal(a: Answer) -> bool
-    ensures { λ r. ⌜ r ≡ isRefusal (said a) ⌝ }
-{
-    match a {
-        Answer::Done => false,
-        Answer::Nothing => false,
-        Answer::Byte(_) => false,
-        Answer::Frame(_) => false,
-        Answer::Refused(_) => true,
-    }
-}
 
 // Writes the state over the block, unless the call was refused, and gives the answer's number.
 fn finished(block: &mut [u8], o: Outcome) -> u64
@@ -56,8 +19,8 @@ fn finished(block: &mut [u8], o: Outcome) -> u64
     ensures { λ r. ⌜ (r ≡ word (said (o .answer))) × (now (block .exit) ≡ blockAfter (now (block .entry)) (said (o .answer)) (o .state)) ⌝ }
 {
     let a = o.answer;
-    let w = word_of(a);
-    if is_refusal(a) {
+    let w = answers::word_of(a);
+    if answers::is_refusal(a) {
         return w;
     }
     let s = o.state;
@@ -79,7 +42,7 @@ pub extern "C" fn raftershim_create(block: &mut [u8], rx: &[u8], tx: &[u8], marg
     ensures { λ r. ⌜ CPromised (create margin) (lent (now (block .entry)) (now (rx .entry)) (now (tx .entry))) (cDid r (now (block .exit)) (now (rx .entry)) (now (tx .entry))) ⌝ }
 {
     if block.len() != block::LENGTH {
-        return word_of(Answer::Refused(1));
+        return answers::word_of(Answer::Refused(1));
     }
     let o = bridge::create(rx, tx, margin as usize);
     finished(block, o)

@@ -6,7 +6,7 @@ use mathlib.Core.Bool.{Bool, true, false, cond}
 use mathlib.Core.List.{List, [], _∷_, List·Memᴰ}
 use lib.Dec.{eqb, ltb, lit<}
 use borrow.Author.Tests.{ne-eqb, ltb-false}
-use Rattle.cases.specs.Refusals.{check, firstRefusal}
+use Rattle.answers.specs.Refusals.{check, firstRefusal}
 use Rattle.registers.specs.declared.Registers.{Registers}
 use Rattle.registers.specs.Table.{nothing, character, Row, table, hasRow, carriedOf}
 use Rattle.registers.specs.Bits.{controlMost, characterMost, tooLarge, bitNotCarried}

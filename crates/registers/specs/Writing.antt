@@ -3,7 +3,7 @@ use Prim.Native.Nat.{ℕ}
 use mathlib.Core.Bool.{Bool, cond}
 use mathlib.Core.List.{List, [], _∷_}
 use lib.Dec.{eqb}
-use Rattle.cases.specs.Refusals.{Check, check}
+use Rattle.answers.specs.Refusals.{Check, check}
 use Rattle.registers.specs.declared.Registers.{Registers}
 use Rattle.registers.specs.Table.{nothing, carriedOf}
 use Rattle.registers.specs.Bits.{tooLarge, bitNotCarried}

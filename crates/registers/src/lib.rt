@@ -2,7 +2,7 @@
 ghost use mathlib.Core.Path.{_≡_};
 ghost use Prim.Native.Nat.{_%_};
 ghost use mathlib.Core.Bool.{cond};
-ghost use Rattle.cases.specs.Refusals.{firstRefusal};
+ghost use Rattle.answers.specs.Refusals.{firstRefusal};
 ghost use Rattle.registers.specs.Table.{carriedOf, startRegisters};
 ghost use Rattle.registers.specs.Bits.{tooLarge, bitNotCarried, inRange};
 ghost use Rattle.registers.specs.Writing.{writeChecks, written};

@@ -2,10 +2,10 @@
 use Prim.Native.Nat.{ℕ}
 use mathlib.Core.Path.{_≡_, refl, sym, _∙_}
 use mathlib.Core.Bool.{Bool, true, false, cond, _||_, or-true, or-false, false≢true}
-use Rattle.cases.specs.Refusals.{firstRefusal}
+use Rattle.answers.specs.Refusals.{firstRefusal}
 use Rattle.machine.specs.Machine.{Obeys}
 use Rattle.status.specs.declared.Events.{Events}
-use Rattle.state.specs.Answers.{refused}
+use Rattle.answers.specs.Answers.{refused}
 use Rattle.state.specs.Status.{settled, breakState, keyState}
 use Rattle.bridge.specs.Calls.{OnState, reset, write, lineByte, lineBreak, key, nextLineByte, loopFrame, Call, create, show}
 use Rattle.bridge.specs.Calls.{on, is, World, Did, checks, outcome, settledBy, rxAfter, txAfter, notRefused, step}

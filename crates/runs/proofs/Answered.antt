@@ -10,8 +10,8 @@ use Rattle.frame.specs.Frame.{controlOf, made, isData, stripped, withService}
 use Rattle.frame.proofs.Laws.{made-parts, kind-service, stripped-service}
 use Rattle.status.specs.Status.{statusByte}
 use Rattle.state.specs.declared.State.{State}
-use Rattle.state.specs.declared.Answer.the-variants.{Frame}
-use Rattle.state.specs.Answers.{said}
+use Rattle.answers.specs.declared.Answer.the-variants.{Frame}
+use Rattle.answers.specs.Answers.{said}
 use Rattle.state.specs.Status.{conditions, shows, serviced, statusOf}
 use Rattle.laws.specs.Observers.{dataFrame}
 

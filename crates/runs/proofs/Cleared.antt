@@ -7,7 +7,7 @@ use mathlib.Core.List.{List, [], _∷_}
 use lib.Dec.{eqb}
 use borrow.Author.Tests.{eqb-true, ne-eqb, le-leb}
 use Rattle.cases.proofs.Cases.{by-cond, and-left, and-right}
-use Rattle.cases.specs.Refusals.{firstRefusal}
+use Rattle.answers.specs.Refusals.{firstRefusal}
 use Rattle.frame.specs.Frame.{controlOf, dataOf, made, isData, stripped, sameApart}
 use Rattle.frame.proofs.Laws.{same-stripped, stripped-same, stripped-twice}
 use Rattle.registers.specs.Writing.{written}
@@ -21,8 +21,8 @@ use Rattle.state.specs.declared.Notes.{Notes}
 use Rattle.state.specs.declared.Outcome.{Outcome}
 use Rattle.state.specs.declared.Out.{Out}
 use Rattle.state.specs.declared.Out.the-variants as out
-use Rattle.state.specs.declared.Answer.the-variants.{Frame}
-use Rattle.state.specs.Answers.{Said, said, done, refused}
+use Rattle.answers.specs.declared.Answer.the-variants.{Frame}
+use Rattle.answers.specs.Answers.{Said, said, done, refused}
 use Rattle.state.specs.Sizes.{startState}
 use Rattle.state.specs.Status.{settled, breakState, keyState, statusOf}
 use Rattle.state.specs.Status as status

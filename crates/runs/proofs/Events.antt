@@ -9,7 +9,7 @@ use Rattle.cases.proofs.Cases.{by-cond}
 use Rattle.frame.specs.Frame.{stripped}
 use Rattle.store.specs.Ring.{full}
 use Rattle.state.specs.declared.State.{State}
-use Rattle.state.specs.Answers.{Said, said, refused}
+use Rattle.answers.specs.Answers.{Said, said, refused}
 use Rattle.state.specs.Status.{settled, breakState, keyState}
 use Rattle.line.specs.HoldingOff.{isGoOrStop, flowed, lostState, storedState, lineState}
 use Rattle.bridge.specs.Calls.{Call, on, create, reset, write, lineByte, lineBreak, key, nextLineByte}

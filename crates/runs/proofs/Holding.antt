@@ -16,7 +16,7 @@ use Rattle.state.specs.declared.Outcome.{Outcome}
 use Rattle.state.specs.declared.Out.{Out}
 use Rattle.state.specs.declared.Out.the-variants as out
 use Rattle.state.specs.State.{withRegisters}
-use Rattle.state.specs.Answers.{Said, said, done, refused}
+use Rattle.answers.specs.Answers.{Said, said, done, refused}
 use Rattle.state.specs.Sizes.{startState}
 use Rattle.state.specs.Status.{settled, breakState, keyState}
 use Rattle.state.specs.Status as state-status

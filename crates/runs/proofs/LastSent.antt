@@ -20,7 +20,7 @@ use Rattle.state.specs.declared.Line.{Line}
 use Rattle.state.specs.declared.Outcome.{Outcome}
 use Rattle.state.specs.declared.Out.{Out}
 use Rattle.state.specs.declared.Out.the-variants.{Own, Held, Nothing}
-use Rattle.state.specs.Answers.{said, refused}
+use Rattle.answers.specs.Answers.{said, refused}
 use Rattle.state.specs.Sizes.{startState}
 use Rattle.state.specs.Status.{settled, breakState, keyState}
 use Rattle.state.specs.Status as status

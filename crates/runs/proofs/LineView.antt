@@ -14,7 +14,7 @@ use Rattle.store.proofs.Laws.{put-full}
 use Rattle.state.specs.declared.Out.{Out}
 use Rattle.state.specs.declared.Out.the-variants.{Own, Held, Nothing}
 use Rattle.state.specs.State.{withRegisters}
-use Rattle.state.specs.Answers.{said, done}
+use Rattle.answers.specs.Answers.{said, done}
 use Rattle.state.proofs.Fits.{rx-fits}
 use Rattle.line.specs.HoldingOff.{isGoOrStop, flowed, lostState, storedState, lineState, lineBytes, setAfresh, afterWrite, owed, nextOut, goneState, outAnswer}
 use Rattle.line.proofs.Parts.{some-held}

@@ -8,12 +8,12 @@ use lib.Dec.{eqb}
 use lib.ListN.{length, getD}
 use borrow.Author.Tests.{ne-eqb}
 use Rattle.cases.proofs.Cases.{cond-true}
-use Rattle.cases.specs.Refusals.{firstRefusal}
+use Rattle.answers.specs.Refusals.{firstRefusal}
 use Rattle.registers.specs.Meanings.{go, stop}
 use Rattle.store.specs.Ring.{held}
 use Rattle.store.proofs.Laws.{held-length}
 use Rattle.state.specs.declared.Out.the-variants.{Own, Held, Nothing}
-use Rattle.state.specs.Answers.{said, none, byte}
+use Rattle.answers.specs.Answers.{said, none, byte}
 use Rattle.state.proofs.Fits.{tx-fits}
 use Rattle.line.specs.HoldingOff.{owed, nextOut, outAnswer}
 use Rattle.bridge.specs.Calls.{on, nextLineByte, World, Did, checks, outcome, step}

@@ -3,7 +3,7 @@ use Prim.Native.Nat.{ℕ}
 use mathlib.Core.Path.{_≡_, sym, subst}
 use mathlib.Core.List.{List, []}
 use Rattle.store.specs.Ring.{full}
-use Rattle.state.specs.Answers.{Said}
+use Rattle.answers.specs.Answers.{Said}
 use Rattle.bridge.specs.Calls.{Call, World, Did}
 use Rattle.laws.specs.Observers.{arrived, accepted, lost, sent, added, handedOut, changes, empties, startsAnew}
 use Rattle.runs.proofs.Alike.{same-either}

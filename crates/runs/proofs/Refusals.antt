@@ -5,8 +5,8 @@ use mathlib.Core.Bool.{true, false≢true}
 use lib.Dec.{eqb}
 use borrow.Author.Tests.{eqb-true}
 use Rattle.cases.proofs.Cases.{by-cond}
-use Rattle.cases.specs.Refusals.{firstRefusal}
-use Rattle.state.specs.Answers.{refused}
+use Rattle.answers.specs.Refusals.{firstRefusal}
+use Rattle.answers.specs.Answers.{refused}
 use Rattle.bridge.specs.Calls.{on, nextLineByte, loopFrame, World, Did, checks, refusedOr}
 use Rattle.laws.specs.Observers.{taken}
 use Rattle.laws.proofs.Refusing.{fitting}

@@ -3,14 +3,14 @@ use Prim.Native.Nat.{ℕ}
 use mathlib.Core.Path.{_≡_, refl, sym, _∙_}
 use mathlib.Core.Bool.{true, false, false≢true}
 use mathlib.Core.List.{List}
-use Rattle.cases.specs.Refusals.{firstRefusal}
+use Rattle.answers.specs.Refusals.{firstRefusal}
 use Rattle.sending.specs.declared.Given.{Given}
 use Rattle.sending.specs.declared.Given.the-variants as given
 use Rattle.state.specs.declared.State.{State}
 use Rattle.state.specs.declared.Out.{Out}
 use Rattle.state.specs.declared.Out.the-variants as out
 use Rattle.state.specs.declared.Outcome.{Outcome}
-use Rattle.state.specs.Answers.{Said, said, done, none, byte, frame, refused, part}
+use Rattle.answers.specs.Answers.{Said, said, done, none, byte, frame, refused, part}
 use Rattle.line.specs.HoldingOff.{nextOut, outAnswer}
 use Rattle.loops.specs.Sending.{sendState, sendFrom, sendStatus, ended}
 use Rattle.loops.specs.Frames.{frameTaken}

@@ -7,7 +7,7 @@ use mathlib.Core.List.{List, [], _∷_, _++_, append-nil}
 use lib.Dec.{eqb}
 use borrow.Author.Tests.{leb-false, leb-true}
 use Rattle.cases.proofs.Cases.{by-cond}
-use Rattle.cases.specs.Refusals.{firstRefusal}
+use Rattle.answers.specs.Refusals.{firstRefusal}
 use Rattle.machine.specs.Machine.{Obeys}
 use Rattle.registers.specs.Writing.{written}
 use Rattle.store.specs.declared.Ring.{Ring}
@@ -17,7 +17,7 @@ use Rattle.state.specs.declared.State.{State}
 use Rattle.state.specs.declared.Outcome.{Outcome}
 use Rattle.state.specs.declared.Out.{Out}
 use Rattle.state.specs.declared.Out.the-variants as out
-use Rattle.state.specs.Answers.{said, refused}
+use Rattle.answers.specs.Answers.{said, refused}
 use Rattle.state.specs.Status.{settled, breakState, keyState, afterStatus, afterStatusBack}
 use Rattle.state.proofs.Fits.{rx-fits}
 use Rattle.line.specs.HoldingOff.{isGoOrStop, flowed, lostState, storedState, storedWith, lineState, lineBytes, setAfresh, afterWrite, nextOut, goneState}

@@ -5,7 +5,7 @@ use mathlib.Core.Bool.{Bool, true, false, cond, _&&_, _||_, not, and-true, and-f
 use mathlib.Core.List.{List, [], _∷_}
 use lib.Dec.{eqb}
 use Rattle.cases.proofs.Cases.{by-cond, and-right, cond-true, cond-false}
-use Rattle.cases.specs.Refusals.{firstRefusal}
+use Rattle.answers.specs.Refusals.{firstRefusal}
 use Rattle.frame.specs.Frame.{dataOf}
 use Rattle.store.specs.Ring.{full}
 use Rattle.registers.specs.Table.{startRegisters, startOf, rowIn, table}
@@ -17,7 +17,7 @@ use Rattle.state.specs.declared.Notes.{Notes}
 use Rattle.state.specs.declared.Outcome.{Outcome}
 use Rattle.state.specs.declared.Out.{Out}
 use Rattle.state.specs.declared.Out.the-variants as out
-use Rattle.state.specs.Answers.{Said, said, done, refused}
+use Rattle.answers.specs.Answers.{Said, said, done, refused}
 use Rattle.state.specs.Sizes.{startState}
 use Rattle.state.specs.Status.{settled, asking, enabledBy, conditions, breakState, keyState}
 use Rattle.state.specs.Status as state-status

@@ -24,10 +24,10 @@ use Rattle.state.specs.Status.{settled}
 use Rattle.state.proofs.Fits.{tests}
 use Rattle.line.specs.HoldingOff.{resumed}
 use Rattle.loops.specs.Sending.{ruleOf, talking, ended, removedState, sendState, sendFrom}
-use Rattle.cases.specs.Refusals.{firstRefusal}
+use Rattle.answers.specs.Refusals.{firstRefusal}
 use Rattle.cases.proofs.Cases.{and-left, and-right, cond-false}
 use Rattle.state.specs.declared.Outcome.{Outcome}
-use Rattle.state.specs.Answers.{said}
+use Rattle.answers.specs.Answers.{said}
 use Rattle.loops.specs.Frames.{deviceClear}
 use Rattle.bridge.specs.Calls.{on, loopFrame, World, Did, checks, outcome, settledBy, step}
 use Rattle.bridge.specs.Calls as calls

@@ -6,7 +6,7 @@ use mathlib.Core.Bool.{Bool, true, false, cond, _&&_, _||_, not, or-true, or-fal
 use mathlib.Core.List.{List, [], _∷_, nil≢cons}
 use lib.Dec.{eqb}
 use borrow.Author.Tests.{eqb-true, eqb-false, eq-eqb, ne-eqb, le-leb, le-ltb}
-use Rattle.cases.specs.Refusals.{firstRefusal}
+use Rattle.answers.specs.Refusals.{firstRefusal}
 use Rattle.cases.proofs.Cases.{and-left, and-right}
 use Rattle.machine.specs.Machine as machine
 use Rattle.machine.specs.Course as course
@@ -16,7 +16,7 @@ use Rattle.role.specs.declared.Role.{Role}
 use Rattle.state.specs.declared.State.{State}
 use Rattle.state.specs.declared.Under as declared-under
 use Rattle.state.specs.declared.Outcome.{Outcome}
-use Rattle.state.specs.Answers.{Said, said, frame, refused}
+use Rattle.answers.specs.Answers.{Said, said, frame, refused}
 use Rattle.line.specs.HoldingOff.{nextOut}
 use Rattle.loops.specs.Frames.{finishing, frameTaken, deviceClear}
 use Rattle.bridge.specs.Calls.{reset, write, lineByte, lineBreak, key, nextLineByte, loopFrame, Call, create}

@@ -4,14 +4,14 @@ use mathlib.Core.Path.{_≡_, refl, sym, ap, subst, _∙_}
 use mathlib.Core.Bool.{Bool, true, false, cond}
 use mathlib.Core.List.{[], _∷_, _++_, append-nil}
 use Rattle.cases.proofs.Cases.{cond-false}
-use Rattle.cases.specs.Refusals.{firstRefusal}
+use Rattle.answers.specs.Refusals.{firstRefusal}
 use Rattle.reading.specs.Reading.{Sent, none, one, sentFrames, sentRest, send}
 use Rattle.reading.specs.Steps.{cut}
 use Rattle.reading.proofs.Reading.{send-ahead, send-none}
 use Rattle.reading.proofs.Lawful.{lawful}
 use Rattle.sending.specs.Sending.{givenOf, sendHeld, sentRing}
 use Rattle.state.specs.declared.Outcome.{Outcome}
-use Rattle.state.specs.Answers.{Said, said, frame}
+use Rattle.answers.specs.Answers.{Said, said, frame}
 use Rattle.loops.specs.Sending.{ruleOf, removedState, sendState, sendFrom, ended, talking}
 use Rattle.bridge.specs.Calls.{on, loopFrame, World, Did, checks, outcome, step, settledBy, rxAfter}
 use Rattle.bridge.specs.Calls as calls

@@ -18,8 +18,8 @@ use Rattle.reading.proofs.Kept.{send-suffix}
 use Rattle.reading.proofs.Lawful.{lawful}
 use Rattle.sending.specs.Sending.{sendHeld, sentRing}
 use Rattle.state.specs.declared.State.{State}
-use Rattle.state.specs.declared.Answer.the-variants.{Frame}
-use Rattle.state.specs.Answers.{said}
+use Rattle.answers.specs.declared.Answer.the-variants.{Frame}
+use Rattle.answers.specs.Answers.{said}
 use Rattle.state.specs.Status.{serviced}
 use Rattle.laws.specs.Observers.{dataFrame}
 use Rattle.runs.proofs.Answered.{serviced-kind, serviced-rest}

@@ -12,8 +12,8 @@ use Rattle.sending.specs.Sending.{sendHeld, sentRing}
 use Rattle.state.specs.declared.State.{State}
 use Rattle.state.specs.declared.Sizes.{Sizes}
 use Rattle.state.specs.declared.Counts.{Counts}
-use Rattle.state.specs.declared.Answer.the-variants.{Frame}
-use Rattle.state.specs.Answers.{Said, said}
+use Rattle.answers.specs.declared.Answer.the-variants.{Frame}
+use Rattle.answers.specs.Answers.{Said, said}
 use Rattle.state.specs.Sizes.{startState, fits}
 use Rattle.state.specs.Counts.{counted}
 use Rattle.state.specs.Status.{serviced}

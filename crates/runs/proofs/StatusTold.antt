@@ -6,10 +6,10 @@ use mathlib.Core.Bool.{Bool, true, false≢true, cond}
 use mathlib.Core.Logic.{⊎-elim}
 use mathlib.Core.List.{[], _∷_}
 use Rattle.cases.proofs.Cases.{cond-true}
-use Rattle.cases.specs.Refusals.{firstRefusal}
+use Rattle.answers.specs.Refusals.{firstRefusal}
 use Rattle.frame.specs.Frame.{made}
 use Rattle.state.specs.declared.Outcome.{Outcome}
-use Rattle.state.specs.Answers.{said}
+use Rattle.answers.specs.Answers.{said}
 use Rattle.state.specs.Status.{statusOf, conditions}
 use Rattle.state.specs.Status as state-status
 use Rattle.loops.specs.Sending.{sendStatus}

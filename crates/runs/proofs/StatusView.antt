@@ -24,8 +24,8 @@ use Rattle.state.specs.declared.State.{State}
 use Rattle.state.specs.declared.Outcome.{Outcome}
 use Rattle.state.specs.declared.Out.{Out}
 use Rattle.state.specs.declared.Out.the-variants as out
-use Rattle.state.specs.declared.Answer.the-variants.{Frame}
-use Rattle.state.specs.Answers.{Said, said, refused}
+use Rattle.answers.specs.declared.Answer.the-variants.{Frame}
+use Rattle.answers.specs.Answers.{Said, said, refused}
 use Rattle.state.specs.Status.{settled, breakState, keyState}
 use Rattle.state.specs.Status as status
 use Rattle.line.specs.HoldingOff.{isGoOrStop, flowed, lostState, storedWith, lineState, resumed, setAfresh, afterWrite, nextOut, goneState}

@@ -6,7 +6,7 @@ use mathlib.Core.List.{List}
 use Rattle.machine.specs.Course as course
 use Rattle.machine.specs.Machine as machine
 use Rattle.machine.proofs.Course.{left-stands}
-use Rattle.state.specs.Answers.{Said}
+use Rattle.answers.specs.Answers.{Said}
 use Rattle.bridge.specs.Calls.{Call, on, create, reset, write, lineByte, lineBreak, key, nextLineByte, loopFrame, show, World, step}
 use Rattle.laws.specs.Observers.{onFrame}
 use Rattle.laws.specs.Spells as run

@@ -4,7 +4,7 @@ use mathlib.Core.Path.{_≡_, refl}
 use mathlib.Core.Bool.{Bool, true, false, cond, _||_}
 use mathlib.Core.List.{[]}
 use Rattle.registers.specs.Meanings.{go}
-use Rattle.state.specs.Answers.{said, done, refused}
+use Rattle.answers.specs.Answers.{said, done, refused}
 use Rattle.state.specs.Status.{settled, breakState, keyState}
 use Rattle.line.specs.HoldingOff.{owed}
 use Rattle.bridge.specs.Calls.{Call, on, create, reset, write, lineByte, lineBreak, key, nextLineByte, loopFrame}

@@ -1,5 +1,4 @@
 pub mod State
-pub mod Answers
 pub mod Sizes
 pub mod Counts
 pub mod Status

@@ -1,4 +1,5 @@
 // The state of the bridge by value, whether it fits its stores, and its service requests.
+use answers::Answer;
 use registers::Registers;
 use role::Role;
 use status::Events;
@@ -52,15 +53,6 @@ pub struct State {
     pub line: Line,
     pub notes: Notes,
     pub counts: Counts,
-}
-
-// A call has nothing to hand out, has no line byte to give, gives a line byte, gives a frame, or is refused.
-pub enum Answer {
-    Done,
-    Nothing,
-    Byte(u8),
-    Frame(u16),
-    Refused(u8),
 }
 
 // The next line byte: our own go or stop, one held in the transmit store, or none.

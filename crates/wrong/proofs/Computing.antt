@@ -14,7 +14,7 @@ use Rattle.role.specs.ReadyFrames.{readyOf}
 use Rattle.store.specs.Ring.{fitTest, putRing, putBytes, putsRing, putsBytes, dropRing}
 use Rattle.status.specs.Status.{statusByte}
 use Rattle.sending.specs.Sending.{sendHeld, sentRing}
-use Rattle.state.specs.Answers.{said}
+use Rattle.answers.specs.Answers.{said}
 use Rattle.state.specs.Sizes.{sizesObeyed, startState, fits}
 use Rattle.state.specs.Status as status
 use Rattle.line.specs.HoldingOff as line

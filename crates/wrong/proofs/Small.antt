@@ -11,7 +11,7 @@ use Rattle.cases.proofs.Cases.{and-left, and-right}
 use Rattle.store.specs.Ring.{held, wrap}
 use Rattle.store.specs.Bytes.{Bytes}
 use Rattle.store.proofs.Laws.{held-unbroken, wrap-low}
-use Rattle.state.specs.Answers.{Said, done, none, byte, frame, refused, part}
+use Rattle.answers.specs.Answers.{Said, done, none, byte, frame, refused, part}
 use Rattle.state.specs.Sizes.{startState}
 use Rattle.machine.specs.Machine.{AllFair}
 use Rattle.bridge.specs.Calls.{reset, write, lineByte, lineBreak, key, nextLineByte, loopFrame, Call, create, show, on, World, Did}

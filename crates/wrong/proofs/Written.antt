@@ -3,7 +3,7 @@ use Prim.Native.Nat.{ℕ}
 use mathlib.Core.Path.{_≡_, refl, ap, _∙_}
 use mathlib.Core.List.{List, [], _∷_, map}
 use Rattle.machine.specs.Machine.{course, finally}
-use Rattle.state.specs.Answers.{done}
+use Rattle.answers.specs.Answers.{done}
 use Rattle.bridge.specs.Calls.{lineByte, Call, on, World, Did}
 use Rattle.laws.specs.Bridges.{Saw, bridge}
 

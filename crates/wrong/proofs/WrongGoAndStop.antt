@@ -2,7 +2,7 @@
 use mathlib.Core.Path.{refl}
 use mathlib.Core.Bool.{Bool, true, false, false≢true, true≢false}
 use mathlib.Core.List.{List, [], _∷_}
-use Rattle.state.specs.Answers.{done, byte}
+use Rattle.answers.specs.Answers.{done, byte}
 use Rattle.bridge.specs.Calls.{on, reset, write, nextLineByte, World}
 use Rattle.laws.specs.LastSent.{LastKept, LastSince, OwnGiven}
 use Rattle.wrong.specs.Worlds.{cameIn, switchedOff, begunWith, oneForTheLine}

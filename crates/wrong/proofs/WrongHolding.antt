@@ -4,7 +4,7 @@ use mathlib.Core.Path.{refl}
 use mathlib.Core.Bool.{true, false, false≢true}
 use mathlib.Core.List.{List, [], _∷_}
 use Rattle.store.proofs.Laws.{wrap-high}
-use Rattle.state.specs.Answers.{frame}
+use Rattle.answers.specs.Answers.{frame}
 use Rattle.line.specs.HoldingOff.{withHolding}
 use Rattle.bridge.specs.Calls.{on, lineByte, loopFrame}
 use Rattle.laws.specs.Demands.{NoneLost}

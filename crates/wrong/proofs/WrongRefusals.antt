@@ -4,7 +4,7 @@ use mathlib.Core.Path.{refl, ap}
 use mathlib.Core.Bool.{false≢true, true≢false}
 use lib.Dec.{eqb}
 use Rattle.frame.specs.Frame.{made}
-use Rattle.state.specs.Answers.{isRefusal}
+use Rattle.answers.specs.Answers.{isRefusal}
 use Rattle.bridge.specs.Calls.{write, key, nextLineByte, show, on, World}
 use Rattle.laws.specs.Answers.{AnswersSo, RefusedExactly}
 use Rattle.laws.specs.Demands.{RefusedStays, OneFrameOut}

@@ -6,7 +6,7 @@ use mathlib.Core.List.{List, [], _∷_, map}
 use Rattle.frame.specs.Frame.{isData}
 use Rattle.role.specs.Parts.{addressed, activeData}
 use Rattle.store.specs.Ring.{held}
-use Rattle.state.specs.Answers.{frame}
+use Rattle.answers.specs.Answers.{frame}
 use Rattle.bridge.specs.Calls.{Call, on, loopFrame, World, Did}
 use Rattle.machine.specs.Course.{some, Without}
 use Rattle.machine.specs.Machine.{Obeys}

@@ -5,7 +5,7 @@ use Rattle.status.specs.declared.Events.{Events}
 use Rattle.store.specs.Ring.{dropRing}
 use Rattle.reading.specs.Steps.{startsWithPair}
 use Rattle.state.specs.declared.State.{State}
-use Rattle.state.specs.Answers.{Said}
+use Rattle.answers.specs.Answers.{Said}
 use Rattle.state.specs.State.{withRx, withLine, withNotes}
 use Rattle.bridge.specs.Calls.{Call, World, world, Did, step}
 use Rattle.laws.specs.Observers.{any, onFrame, sent, asksStatus}

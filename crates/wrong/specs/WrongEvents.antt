@@ -3,7 +3,7 @@ use mathlib.Core.Bool.{true, false, cond}
 use lib.Dec.{eqb}
 use Rattle.frame.specs.Frame.{controlOf}
 use Rattle.store.specs.Ring.{emptyRing}
-use Rattle.state.specs.Answers.{done}
+use Rattle.answers.specs.Answers.{done}
 use Rattle.state.specs.State.{withRx, withLine}
 use Rattle.bridge.specs.Calls.{reset, lineBreak, key, Call, World, Did}
 use Rattle.laws.specs.Observers.{onFrame, onLineByte, onOne, clears}

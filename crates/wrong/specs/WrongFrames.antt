@@ -3,7 +3,7 @@ use Prim.Native.Nat.{_+_}
 use mathlib.Core.Bool.{_&&_, not}
 use lib.Dec.{eqb}
 use Rattle.frame.specs.Frame.{controlOf, dataOf, made, hasService, stripped, withService}
-use Rattle.state.specs.Answers.{Said, done, none, byte, frame, refused, part}
+use Rattle.answers.specs.Answers.{Said, done, none, byte, frame, refused, part}
 use Rattle.bridge.specs.Calls.{Call, World, Did}
 use Rattle.laws.specs.Observers.{isSend, passesOn}
 use Rattle.laws.specs.Passing.{asFrame}

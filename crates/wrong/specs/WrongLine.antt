@@ -5,7 +5,7 @@ use mathlib.Core.List.{List, [], _∷_}
 use lib.Dec.{eqb, ltb}
 use lib.ListN.{length}
 use Rattle.registers.specs.Meanings.{protocolOn}
-use Rattle.state.specs.Answers.{none}
+use Rattle.answers.specs.Answers.{none}
 use Rattle.state.specs.State.{withTx}
 use Rattle.bridge.specs.Calls.{nextLineByte, Call, World, Did, step}
 use Rattle.laws.specs.Observers.{onOne, added, handedOut, owes, clears}

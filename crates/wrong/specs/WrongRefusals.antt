@@ -2,7 +2,7 @@
 use mathlib.Core.Bool.{true, false, cond, _&&_}
 use lib.Dec.{eqb}
 use Rattle.frame.specs.Frame.{controlOf, isData}
-use Rattle.state.specs.Answers.{done}
+use Rattle.answers.specs.Answers.{done}
 use Rattle.loops.specs.Frames.{addsBytes}
 use Rattle.bridge.specs.Calls.{nextLineByte, Call, World, Did, misfit, notRefused, step}
 use Rattle.laws.specs.Observers.{any, lineByteOf, onFrame, onWrite, onOne}

@@ -4,7 +4,7 @@ use mathlib.Core.Bool.{Bool, false, cond, _&&_, not}
 use lib.Dec.{eqb}
 use Rattle.frame.specs.Frame.{made, isData}
 use Rattle.role.specs.Parts.{addressed, activeData, isActive}
-use Rattle.state.specs.Answers.{frame}
+use Rattle.answers.specs.Answers.{frame}
 use Rattle.state.specs.State.{withUnder, noFrame}
 use Rattle.loops.specs.Sending.{talking}
 use Rattle.bridge.specs.Calls.{Call, World, world, Did}

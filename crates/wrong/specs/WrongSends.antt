@@ -6,7 +6,7 @@ use lib.Dec.{eqb}
 use Rattle.frame.specs.Frame.{controlOf, dataOf, isEnd}
 use Rattle.store.specs.Ring.{emptyRing}
 use Rattle.store.specs.Bytes.{Bytes}
-use Rattle.state.specs.Answers.{Said, done, frame}
+use Rattle.answers.specs.Answers.{Said, done, frame}
 use Rattle.state.specs.State.{withRx, withLine}
 use Rattle.bridge.specs.Calls.{Call, World, Did, step}
 use Rattle.laws.specs.Bridges.{Machine, ByteCall}

@@ -3,7 +3,7 @@ use Prim.Native.Nat.{ℕ}
 use mathlib.Core.Bool.{cond, _&&_}
 use mathlib.Core.List.{List, [], _∷_}
 use lib.Dec.{eqb}
-use Rattle.state.specs.Answers.{part, done}
+use Rattle.answers.specs.Answers.{part, done}
 use Rattle.state.specs.Sizes.{startState}
 use Rattle.bridge.specs.Calls.{Call, World, world, Did, misfit}
 use Rattle.laws.specs.Observers.{onWrite, clears}

@@ -6,7 +6,7 @@ use Rattle.registers.specs.Table.{startRegisters}
 use Rattle.registers.specs.Writing.{written}
 use Rattle.role.specs.Parts.{withAddress}
 use Rattle.state.specs.declared.State.{State}
-use Rattle.state.specs.Answers.{done}
+use Rattle.answers.specs.Answers.{done}
 use Rattle.state.specs.State.{withRegisters, withRole, withCounts}
 use Rattle.bridge.specs.Calls.{reset, Call, World, Did}
 use Rattle.laws.specs.Observers.{onOne, onWrite, restarts, clears}

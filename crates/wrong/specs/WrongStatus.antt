@@ -6,7 +6,7 @@ use Rattle.registers.specs.declared.Registers.{Registers}
 use Rattle.status.specs.declared.Conditions.{Conditions}
 use Rattle.status.specs.Status.{statusByte, both, begins}
 use Rattle.state.specs.declared.State.{State}
-use Rattle.state.specs.Answers.{done}
+use Rattle.answers.specs.Answers.{done}
 use Rattle.state.specs.State.{withUnder}
 use Rattle.state.specs.Status.{conditions, enabledBy, serviced, statusOf, withRequest}
 use Rattle.state.specs.Status as state

@@ -4,7 +4,7 @@ use mathlib.Core.Bool.{cond}
 use mathlib.Core.List.{[], _++_}
 use lib.ListN.{length, set}
 use Rattle.store.specs.Ring.{wrap, dropRing}
-use Rattle.state.specs.Answers.{done}
+use Rattle.answers.specs.Answers.{done}
 use Rattle.state.specs.State.{withRx}
 use Rattle.bridge.specs.Calls.{Call, World, world, Did, step}
 use Rattle.laws.specs.Observers.{any, accepted, lost, handedOut, clears}

@@ -5,7 +5,7 @@ use lib.Dec.{eqb}
 use Rattle.frame.specs.Frame.{made, isData}
 use Rattle.role.specs.Parts.{activeStatus}
 use Rattle.state.specs.State.{withUnder}
-use Rattle.state.specs.Answers.{done}
+use Rattle.answers.specs.Answers.{done}
 use Rattle.bridge.specs.Calls.{Call, World, Did}
 use Rattle.laws.specs.Events.{Event, noted}
 use Rattle.laws.specs.Observers.{any, onFrame, equalReturn, lost}

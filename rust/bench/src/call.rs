@@ -30,11 +30,11 @@ impl Call {
 
 /// The data or end frame in an answer, if it is one.
 pub fn data_frame(answer: u64) -> Option<u32> {
-    let frame = answer.wrapping_sub(3 << 16);
+    let frame = (answer & 0xff_ffff).wrapping_sub(3 << 16);
     (frame < 4 << 8).then_some(frame as u32)
 }
 
 /// Whether an answer is a line byte.
 pub fn is_byte(answer: u64) -> bool {
-    answer >> 16 == 2
+    answer >> 16 & 0xff == 2
 }

@@ -21,7 +21,7 @@ pub const fn refused(number: u64) -> u64 {
     boundary::REFUSED << 16 | number
 }
 
-/// An answer in words.
+/// An answer in words; with a reserved bit set the bare number, because whole numbers are compared.
 pub fn in_words(answer: u64) -> String {
     let value = value(answer);
     match (answer >> 24, kind(answer)) {

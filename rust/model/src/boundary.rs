@@ -1,8 +1,8 @@
 //! The model behind the boundary of the C functions: the state as a lent block, the answer as one
 //! number of 64 bits.
 //!
-//! Bits 0 to 15 of an answer are its value, bits 16 to 23 its kind. What a call refuses leaves the
-//! block and both stores as they were. Nothing is allocated.
+//! Bits 0 to 15 of an answer are its value, bits 16 to 23 its kind; bits 24 to 63 are reserved and 0
+//! for now. What a call refuses leaves the block and both stores as they were. Nothing is allocated.
 
 use crate::{block, Answer, Bridge};
 
@@ -17,7 +17,7 @@ pub const FRAME: u64 = 3;
 /// Kind: the value is the number of a refusal.
 pub const REFUSED: u64 = 4;
 
-/// The kind of an answer.
+/// The kind of an answer, whatever its reserved bits are.
 #[inline]
 pub fn kind(answer: u64) -> u64 {
     answer >> 16 & 0xff

@@ -42,8 +42,9 @@ pub type Answered = Result<Answer, Refusal>;
 impl Answer {
     /// Reads the word of 64 bits that a C function answered.
     ///
-    /// A word that the header does not describe is read as [`Refusal::Other`] with the number 0,
-    /// which no refusal has. The archive never gives such a word.
+    /// Bits 24 to 63 are reserved and do not count. A word whose other bits the header does not
+    /// describe is read as [`Refusal::Other`] with the number 0, which no refusal has. The archive
+    /// never gives such a word.
     ///
     /// ```
     /// use raftershim::{Answer, Refusal};
@@ -53,8 +54,8 @@ impl Answer {
     /// assert_eq!(Answer::of(0x9_0000), Err(Refusal::Other(0)));
     /// ```
     pub const fn of(word: u64) -> Answered {
-        // The kind is compared with all bits above the value, since the rest of them are 0.
-        let kind = word >> 16;
+        // The bits above the kind are reserved: 0 for now, and not looked at.
+        let kind = word >> 16 & 0xFF;
         let value = (word & 0xFFFF) as u16;
         match (kind, value) {
             (0, 0) => Ok(Answer::Done),

@@ -1,6 +1,6 @@
 use mathlib.Core.Path.{ap}
-use Rattle.state.specs.declared.Answer.{Answer}
-use Rattle.state.specs.Answers.{said}
+use Rattle.answers.specs.declared.Answer.{Answer}
+use Rattle.answers.specs.Answers.{said}
 use Rattle.pass.specs.Text.{answerText}
 use Rattle.pass.proofs.Writing.{silent, of-frame, of-refusal}
 use borrow.Author.Needs.{needs}

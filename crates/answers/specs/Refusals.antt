@@ -13,7 +13,7 @@ pub record Check : Type 0 where
 abbrev pub check : ℕ → Bool → Check
 check n t = record { number = n; given = t }
 
--- "Checked in the order of their numbers": the number of the first that is given, 0 where none is
+-- Sizes and refusals, below the table: the number of the first that is given, 0 where none is
 abbrev pub firstRefusal : List Check → ℕ
 firstRefusal [] = 0
 firstRefusal (c ∷ cs) = cond (c .given) (c .number) (firstRefusal cs)

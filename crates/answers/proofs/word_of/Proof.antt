@@ -1,7 +1,7 @@
-use Rattle.raftershim.proofs.Closing.{done-word, none-word, byte-word, frame-word, refused-word}
+use Rattle.answers.proofs.Word.{done-word, none-word, byte-word, frame-word, refused-word}
 use borrow.Author.Needs.{needs}
-use Rattle.raftershim.proofs.word_of.Statement.{statement}
-use Rattle.raftershim.proofs.word_of.Tie as tie
+use Rattle.answers.proofs.word_of.Statement.{statement}
+use Rattle.answers.proofs.word_of.Tie as tie
 
 pub word-of-spec : {M : Type 1} → statement M
 word-of-spec =

@@ -2,8 +2,8 @@
 use mathlib.Core.Path.{_≡_, refl}
 use mathlib.Core.Bool.{Bool, true, false, not, false≢true}
 use mathlib.Core.List.{List, [], _∷_, _++_}
-use Rattle.cases.specs.Refusals.{Check, firstRefusal, noneGiven, FirstDecides}
+use Rattle.answers.specs.Refusals.{Check, firstRefusal, noneGiven, FirstDecides}
 use Rattle.cases.proofs.Cases.{and-left, and-right}
 
 -- a test that does not hold
 off : (t : Bool) → not t ≡ true → t ≡ false

@@ -1,0 +1,94 @@
+-- What an answer is in the paper, and what it tells.
+use Prim.Native.Nat.{ℕ}
+use mathlib.Core.Bool.{Bool, true, false}
+use mathlib.Core.List.{List}
+use Rattle.frame.specs.Frame.{controlOf, dataOf}
+use Rattle.answers.specs.declared.Answer.{Answer}
+use Rattle.answers.specs.declared.Answer.the-variants.{Done, Nothing, Byte, Frame, Refused}
+
+-- Sizes and refusals, last: done where nothing is given, and none where there is no line byte; a line byte; a frame by its control bits and its
+-- data; a refusal by its number; and of showing the bytes of a part
+pub data Said : Type 0 where
+  done : Said
+  none : Said
+  byte : ℕ → Said
+  frame : ℕ → ℕ → Said
+  refused : ℕ → Said
+  part : List ℕ → Said
+
+-- what is seen of a refusal's number, and of any other answer
+abbrev pub ofRefusal : {X : Type 0} → (ℕ → X) → X → Said → X
+ofRefusal see other (refused n) = see n
+ofRefusal see other done = other
+ofRefusal see other none = other
+ofRefusal see other (byte b) = other
+ofRefusal see other (frame k d) = other
+ofRefusal see other (part xs) = other
+
+-- what is seen of a line byte, and of any other answer
+abbrev pub ofByte : {X : Type 0} → (ℕ → X) → X → Said → X
+ofByte see other (byte b) = see b
+ofByte see other done = other
+ofByte see other none = other
+ofByte see other (frame k d) = other
+ofByte see other (refused n) = other
+ofByte see other (part xs) = other
+
+-- the call was refused
+abbrev pub isRefusal : Said → Bool
+isRefusal x = ofRefusal (λ n. true) false x
+
+-- the number of a refusal, 0 for any other answer
+unfoldable pub faultOf : Said → ℕ
+faultOf x = ofRefusal (λ n. n) 0 x
+
+-- whether a line byte is given, and which
+unfoldable pub isByte : Said → Bool
+isByte x = ofByte (λ b. true) false x
+
+unfoldable pub byteIn : Said → ℕ
+byteIn x = ofByte (λ b. b) 0 x
+
+-- Sizes and refusals, last: done from a call with nothing to hand out
+abbrev pub doneOrRefused : Said → Bool
+doneOrRefused done = true
+doneOrRefused (refused n) = true
+doneOrRefused none = false
+doneOrRefused (byte b) = false
+doneOrRefused (frame k d) = false
+doneOrRefused (part xs) = false
+
+-- Sizes and refusals, last: a line byte, or none where there is none to give
+abbrev pub byteOrRefused : Said → Bool
+byteOrRefused (byte b) = true
+byteOrRefused none = true
+byteOrRefused (refused n) = true
+byteOrRefused done = false
+byteOrRefused (frame k d) = false
+byteOrRefused (part xs) = false
+
+-- Frames, first: one frame out for each that is taken
+abbrev pub frameOrRefused : Said → Bool
+frameOrRefused (frame k d) = true
+frameOrRefused (refused n) = true
+frameOrRefused done = false
+frameOrRefused none = false
+frameOrRefused (byte b) = false
+frameOrRefused (part xs) = false
+
+-- Sizes and refusals, showing: no number, a part
+abbrev pub isPart : Said → Bool
+isPart (part xs) = true
+isPart done = false
+isPart none = false
+isPart (byte b) = false
+isPart (frame k d) = false
+isPart (refused n) = false
+
+-- the paper's number and values for each case of the answer; showing has no such answer, it returns the part itself
+unfoldable pub said : Answer → Said
+said Done = done
+said Nothing = none
+said (Byte b) = byte b
+said (Frame f) = frame (controlOf f) (dataOf f)
+said (Refused n) = refused n

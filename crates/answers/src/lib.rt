@@ -1,0 +1,71 @@
+// What a call answers, what an answer tells, and its number.
+ghost use mathlib.Core.Path.{_≡_};
+ghost use Prim.Native.Nat.{_<_};
+ghost use Rattle.answers.specs.Answers.{isRefusal, faultOf, isByte, byteIn, said};
+ghost use Rattle.answers.specs.Word.{word};
+
+// A call has nothing to hand out, has no line byte to give, gives a line byte, gives a frame, or is refused.
+pub enum Answer {
+    Done,
+    Nothing,
+    Byte(u8),
+    Frame(u16),
+    Refused(u8),
+}
+
+// Whether an answer is a refusal.
+pub fn is_refusal(a: Answer) -> bool
+    ensures { λ r. ⌜ r ≡ isRefusal (said a) ⌝ }
+{
+    if let Answer::Refused(_) = a {
+        true
+    } else {
+        false
+    }
+}
+
+// The number of a refusal, 0 for any other answer.
+pub fn fault_of(a: Answer) -> u8
+    ensures { λ r. ⌜ r ≡ faultOf (said a) ⌝ }
+{
+    if let Answer::Refused(n) = a { n } else { 0 }
+}
+
+// Whether an answer is a line byte.
+pub fn is_byte(a: Answer) -> bool
+    ensures { λ r. ⌜ r ≡ isByte (said a) ⌝ }
+{
+    if let Answer::Byte(_) = a { true } else { false }
+}
+
+// The line byte of an answer.
+pub fn byte_in(a: Answer) -> u8
+    ensures { λ r. ⌜ r ≡ byteIn (said a) ⌝ }
+{
+    if let Answer::Byte(b) = a { b } else { 0 }
+}
+
+fn wide8(x: u8) -> u64
+    ensures { λ r. ⌜ (r ≡ x) × (r < 256) ⌝ }
+{
+    x as u64
+}
+
+fn wide16(x: u16) -> u64
+    ensures { λ r. ⌜ (r ≡ x) × (r < 65536) ⌝ }
+{
+    x as u64
+}
+
+// The number that an answer is: its kind above 16 bits of value.
+pub fn word_of(a: Answer) -> u64
+    ensures { λ r. ⌜ r ≡ word (said a) ⌝ }
+{
+    match a {
+        Answer::Done => 0,
+        Answer::Nothing => 65536,
+        Answer::Byte(b) => 131072 + wide8(b),
+        Answer::Frame(f) => 196608 + wide16(f),
+        Answer::Refused(n) => 262144 + wide8(n),
+    }
+}
