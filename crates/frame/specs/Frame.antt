@@ -1,28 +1,29 @@
--- "A frame is 11 bits: three control bits above eight data bits", as a number.
+-- Frames, first: a frame as a number of 11 bits.
 use Prim.Native.Nat.{ℕ, _+_, _*_, _/_, _%_}
 use mathlib.Core.Bool.{Bool}
 use lib.Dec.{eqb, ltb}
 
--- the control bits
+-- the three bits above are the control bits
 abbrev pub controlOf : ℕ → ℕ
 controlOf f = f / 256
 
--- the data byte
+-- the eight bits below are the data byte
 abbrev pub dataOf : ℕ → ℕ
 dataOf f = f % 256
 
--- the frame written "control,data"
+-- the frame of a control and a data byte
 abbrev pub made : ℕ → ℕ → ℕ
 made c d = c * 256 + d
 
--- "Control 0 data, 2 end byte, 1 and 3 the same with a service request"
+-- Frames, controls: 0 to 3 are data
 abbrev pub isData : ℕ → Bool
 isData f = ltb (controlOf f) 4
 
+-- Frames, controls: 2 and 3 are end bytes
 abbrev pub isEnd : ℕ → Bool
 isEnd f = eqb (controlOf f / 2) 1
 
--- the service bit is the lowest control bit
+-- Frames, controls: the lowest control bit is the service bit
 abbrev pub hasService : ℕ → Bool
 hasService f = eqb (controlOf f % 2) 1
 
@@ -34,6 +35,6 @@ stripped f = made (controlOf f / 2 * 2) (dataOf f)
 unfoldable pub withService : ℕ → ℕ
 withService f = made (controlOf f / 2 * 2 + 1) (dataOf f)
 
--- "Compared without the service bit"
+-- Frames, returns: two frames are compared without their service bits
 unfoldable pub sameApart : ℕ → ℕ → Bool
 sameApart f g = eqb (stripped f) (stripped g)

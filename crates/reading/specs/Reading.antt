@@ -52,7 +52,7 @@ module _ {A F : Type 0} where
   abbrev pub allFrames : Reader A F (List F)
   allFrames = record { atWait = λ xs. []; atFrame = λ f r later. f ∷ later }
 
-  -- one send: "Each first applies step 1 as often as it holds, also when no frame follows; nothing more is removed after its frame."
+  -- The reading rule, last: a send removes what the rule skips, also where no frame follows, and ends with its frame
   abbrev pub oneSend : Reader A F (Sent A F)
   oneSend = record { atWait = none; atFrame = λ f r later. one f r }
 

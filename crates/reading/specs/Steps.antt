@@ -1,4 +1,4 @@
--- The reading rule (line to loop) over the bytes held, oldest first, in the paper's own order.
+-- The reading rule, over the bytes held, oldest first; its steps stand in the order of the paper.
 use Prim.Native.Nat.{ℕ}
 use mathlib.Core.Bool.{Bool, true, false, cond, _&&_, _||_}
 use mathlib.Core.List.{List, [], _∷_}
@@ -10,42 +10,42 @@ use Rattle.reading.specs.declared.Decision.{Decision}
 use Rattle.reading.specs.declared.Decision.the-variants.{Removed, End, Data, Wait}
 use Rattle.reading.specs.Reading.{Cut, wait, skip, give}
 
--- "The next two bytes are C00, C01"
+-- the pair C00, C01 stands first
 abbrev pub startsWithPair : Rule → List ℕ → Bool
 startsWithPair r [] = false
 startsWithPair r (x ∷ []) = false
 startsWithPair r (x ∷ y ∷ xs) = eqb x (r .c00) && eqb y (r .c01)
 
--- "One byte left and it is C00"
+-- a single byte is there, which is C00
 abbrev pub isOnlyC00 : Rule → List ℕ → Bool
 isOnlyC00 r [] = false
 isOnlyC00 r (x ∷ []) = eqb x (r .c00)
 isOnlyC00 r (x ∷ y ∷ xs) = false
 
--- "nothing follows"
+-- no byte is there
 abbrev pub isNothing : List ℕ → Bool
 isNothing [] = true
 isNothing (x ∷ xs) = false
 
--- "R10 bit 3 off: each byte is one data frame. On, from the oldest byte:" the steps below; with nothing held there is nothing to decide
+-- what the rule decides of the oldest bytes; with nothing held there is nothing to decide
 abbrev pub decision : Rule → List ℕ → Decision
 decision r [] = Wait
 decision r (x ∷ xs) =
     cond (r .on)
-    -- "1. The next two bytes are C00, C01: removed, nothing sent.
+    -- step 1, a pair is removed
     (cond (startsWithPair r (x ∷ xs)) Removed
-    -- One byte left and it is C00: undecided, wait."
+    -- step 1, half a pair waits
     (cond (isOnlyC00 r (x ∷ xs)) Wait
-    -- "2. Else, C00, C01 follow the byte: an end byte; all three go."
+    -- step 2, a byte before a pair is an end byte
     (cond (startsWithPair r xs) End
-    -- "3. Else, nothing follows, or only C00: undecided, wait."
+    -- step 3, a byte that a pair may still follow waits
     (cond (isNothing xs || isOnlyC00 r xs) Wait
-    -- "4. Else a data frame; the byte goes."
+    -- step 4, any other byte is a data frame
     Data))))
-    -- "R10 bit 3 off: each byte is one data frame."
+    -- with R10 bit 3 off every byte is a data frame
     Data
 
--- how many bytes a decision takes: of a pair both, of an end byte "all three", of a data frame "the byte"
+-- how many bytes a decision takes: a pair, an end byte with its pair, or one byte
 abbrev pub takes : Decision → ℕ
 takes Removed = 2
 takes End = 3

@@ -14,7 +14,7 @@ controlMost = 15
 abbrev pub characterMost : ℕ
 characterMost = 255
 
--- "a control value above 15, or a character above 255", for a register that carries k
+-- Sizes and refusals, 6: the value is above what a register that carries k can hold
 unfoldable pub tooLarge : ℕ → ℕ → Bool
 tooLarge k v = cond (eqb k character) (ltb characterMost v) (ltb controlMost v)
 
@@ -22,10 +22,10 @@ tooLarge k v = cond (eqb k character) (ltb characterMost v) (ltb controlMost v)
 abbrev pub stray : ℕ → ℕ → ℕ → Bool
 stray j k v = bit j v && not (bit j k)
 
--- "a control bit not carried"
+-- Sizes and refusals, 7: a bit of a control register that it does not carry
 unfoldable pub bitNotCarried : ℕ → ℕ → Bool
 bitNotCarried k v = not (eqb k character) && (((stray 0 k v || stray 1 k v) || stray 2 k v) || stray 3 k v)
 
--- a value "in its range": neither too large nor with a bit that is not carried
+-- Sizes and refusals, fitting: a register is in its range if a write of its value would not be refused by 6 or 7
 unfoldable pub inRange : ℕ → ℕ → Bool
 inRange k v = not (tooLarge k v) && not (bitNotCarried k v)

@@ -40,11 +40,11 @@ valueIn (h ∷ hs) n = cond (eqb n (h .number)) (h .value) (valueIn hs n)
 abbrev pub valueOf : Registers → ℕ → ℕ
 valueOf g n = valueIn (values g) n
 
--- "every field is in its range"
+-- Sizes and refusals, fitting: each register is in its range
 unfoldable pub allInRange : List Held → Bool
 allInRange [] = true
 allInRange (h ∷ hs) = inRange (carriedOf (h .number)) (h .value) && allInRange hs
 
--- "every field is in its range, go and stop differ"
+-- Sizes and refusals, fitting: and go and stop differ
 unfoldable pub registersFit : Registers → Bool
 registersFit g = allInRange (values g) && not (goIsStop g)

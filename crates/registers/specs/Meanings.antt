@@ -1,14 +1,14 @@
--- What the bits and characters mean, in the words of the paper and of the manual's appendix D.
+-- What the bits and characters mean: the paper, and appendix D of the manual of the HP 82164A.
 use Prim.Native.Nat.{ℕ}
 use mathlib.Core.Bool.{Bool}
 use Rattle.registers.specs.declared.Registers.{Registers}
 use Rattle.registers.specs.Bits.{bit}
 
--- "it shows (bit 6 too) only while R00 bit 3 is on"
+-- Status byte, requests: R00 bit 3 lets a request show
 abbrev pub requestsShow : Registers → Bool
 requestsShow g = bit 3 (g .r00)
 
--- the conditions that begin a request where they are enabled: R00 bit 0, R01, R02 bits 0 and 2
+-- appendix D: each condition of a request has its enabling bit, in R00, R01 or R02
 abbrev pub overrunEnabled : Registers → Bool
 overrunEnabled g = bit 0 (g .r00)
 
@@ -30,19 +30,19 @@ breakEnabled g = bit 0 (g .r02)
 abbrev pub keyEnabled : Registers → Bool
 keyEnabled g = bit 2 (g .r02)
 
--- "End-Of-Line Detect and Delete from RS-232": "R10 bit 3 off: each byte is one data frame."
+-- appendix D, R10 bit 3: end characters from the line are looked for and deleted
 abbrev pub endDetected : Registers → Bool
 endDetected g = bit 3 (g .r10)
 
--- "End-Of-Line Insert on RS-232": "for an end byte with R10 bit 2 on, then C02 and C03"
+-- appendix D, R10 bit 2: end characters are inserted on the line
 abbrev pub endInserted : Registers → Bool
 endInserted g = bit 2 (g .r10)
 
--- "Receiver Protocol": "With R11 bit 3 on, a line byte equal to go or stop is never stored"
+-- appendix D, R11 bit 3: the receiver protocol
 abbrev pub protocolOn : Registers → Bool
 protocolOn g = bit 3 (g .r11)
 
--- go is the manual's "Ready Character", stop its "Not Ready Character"
+-- appendix D, C04 and C05: the "Ready Character" is our go, the "Not Ready Character" our stop
 abbrev pub go : Registers → ℕ
 go g = g .c04
 

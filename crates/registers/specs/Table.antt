@@ -21,9 +21,7 @@ pub record Row : Type 0 where
 abbrev pub row : ℕ → ℕ → ℕ → Row
 row n k s = record { number = n; carries = k; start = s }
 
--- "Numbers 0 to 12 are R00 to R12, 16 to 21 are C00 to C05"
--- "Carried: R00 bits 3 and 0; R01 all four; R02 bits 2 and 0; R10 bits 3 and 2; R11 bit 3; C00 to C05."
--- "Start: R11 is 8, other control registers 0; C00 and C02 are 13, C01 and C03 are 10; the C04/C05 pair is go 17 and stop 19"
+-- Registers, numbers, carried and start: a row for each register that is carried, R00 to R11 by 0 to 11 and C00 to C05 by 16 to 21
 unfoldable pub table : List Row
 table =
     row 0 (8 + 1) 0

@@ -26,12 +26,11 @@ written g n v =
       c05 = cond (eqb n 21) v (g .c05);
     }
 
--- "the go and stop characters would be equal"
+-- Sizes and refusals, 8: go and stop are one character
 abbrev pub goIsStop : Registers → Bool
 goIsStop g = eqb (go g) (stop g)
 
--- "register write: a number not carried"; "a control value above 15, or a character above 255";
--- "a control bit not carried"; "the go and stop characters would be equal", in the result of the write
+-- Sizes and refusals, 5 to 8: the register is not carried, the value is too large, a bit is not carried, or the write would make go stop
 unfoldable pub writeChecks : Registers → ℕ → ℕ → List Check
 writeChecks g n v =
     check 5 (eqb (carriedOf n) nothing)

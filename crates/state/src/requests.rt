@@ -106,7 +106,7 @@ pub fn status_back(s: State, d: u8) -> State
 {
     let seen = s.notes.seen;
     let again = s.notes.again;
-    let left = status::told(seen, again, d);
+    let left = status::acknowledged(seen, again, d);
     with_notes(s, left, again, s.notes.request)
 }
 

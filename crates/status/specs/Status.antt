@@ -1,17 +1,17 @@
--- "Status byte (ours)": its bits, when a request begins, and when the bits of what happened clear.
+-- Status byte: its bits, when a request begins, and when the bits of what happened clear.
 use Prim.Native.Nat.{ℕ, _+_, _/_, _%_}
 use mathlib.Core.Bool.{Bool, cond, _&&_, _||_, not}
 use lib.Dec.{eqb}
 use Rattle.status.specs.declared.Conditions.{Conditions}
 use Rattle.status.specs.declared.Events.{Events}
 
--- "Bit 0 transmit empty, 1 transmit not full, 2 receive not empty, 3 receive full, 4 break, 5 overrun, 6 service requested, 7 MSRQ pressed."
+-- Status byte, bits 0 to 7: the transmit store empty, not full, the receive store not empty, full, break, overrun, request, key
 unfoldable pub statusByte : Conditions → Bool → ℕ
 statusByte c requested =
     ((cond (c .txempty) 1 0 + cond (c .txnotfull) 2 0) + cond (c .rxnotempty) 4 0 + cond (c .rxfull) 8 0)
     + ((cond (c .brk) 16 0 + cond (c .overrun) 32 0) + cond requested 64 0 + cond (c .key) 128 0)
 
--- a condition is enabled and holds
+-- Status byte, requests: of each condition whether it is enabled and holds
 abbrev pub both : Conditions → Conditions → Conditions
 both e c =
     record {
@@ -28,20 +28,21 @@ both e c =
 abbrev pub comes : Bool → Bool → Bool
 comes before after = after && not before
 
--- "A request begins when an enabled condition comes to hold that was not enabled-and-holding before the call"
+-- Status byte, requests: one begins where a condition is "enabled-and-holding" after the call and was not before it
 abbrev pub begins : Conditions → Conditions → Bool
 begins b a =
     (((((comes (b .txempty) (a .txempty) || comes (b .txnotfull) (a .txnotfull)) || comes (b .rxnotempty) (a .rxnotempty)) || comes (b .rxfull) (a .rxfull))
     || comes (b .brk) (a .brk)) || comes (b .overrun) (a .overrun)) || comes (b .key) (a .key)
 
--- the status byte showed its bit of this worth
+-- the status byte d showed the bit that weighs so much
 abbrev pub showed : ℕ → ℕ → Bool
-showed d worth = eqb (d / worth % 2) 1
+showed d weight = eqb (d / weight % 2) 1
 
--- "Bits 4, 5, 7 clear when a status byte that showed them returns unchanged, unless the thing happened again since it was sent."
+-- Status byte, last: a bit that the returning byte showed clears, unless its thing happened again meanwhile
 abbrev pub stays : Bool → Bool → Bool → Bool
 stays set shown again = set && not (shown && not again)
 
+-- the three things of bits 4, 5 and 7 after the status byte d has come back
 abbrev pub acknowledged : Events → Events → ℕ → Events
 acknowledged e again d =
     record {

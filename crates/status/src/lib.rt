@@ -23,7 +23,7 @@ pub struct Events {
 }
 
 // The value v where t holds, and 0 where not.
-fn worth(t: bool, v: u8) -> u8
+fn weighed(t: bool, v: u8) -> u8
     ensures { λ r. ⌜ (r ≡ cond t v 0) × (r ≤ v) ⌝ }
 {
     if t { v } else { 0 }
@@ -33,11 +33,14 @@ fn worth(t: bool, v: u8) -> u8
 pub fn status_byte(c: Conditions, requested: bool) -> u8
     ensures { λ r. ⌜ r ≡ statusByte c requested ⌝ }
 {
-    let low = worth(c.txempty, 1)
-        + worth(c.txnotfull, 2)
-        + worth(c.rxnotempty, 4)
-        + worth(c.rxfull, 8);
-    let high = worth(c.brk, 16) + worth(c.overrun, 32) + worth(requested, 64) + worth(c.key, 128);
+    let low = weighed(c.txempty, 1)
+        + weighed(c.txnotfull, 2)
+        + weighed(c.rxnotempty, 4)
+        + weighed(c.rxfull, 8);
+    let high = weighed(c.brk, 16)
+        + weighed(c.overrun, 32)
+        + weighed(requested, 64)
+        + weighed(c.key, 128);
     low + high
 }
 
@@ -70,7 +73,7 @@ pub fn request_begins(b: Conditions, a: Conditions) -> bool
 }
 
 // What is still to be told when the status byte d has come back unchanged.
-pub fn told(e: Events, again: Events, d: u8) -> Events
+pub fn acknowledged(e: Events, again: Events, d: u8) -> Events
     ensures { λ r. ⌜ r ≡ acknowledged e again d ⌝ }
 {
     Events {
