@@ -12,10 +12,10 @@ use Rattle.state.specs.declared.Outcome.{Outcome}
 use Rattle.answers.specs.Answers.{said, faultOf, isByte, byteIn}
 use Rattle.bridge.specs.Calls.{on, write, lineByte, nextLineByte, loopFrame, World, world, Did, did, step}
 use Rattle.pass.specs.declared.Set.{Set}
-use Rattle.pass.specs.Text.{decimal, answerText, bytesText, over, Wrote}
+use Rattle.pass.specs.Text.{decimal, answerText, bytesText, overwritten, Wrote}
 use Rattle.pass.specs.Input.{high}
 use Rattle.pass.specs.Passing.{setRegisters, takeBytes, framesText, framesWorld, Offers, lineOut}
-use Rattle.pass.proofs.Writing.{over-then, over-none}
+use Rattle.pass.proofs.Writing.{overwritten-then, overwritten-none}
 
 none-left : (n : ℕ) → n ≤ 0 → n ≡ 0
 none-left n h = omega arith
@@ -86,7 +86,7 @@ world-step x n i w h = ap (λ (k : ℕ). framesWorld k x i w) (one-left n h)
 
 -- a text that is still to be written from k on: with what is written already, all of it from `to` on
 pub record Rest (out₀ : List ℕ) (to : ℕ) (all : List ℕ) (out : List ℕ) (k : ℕ) (left : List ℕ) : Type 0 where
-  pub bytes : over k left out ≡ over to all out₀
+  pub bytes : overwritten k left out ≡ overwritten to all out₀
   pub place : k + length left ≡ to + length all
   pub size : length out ≡ length out₀
 
@@ -98,13 +98,13 @@ pub rest-again : {out₀ out out₁ : List ℕ} {to k r : ℕ} {all a left : Lis
     Rest out₀ to all out₁ r left
 rest-again {out₀} {out} {out₁} {to} {k} {r} {all} {a} {left} h p q =
     record {
-      bytes = (λ j. over (q .next j) left (q .bytes j)) ∙ over-then k a left out h ∙ p .bytes;
+      bytes = (λ j. overwritten (q .next j) left (q .bytes j)) ∙ overwritten-then k a left out h ∙ p .bytes;
       place = omega (arith, q .next, p .place, length-append a left);
       size = q .size ∙ p .size;
     }
 
 pub rest-end : {out₀ out : List ℕ} {to k : ℕ} {all : List ℕ} → Rest out₀ to all out k [] → Wrote out₀ to all out k
-rest-end {out₀} {out} {to} {k} {all} p = record { bytes = sym (over-none k out) ∙ p .bytes; next = omega (arith, p .place); size = p .size }
+rest-end {out₀} {out} {to} {k} {all} p = record { bytes = sym (overwritten-none k out) ∙ p .bytes; next = omega (arith, p .place); size = p .size }
 
 -- what the loop over the frames keeps
 pub record Offering (x rx tx₀ : List ℕ) (i n : ℕ) (out₀ : List ℕ) (to : ℕ) (t₀ : State) (tx out : List ℕ) (t : State) (at left k : ℕ) : Type 0 where

@@ -11,32 +11,32 @@ use Rattle.frame.specs.Frame.{controlOf, dataOf}
 use Rattle.answers.specs.declared.Answer.{Answer}
 use Rattle.answers.specs.declared.Answer.the-variants.{Frame, Refused}
 use Rattle.answers.specs.Answers.{said}
-use Rattle.pass.specs.Text.{answerText, digit, decimal, newline, refusedWord, refusedText, frameText, over, Wrote}
+use Rattle.pass.specs.Text.{answerText, digit, decimal, newline, refusedWord, refusedText, frameText, overwritten, Wrote}
 
-pub over-size : (at : ℕ) (text out : List ℕ) → at + length text ≤ length out → length (over at text out) ≡ length out
-over-size at text out h = simp (length-append, length-take, length-drop) (omega arith)
+pub overwritten-size : (at : ℕ) (text out : List ℕ) → at + length text ≤ length out → length (overwritten at text out) ≡ length out
+overwritten-size at text out h = simp (length-append, length-take, length-drop) (omega arith)
 
 -- nothing is written
-pub over-none : (at : ℕ) (out : List ℕ) → over at [] out ≡ out
-over-none at out =
+pub overwritten-none : (at : ℕ) (out : List ℕ) → overwritten at [] out ≡ out
+overwritten-none at out =
     let e : at + 0 ≡ at = omega arith in
     ap (λ (k : ℕ). take at out ++ drop k out) e ∙ take-append-drop at out
 
 pub wrote-none : (out : List ℕ) (at : ℕ) → Wrote out at [] out at
-wrote-none out at = record { bytes = sym (over-none at out); next = omega arith; size = refl }
+wrote-none out at = record { bytes = sym (overwritten-none at out); next = omega arith; size = refl }
 
 pub wrote-one : (out : List ℕ) (at b : ℕ) → at < length out → Wrote out at (b ∷ []) (set out at b) (at + 1)
 wrote-one out at b h = record { bytes = rw (add-one, set-split out at b h); next = refl; size = length-set out at b }
 
 -- what is written behind a text that was written
-pub over-then : (at : ℕ) (a b out : List ℕ) → at ≤ length out → over (at + length a) b (over at a out) ≡ over at (a ++ b) out
-over-then at a b out h =
+pub overwritten-then : (at : ℕ) (a b out : List ℕ) → at ≤ length out → overwritten (at + length a) b (overwritten at a out) ≡ overwritten at (a ++ b) out
+overwritten-then at a b out h =
     let n : length (take at out ++ a) ≡ at + length a = simp (length-append, length-take) (omega arith) in
-    let whole : over at a out ≡ (take at out ++ a) ++ drop (at + length a) out = sym (append-assoc (take at out) a (drop (at + length a) out)) in
-    let front : take (at + length a) (over at a out) ≡ take at out ++ a =
+    let whole : overwritten at a out ≡ (take at out ++ a) ++ drop (at + length a) out = sym (append-assoc (take at out) a (drop (at + length a) out)) in
+    let front : take (at + length a) (overwritten at a out) ≡ take at out ++ a =
     ap (take (at + length a)) whole ∙ take-at (take at out ++ a) (drop (at + length a) out) (at + length a) n in
     let far : at + length a + length b ≡ at + length (a ++ b) = omega (arith, length-append a b) in
-    let back : drop (at + length a + length b) (over at a out) ≡ drop (at + length (a ++ b)) out =
+    let back : drop (at + length a + length b) (overwritten at a out) ≡ drop (at + length (a ++ b)) out =
     ap (drop (at + length a + length b)) whole
     ∙ ap (λ (k : ℕ). drop (k + length b) ((take at out ++ a) ++ drop (at + length a) out)) (sym n)
     ∙ drop-append-add (take at out ++ a) (drop (at + length a) out) (length b)
@@ -47,7 +47,7 @@ over-then at a b out h =
 pub wrote-then : {out out₁ out₂ a b : List ℕ} {at k r : ℕ} → at ≤ length out → Wrote out at a out₁ k → Wrote out₁ k b out₂ r → Wrote out at (a ++ b) out₂ r
 wrote-then {out} {out₁} {out₂} {a} {b} {at} {k} {r} h p q =
     record {
-      bytes = q .bytes ∙ ap (λ (n : ℕ). over n b out₁) (p .next) ∙ ap (over (at + length a) b) (p .bytes) ∙ over-then at a b out h;
+      bytes = q .bytes ∙ ap (λ (n : ℕ). overwritten n b out₁) (p .next) ∙ ap (overwritten (at + length a) b) (p .bytes) ∙ overwritten-then at a b out h;
       next = omega (arith, length-append a b, p .next, q .next);
       size = q .size ∙ p .size;
     }
@@ -80,8 +80,8 @@ put-text out text ys at r h e q =
     let mid : take (length out - at) (drop at out) ≡ drop at out = take-all (length out - at) (drop at out) (omega (arith, length-drop at out)) in
     let none : drop (length out - at) (drop at out) ≡ [] = drop-of-length-le (drop at out) {i = length out - at} (omega (arith, length-drop at out)) in
     let there : ys ≡ text ++ drop (at + length text) out = q ∙ rw (mid, take-length text, drop-drop (length text) at out) in
-    let whole : take at out ++ (ys ++ drop (length out - at) (drop at out)) ≡ over at text out = rw (there, none, append-nil) in
-    record { bytes = whole; next = ap (λ (n : ℕ). at + n) e; size = ap length whole ∙ over-size at text out h }
+    let whole : take at out ++ (ys ++ drop (length out - at) (drop at out)) ≡ overwritten at text out = rw (there, none, append-nil) in
+    record { bytes = whole; next = ap (λ (n : ℕ). at + n) e; size = ap length whole ∙ overwritten-size at text out h }
 
 -- ---- the line of a refusal, and of a frame
 

@@ -1,5 +1,5 @@
--- "reads three sections in fixed order, each after a two-byte count, high byte first: register pairs (number, value), line bytes, frames
--- (two bytes, high first), each section of at most 64 items"
+-- Proved examples, the program onepass, input: three sections, registers in pairs, line bytes, and frames of two bytes, each with its count
+-- before it.
 use Prim.Native.Nat.{ℕ, _+_, _*_, _≤_}
 use mathlib.Core.Path.{_≡_}
 use mathlib.Core.Bool.{Bool, true, false, cond, _&&_}
@@ -36,8 +36,7 @@ counted x i = leb (i + 2) (length x) && leb (high x i) 64
 unfoldable pub byCount : List ℕ → ℕ → (ℕ → Sections) → Sections
 byCount x i next = cond (counted x i) (next (high x i)) malformed
 
--- the numbers of items, when those of all three, two, one or none of the sections are read; "Short or extra input, or a count above 64"
--- is malformed
+-- the numbers of items, when those of all three, two, one or none of the sections are read; input that is too short or too long is malformed
 unfoldable pub endOf : List ℕ → ℕ → ℕ → ℕ → Sections
 endOf x a b c = cond (eqb (length x) (endAt a b c)) (sections a b c) malformed
 

@@ -1,4 +1,4 @@
--- "Program `onepass` (stores of 64, m 8)": what it prints, by the calls of the bridge.
+-- Proved examples, the program onepass: what it prints, by the calls of the bridge.
 use Prim.Native.Nat.{ℕ, zero, suc, _+_, _*_, _≤_}
 use mathlib.Core.Path.{_≡_}
 use mathlib.Core.Bool.{cond}
@@ -14,7 +14,7 @@ use Rattle.pass.specs.declared.Set.{Set}
 use Rattle.pass.specs.Input.{high, sectionsOf}
 use Rattle.pass.specs.Text.{decimal, newline, firstLine, lineWord, refusedText, answerText, bytesText, Wrote}
 
--- n register pairs from place i are written; "a refused register .. ends the run"
+-- the program, registers: n pairs from place i are written, up to one that is refused
 unfoldable pub setRegisters : ℕ → List ℕ → ℕ → World → Set
 setRegisters zero x i w = record { state = w .state; fault = 0 }
 setRegisters (suc n) x i w =
@@ -22,12 +22,12 @@ setRegisters (suc n) x i w =
     (setRegisters n x (i + 2) (step (on (write (getD x i 0) (getD x (i + 1) 0))) w .world))
     (record { state = w .state; fault = faultOf (step (on (write (getD x i 0) (getD x (i + 1) 0))) w .said) })
 
--- "It then takes the line bytes": n of them from place i
+-- the program, then: n line bytes from place i are taken
 unfoldable pub takeBytes : ℕ → List ℕ → ℕ → World → World
 takeBytes zero x i w = w
 takeBytes (suc n) x i w = takeBytes n x (i + 1) (step (on (lineByte (getD x i 0))) w .world)
 
--- "offers the frames": what n of them from place i print, and the world after them
+-- the program, then: what n frames that are offered from place i print, and the world after them
 unfoldable pub framesText : ℕ → List ℕ → ℕ → World → List ℕ
 framesText zero x i w = []
 framesText (suc n) x i w = answerText (step (on (loopFrame (high x i))) w .said) ++ framesText n x (i + 2) (step (on (loopFrame (high x i))) w .world)
@@ -42,7 +42,7 @@ pub record Offers (n : ℕ) (x : List ℕ) (i : ℕ) (w : World) (out : List ℕ
   pub wrote : Wrote out at (framesText n x i w) out′ r
   pub short : r ≤ at + 12 * n
 
--- "and asks for line bytes until none", at most n times
+-- the program, then: the line bytes that are given until there is none, in n asks at most
 unfoldable pub lineOut : ℕ → World → List ℕ
 lineOut zero w = []
 lineOut (suc n) w = cond (isByte (step (on nextLineByte) w .said)) (byteIn (step (on nextLineByte) w .said) ∷ lineOut n (step (on nextLineByte) w .world)) []
@@ -65,7 +65,7 @@ lastWorld x p w = framesWorld (p .frames) x (6 + 2 * p .regs + p .bytes) (takenW
 unfoldable pub restText : List ℕ → Sections → World → List ℕ
 restText x p w = framesText (p .frames) x (6 + 2 * p .regs + p .bytes) (takenWorld x p w) ++ lineText (lastWorld x p w)
 
--- "a refused register prints `refused` and its number after the first line, and ends the run"
+-- the program, registers: where one is refused its number is printed and nothing more
 unfoldable pub setText : List ℕ → Sections → Set → List ℕ → List ℕ → List ℕ
 setText x p g rx tx = cond (eqb (g .fault) 0) (restText x p (world (g .state) rx tx)) (refusedText (g .fault))
 
@@ -77,10 +77,10 @@ registersSet x p rx tx = setRegisters (p .regs) x 2 (world (startState 8 (length
 unfoldable pub runText : List ℕ → Sections → List ℕ → List ℕ → List ℕ
 runText x p rx tx = firstLine ++ setText x p (registersSet x p rx tx) rx tx
 
--- "stores of 64"
+-- the program, sizes: a store of 64 bytes
 abbrev pub store : List ℕ
 store = replicate 64 0
 
--- all that is printed; malformed input "prints `refused 9` as the only line"
+-- all that is printed; of malformed input one line with refusal 9
 unfoldable pub printed : List ℕ → List ℕ
 printed x = cond (sectionsOf x .ok) (runText x (sectionsOf x) store store) (refusedText 9)

@@ -1,4 +1,4 @@
--- "Program `onepass` (stores of 64, m 8)": the run starts from what the call create gives.
+-- Proved examples, the program onepass: the run starts from what the call create gives.
 use mathlib.Core.Path.{_≡_}
 use lib.ListN.{length}
 use Rattle.state.specs.declared.State.{State}

@@ -11,7 +11,7 @@ use Rattle.answers.specs.Answers.{Said, done, none, byte, frame, refused, part}
 abbrev pub digit : ℕ → ℕ
 digit n = 48 + n % 10
 
--- a number below 1,000 "in decimal"
+-- a number below 1,000 in decimal
 unfoldable pub decimal : ℕ → List ℕ
 decimal n =
     cond (ltb n 10) (digit n ∷ [])
@@ -33,11 +33,11 @@ refusedWord = 114 ∷ 101 ∷ 102 ∷ 117 ∷ 115 ∷ 101 ∷ 100 ∷ 32 ∷ []
 abbrev pub lineWord : List ℕ
 lineWord = 108 ∷ 105 ∷ 110 ∷ 101 ∷ 32 ∷ []
 
--- "A refused frame prints `refused` and its number"
+-- the program, frames: the line of a refusal
 unfoldable pub refusedText : ℕ → List ℕ
 refusedText n = refusedWord ++ (decimal n ++ newline)
 
--- a frame is "written control,data"
+-- Frames, first: the line of a frame, its control and its data with a comma between
 unfoldable pub frameText : ℕ → ℕ → List ℕ
 frameText c d = decimal c ++ ((44 ∷ []) ++ (decimal d ++ newline))
 
@@ -50,18 +50,18 @@ answerText none = []
 answerText (byte b) = []
 answerText (part xs) = []
 
--- "line bytes follow their count in decimal, each after a space"
+-- the program, last: line bytes, each after a space
 unfoldable pub bytesText : List ℕ → List ℕ
 bytesText [] = []
 bytesText (b ∷ bs) = ((32 ∷ []) ++ decimal b) ++ bytesText bs
 
 -- a list with the text written over it from a place on
-abbrev pub over : ℕ → List ℕ → List ℕ → List ℕ
-over at text out = take at out ++ (text ++ drop (at + length text) out)
+abbrev pub overwritten : ℕ → List ℕ → List ℕ → List ℕ
+overwritten at text out = take at out ++ (text ++ drop (at + length text) out)
 
 -- the text is written from `at` on, and nothing else: out before, out′ after, r the place behind it
 pub record Wrote (out : List ℕ) (at : ℕ) (text : List ℕ) (out′ : List ℕ) (r : ℕ) : Type 0 where
-  pub bytes : out′ ≡ over at text out
+  pub bytes : out′ ≡ overwritten at text out
   pub next : r ≡ at + length text
   pub size : length out′ ≡ length out
 

@@ -1,4 +1,4 @@
--- "and asks for line bytes until none": behind the line bytes that are printed there is none to give.
+-- Proved examples, the program onepass: behind the line bytes that are printed there is none to give.
 use Prim.Native.Nat.{ℕ, zero, suc, _≤_}
 use mathlib.Core.Path.{_≡_}
 use mathlib.Core.Bool.{cond}
