@@ -5,7 +5,7 @@ use Rattle.state.proofs.requests.status_back.Tie as tie
 
 returns : tie.Need-returns
 returns c =
-    back-met _ _ _ _ (c .before .told .ensures) (c .with-notes .ensures)
+    back-met _ _ _ _ (c .before .acknowledged .ensures) (c .with-notes .ensures)
 
 pub status-back-spec : {M : Type 1} → statement M
 status-back-spec =
