@@ -30,9 +30,9 @@ pub record Obeyed (m rx tx : ℕ) : Type 0 where
   pub txLeast : 3 ≤ tx
   pub txMost : tx ≤ 32768
 
-pub obeyed : (m rx tx : ℕ) → sizesObeyed m rx tx ≡ true → Obeyed m rx tx
+pub sizes-hold : (m rx tx : ℕ) → sizesObeyed m rx tx ≡ true → Obeyed m rx tx
 unfolding sizesObeyed
-obeyed m rx tx e =
+sizes-hold m rx tx e =
     let ts : List Bool = marginObeyed m ∷ receiveObeyed m rx ∷ transmitObeyed tx ∷ [] in
     record {
       some = leb-true 1 m (and-left (leb 1 m) (leb m 1024) (hold-at ts 0 e));
@@ -69,7 +69,7 @@ module _ (s : State) (rx tx : List ℕ) (e : fits s (length rx) (length tx) ≡ 
   pub rx-fits : RxFits s rx
   rx-fits =
       let t : Tests s (length rx) (length tx) = tests s (length rx) (length tx) e in
-      record { ring = fit-true rx (s .rx) (t .rxRing); margin = obeyed (s .margin) (length rx) (length tx) (t .sizes) .most }
+      record { ring = fit-true rx (s .rx) (t .rxRing); margin = sizes-hold (s .margin) (length rx) (length tx) (t .sizes) .most }
 
   pub tx-fits : TxFits s tx
   tx-fits =
