@@ -134,7 +134,7 @@ refusedWith s n = record { state = s; answer = answer.Refused n }
 
 -- the state, before requests are settled, and the answer
 unfoldable pub outcome : OnState → World → Outcome
-outcome reset w = doneWith (startState (w .state .sizes .margin) (length (w .rx)) (length (w .tx)))
+outcome reset w = doneWith (startState (w .state .margin) (length (w .rx)) (length (w .tx)))
 outcome (write n v) w = doneWith (afterWrite (w .state) n (written (w .state .regs) n v))
 outcome (lineByte b) w = doneWith (lineState (w .state) b)
 outcome lineBreak w = doneWith (breakState (w .state))

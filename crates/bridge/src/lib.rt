@@ -44,7 +44,7 @@ pub fn reset(s: State, rx: &[u8], tx: &[u8]) -> Outcome
     if !state::fitting::state_fits(s, rx.len(), tx.len()) {
         return refused(s, 2);
     }
-    let t = state::fitting::start(s.sizes.margin, rx.len(), tx.len());
+    let t = state::fitting::start(s.margin, rx.len(), tx.len());
     done(state::requests::settled(s, t))
 }
 

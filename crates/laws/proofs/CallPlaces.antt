@@ -51,27 +51,27 @@ module _ (w : World) (e : Fits w) where
   g = tx-fits (w .state) (w .rx) (w .tx) e
 
   line-rx : (b : ℕ) →
-      Placed false (cond (full (w .state .sizes .rx) (w .state .rx)) [] (cond (not (isGoOrStop (w .state .regs) b)) (b ∷ []) []))
+      Placed false (cond (full (w .state .rx)) [] (cond (not (isGoOrStop (w .state .regs) b)) (b ∷ []) []))
       (w .rx) (w .state .rx) (lineBytes (w .state) (w .rx) b) (lineState (w .state) b .rx)
   unfolding lineBytes lineState flowed lostState storedWith putsBytes putsRing
-  line-rx b = go (isGoOrStop (w .state .regs) b) (full (w .state .sizes .rx) (w .state .rx)) refl
+  line-rx b = go (isGoOrStop (w .state .regs) b) (full (w .state .rx)) refl
     where
       r : Ring
       r = w .state .rx
 
-      go : (i u : Bool) → full (w .state .sizes .rx) r ≡ u →
+      go : (i u : Bool) → full r ≡ u →
           Placed false (cond u [] (cond (not i) (b ∷ []) [])) (w .rx) r (cond i (w .rx) (putBytes (w .rx) r b))
           (cond i (flowed (w .state) b) (cond u (lostState (w .state)) (storedState (w .state))) .rx)
       go true true h = stays-same (w .rx) r r refl
       go true false h = stays-same (w .rx) r r refl
-      go false true h = rw (put-full (w .rx) r b (omega (arith, f .size, leb-true (w .state .sizes .rx) (r .len) h))) (stays-same (w .rx) r r refl)
+      go false true h = rw (put-full (w .rx) r b (leb-true (r .cap) (r .len) h)) (stays-same (w .rx) r r refl)
       go false false h =
-          one-store.added (w .rx) r (b ∷ []) (w .state .sizes .rx) (f .ring) (f .size) (omega (arith, f .size, leb-false (w .state .sizes .rx) (r .len) h))
+          one-store.added (w .rx) r (b ∷ []) (f .ring) (omega (arith, f .ring .cap, leb-false (r .cap) (r .len) h))
 
   line-tx : (b : ℕ) → lineState (w .state) b .tx ≡ w .state .tx
   unfolding lineState flowed lostState storedWith
   line-tx b = by-cond T (isGoOrStop (w .state .regs) b) _ _ (λ _. refl)
-      (λ _. by-cond T (full (w .state .sizes .rx) (w .state .rx)) _ _ (λ _. refl) (λ _. refl))
+      (λ _. by-cond T (full (w .state .rx)) _ _ (λ _. refl) (λ _. refl))
     where
       T : State → Type 0
       T t = t .tx ≡ w .state .tx
@@ -87,7 +87,7 @@ module _ (w : World) (e : Fits w) where
   gone-tx : (o : Out) → o ≡ nextOut (w .state) (w .tx) → nextPlace (length (w .tx)) (goneState (w .state) o .tx) ≡ nextPlace (length (w .tx)) (w .state .tx)
   unfolding goneState
   gone-tx (out.Own b) h = refl
-  gone-tx (out.Held b) h = left (w .tx) (w .state .tx) 1 (w .state .sizes .tx) (g .ring) (g .size) (gone-some (w .state) (w .tx) b h)
+  gone-tx (out.Held b) h = left (w .tx) (w .state .tx) 1 (g .ring) (gone-some (w .state) (w .tx) b h)
   gone-tx out.Nothing h = refl
 
   -- ---- a frame
@@ -96,9 +96,9 @@ module _ (w : World) (e : Fits w) where
       w .state .tx .len + length (adds (w .state .regs) n) ≤ length (w .tx)
   unfolding busy
   room n d l b =
-      let r : ltb (w .state .sizes .tx - w .state .tx .len) (length (adds (w .state .regs) n)) ≡ false =
-      (λ i. (sym l i && sym d i) && ltb (w .state .sizes .tx - w .state .tx .len) (length (adds (w .state .regs) n))) ∙ b in
-      omega (arith, ltb-false (w .state .sizes .tx - w .state .tx .len) (length (adds (w .state .regs) n)) r, g .size, g .ring .len)
+      let r : ltb (w .state .tx .cap - w .state .tx .len) (length (adds (w .state .regs) n)) ≡ false =
+      (λ i. (sym l i && sym d i) && ltb (w .state .tx .cap - w .state .tx .len) (length (adds (w .state .regs) n))) ∙ b in
+      omega (arith, ltb-false (w .state .tx .cap - w .state .tx .len) (length (adds (w .state .regs) n)) r, g .ring .cap, g .ring .within .len)
 
   -- by whether the frame is a device clear, and whether it leaves bytes
   abbrev Framed : ℕ → State → Bool → Bool → Type 0
@@ -114,7 +114,7 @@ module _ (w : World) (e : Fits w) where
       rw (c, l)
       (record {
         rx = stays-same (w .rx) (w .state .rx) (t .rx) x;
-        tx = rw y (one-store.added (w .tx) (w .state .tx) (adds (w .state .regs) n) (w .state .sizes .tx) (g .ring) (g .size) (room n d h b));
+        tx = rw y (one-store.added (w .tx) (w .state .tx) (adds (w .state .regs) n) (g .ring) (room n d h b));
       })
   by-kind n t b (other c l s) =
       rw (c, l) (record { rx = stays (w .rx) (w .state .rx) (t .rx) (s .place); tx = stays-same (w .tx) (w .state .tx) (t .tx) (s .ring) })
@@ -125,17 +125,17 @@ module _ (w : World) (e : Fits w) where
 quiet : (w : World) (t : State) → t .rx ≡ w .state .rx → t .tx ≡ w .state .tx → BothPlaced false [] [] w (world t (w .rx) (w .tx))
 quiet w t a b = record { rx = stays-same (w .rx) (w .state .rx) (t .rx) a; tx = stays-same (w .tx) (w .state .tx) (t .tx) b }
 
-empty : (w : World) (t : State) → t .rx ≡ emptyRing → t .tx ≡ emptyRing → BothPlaced true [] [] w (world t (w .rx) (w .tx))
-empty w t a b = record { rx = emptied (w .rx) (w .state .rx) (t .rx) a; tx = emptied (w .tx) (w .state .tx) (t .tx) b }
+empty : (w : World) (t : State) {a b : ℕ} → t .rx ≡ emptyRing a → t .tx ≡ emptyRing b → BothPlaced true [] [] w (world t (w .rx) (w .tx))
+empty w t x y = record { rx = emptied (w .rx) (w .state .rx) (t .rx) x; tx = emptied (w .tx) (w .state .tx) (t .tx) y }
 
 abbrev PlacesOf : Call → World → Did → Type 0
 PlacesOf c w d = BothPlaced (empties c w (d .said)) (accepted c w (d .said)) (added c w (d .said)) w (d .world)
 
 -- where nothing arrives, nothing is accepted
-none : (w : World) {c : Bool} {l : List ℕ} {v : World} → BothPlaced c [] l w v → BothPlaced c (cond (full (w .state .sizes .rx) (w .state .rx)) [] []) l w v
-none w {c} {l} {v} p = by-cond (λ (x : List ℕ). BothPlaced c x l w v) (full (w .state .sizes .rx) (w .state .rx)) [] [] (λ _. p) (λ _. p)
+none : (w : World) {c : Bool} {l : List ℕ} {v : World} → BothPlaced c [] l w v → BothPlaced c (cond (full (w .state .rx)) [] []) l w v
+none w {c} {l} {v} p = by-cond (λ (x : List ℕ). BothPlaced c x l w v) (full (w .state .rx)) [] [] (λ _. p) (λ _. p)
 
-same : (w : World) → BothPlaced false (cond (full (w .state .sizes .rx) (w .state .rx)) [] []) [] w w
+same : (w : World) → BothPlaced false (cond (full (w .state .rx)) [] []) [] w w
 same w = none w (quiet w (w .state) refl refl)
 
 refused-places : (c : Call) (w : World) (n : ℕ) → PlacesOf c w (record { said = refused n; world = w })

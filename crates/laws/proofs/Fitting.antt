@@ -1,7 +1,7 @@
 -- Every call keeps a state that fits, and the lengths of both stores. Assumes nothing.
 use Prim.Native.Nat.{ℕ, _≤_, _<_}
 use native.Mathlib.Omega.{arith}
-use mathlib.Core.Path.{_≡_, refl, sym, subst}
+use mathlib.Core.Path.{_≡_, refl, sym, subst, _∙_}
 use mathlib.Core.Bool.{Bool, true, false, cond, _&&_, not}
 use mathlib.Core.List.{List}
 use lib.Dec.{eqb}
@@ -16,7 +16,7 @@ use Rattle.registers.proofs.Fits.{fit-written}
 use Rattle.store.specs.declared.Ring.{Ring}
 use Rattle.store.specs.Ring as store-ring
 use Rattle.store.proofs.Laws as store-laws
-use Rattle.store.proofs.Several.{puts-fit, puts-size}
+use Rattle.store.proofs.Several.{puts-cap, puts-fit, puts-size}
 use Rattle.sending.specs.declared.Given.{Given}
 use Rattle.sending.specs.declared.Given.the-variants.{Nothing, One}
 use Rattle.sending.specs.Sending.{givenOf, sendHeld, sentRing}
@@ -44,6 +44,7 @@ use Rattle.store.specs.Bytes.{Bytes}
 use Rattle.laws.proofs.Ways.{Returning, Way, way}
 use Rattle.laws.proofs.Ways.{isNext, isBack, isLast, isDamaged, isStored, isPassed, isCleared}
 use Rattle.laws.proofs.Ways.{isObeyed, isAssigned, isSendAsked, isTold, isFinishing, isReady, isIdentified}
+use Rattle.laws.proofs.OneStore.{more-fits}
 use Rattle.laws.proofs.Small.{put-bytes, given-small, status-small}
 use Rattle.laws.proofs.States.{tested, start-fits, with-registers, with-rx, with-tx, talking-tests, obeyed-tests, cleared-tests, assigned-tests}
 
@@ -124,21 +125,13 @@ module _ (rx tx : List ℕ) where
     stored-good : G (storedState s)
     unfolding fits storedWith
     stored-good =
-        fits-with-rx (store-ring.putRing (s .sizes .rx) (s .rx))
-        (subst (λ (n : ℕ). store-ring.Fit rx (store-ring.putRing n (s .rx))) (sym (t .rxSize)) put-ring)
-      where
-        put-ring : store-ring.Fit rx (store-ring.putRing (length rx) (s .rx))
-        put-ring =
-            let h : store-ring.Fit (store-ring.putBytes rx (s .rx) 0) (store-ring.putRing (length rx) (s .rx)) =
-            store-laws.put-fit rx (s .rx) 0 (rx-fits s rx tx e .ring) in
-            let n : length (store-ring.putBytes rx (s .rx) 0) ≡ length rx = store-laws.put-size rx (s .rx) 0 in
-            record { oldest = omega (arith, n, h .oldest); len = omega (arith, n, h .len); small = omega (arith, n, h .small) }
+        fits-with-rx (store-ring.putRing (s .rx)) (more-fits rx (s .rx) (rx-fits s rx tx e .ring))
 
     line-good : (x : ℕ) → G (lineState s x)
     unfolding lineState
     line-good x =
         by-cond G (isGoOrStop (s .regs) x) _ _ (λ _. unfold fits flowed in e)
-        (λ _. by-cond G (store-ring.full (s .sizes .rx) (s .rx)) _ _ (λ _. unfold fits lostState in e) (λ _. stored-good))
+        (λ _. by-cond G (store-ring.full (s .rx)) _ _ (λ _. unfold fits lostState in e) (λ _. stored-good))
 
     write-good : (n v : ℕ) → firstRefusal (writeChecks (s .regs) n v) ≡ 0 → G (afterWrite s n (written (s .regs) n v))
     unfolding afterWrite
@@ -151,24 +144,16 @@ module _ (rx tx : List ℕ) where
     unfolding goneState
     gone-good (out.Own x) h = unfold fits in e
     gone-good (out.Held x) h =
-        fits-with-tx (store-ring.dropRing (s .sizes .tx) (s .tx) 1)
-        (subst (λ (n : ℕ). store-ring.Fit tx (store-ring.dropRing n (s .tx) 1)) (sym (t .txSize))
-        (store-laws.drop-fit tx (s .tx) 1 (tx-fits s rx tx e .ring) (gone-some s tx x h)))
+        fits-with-tx (store-ring.dropRing (s .tx) 1)
+        (store-laws.drop-fit tx (s .tx) 1 (tx-fits s rx tx e .ring) (gone-some s tx x h))
     gone-good out.Nothing h = e
 
     left-good : (f : ℕ) → G (addedState s f)
     unfolding addedState
     left-good f =
-        fits-with-tx (store-ring.putsRing (s .sizes .tx) (s .tx) (adds (s .regs) f))
-        (subst (λ (n : ℕ). store-ring.Fit tx (store-ring.putsRing n (s .tx) (adds (s .regs) f))) (sym (t .txSize)) puts-ring)
-      where
-        puts-ring : store-ring.Fit tx (store-ring.putsRing (length tx) (s .tx) (adds (s .regs) f))
-        puts-ring =
-            let l : List ℕ = adds (s .regs) f in
-            let h : store-ring.Fit (store-ring.putsBytes tx (s .tx) l) (store-ring.putsRing (length tx) (s .tx) l) =
-            puts-fit tx (s .tx) l (tx-fits s rx tx e .ring) in
-            let n : length (store-ring.putsBytes tx (s .tx) l) ≡ length tx = puts-size tx (s .tx) l in
-            record { oldest = omega (arith, n, h .oldest); len = omega (arith, n, h .len); small = omega (arith, n, h .small) }
+        let l : List ℕ = adds (s .regs) f in
+        let fit : store-ring.Fit tx (s .tx) = tx-fits s rx tx e .ring in
+        fits-with-tx (store-ring.putsRing (s .tx) l) (record { cap = puts-cap (s .tx) l ∙ fit .cap; within = puts-fit tx (s .tx) l fit .within })
 
     removed-good : G (removedState s rx)
     unfolding removedState sentRing
@@ -226,7 +211,7 @@ create-good m w h = start-fits m (length (w .rx)) (length (w .tx)) (go (sizesObe
 module _ (w : World) (b : Bytes (w .rx)) (e : Fits w) where
   outcome-good : (c : OnState) → firstRefusal (checks (on c) w) ≡ 0 → Good (w .rx) (w .tx) (outcome c w .state)
   unfolding outcome
-  outcome-good reset h = start-fits (w .state .sizes .margin) (length (w .rx)) (length (w .tx)) (tests (w .state) (length (w .rx)) (length (w .tx)) e .sizes)
+  outcome-good reset h = start-fits (w .state .margin) (length (w .rx)) (length (w .tx)) (tests (w .state) (length (w .rx)) (length (w .tx)) e .sizes)
   outcome-good (write n v) h = write-good (w .rx) (w .tx) (w .state) e n v (write-fitting n v w h .1)
   outcome-good (lineByte x) h = line-good (w .rx) (w .tx) (w .state) e x
   outcome-good lineBreak h = unfold fits breakState in e

@@ -33,9 +33,9 @@ pub record Still (n : ℕ) (s t : State) : Type 0 where
 
 -- the three kinds of a frame f in the state s, with the state after it; n is the length of the receive store
 pub data Kind (n : ℕ) (s : State) (f : ℕ) (t : State) : Type 0 where
-  clears : deviceClear s f ≡ true → addsBytes s f ≡ false → t .rx ≡ emptyRing → t .tx ≡ emptyRing → Kind n s f t
+  clears : deviceClear s f ≡ true → addsBytes s f ≡ false → t .rx ≡ emptyRing (s .rx .cap) → t .tx ≡ emptyRing (s .tx .cap) → Kind n s f t
   stores : deviceClear s f ≡ false → addsBytes s f ≡ true → isData f ≡ true → s .role .listener ≡ true →
-      t .rx ≡ s .rx → t .tx ≡ putsRing (s .sizes .tx) (s .tx) (adds (s .regs) f) → Kind n s f t
+      t .rx ≡ s .rx → t .tx ≡ putsRing (s .tx) (adds (s .regs) f) → Kind n s f t
   other : deviceClear s f ≡ false → addsBytes s f ≡ false → Still n s t → Kind n s f t
 
 module _ (rx : List ℕ) (s : State) (fit : Fit rx (s .rx)) where
@@ -47,7 +47,7 @@ module _ (rx : List ℕ) (s : State) (fit : Fit rx (s .rx)) where
   send-still = go (givenOf (sendHeld (ruleOf (s .regs)) rx (s .rx)))
     where
       removed : nextPlace (length rx) (removedState s rx .rx) ≡ nextPlace (length rx) (s .rx)
-      removed = left rx (s .rx) _ (length rx) fit refl (omega arith)
+      removed = left rx (s .rx) _ fit (omega arith)
 
       go : (g : Given) → S (sendState s (removedState s rx) g .state)
       go Nothing = unfold sendState ended talking in record { place = removed; ring = refl }

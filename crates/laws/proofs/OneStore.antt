@@ -9,7 +9,7 @@ use lib.ListN.{length}
 use Rattle.cases.proofs.Cases.{split}
 use Rattle.store.specs.declared.Ring.{Ring}
 use Rattle.store.specs.Ring.{Fit, wrap, emptyRing, putRing, putBytes, putsRing, putsBytes, dropRing}
-use Rattle.store.proofs.Laws.{wrap-low, wrap-high, put-room, put-size, put-fit, ring-len}
+use Rattle.store.proofs.Laws.{wrap-low, wrap-high, put-size, put-cap, put-fit, ring-len}
 use Rattle.laws.specs.Places.{nextPlace}
 use Rattle.laws.specs.CallPlaces.{writtenFrom, placeAfter, Placed}
 use Rattle.laws.proofs.Places.{places-go-on}
@@ -22,7 +22,7 @@ stays s r r′ e = record { bytes = refl; next = e; none = λ h. absurd (false�
 pub stays-same : (s : List ℕ) (r r′ : Ring) → r′ ≡ r → Placed false [] s r s r′
 stays-same s r r′ e = stays s r r′ (ap (nextPlace (length s)) e)
 
-pub emptied : (s : List ℕ) (r r′ : Ring) → r′ ≡ emptyRing → Placed true [] s r s r′
+pub emptied : (s : List ℕ) (r r′ : Ring) {cap : ℕ} → r′ ≡ emptyRing cap → Placed true [] s r s r′
 unfolding writtenFrom placeAfter
 emptied s r r′ e =
     record {
@@ -34,11 +34,8 @@ emptied s r r′ e =
     }
 
 -- the ring after a byte fits the same list
-more-fits : (s : List ℕ) (r : Ring) → Fit s r → Fit s (putRing (length s) r)
-more-fits s r f =
-    let h : Fit (putBytes s r 0) (putRing (length s) r) = put-fit s r 0 f in
-    let n : length (putBytes s r 0) ≡ length s = put-size s r 0 in
-    record { oldest = omega (arith, n, h .oldest); len = omega (arith, n, h .len); small = f .small }
+pub more-fits : (s : List ℕ) (r : Ring) → Fit s r → Fit s (putRing r)
+more-fits s r f = record { cap = put-cap r ∙ f .cap; within = put-fit s r 0 f .within }
 
 bytes-go : (s : List ℕ) (r : Ring) (l : List ℕ) → Fit s r → r .len + length l ≤ length s → putsBytes s r l ≡ writtenFrom (nextPlace (length s) r) l s
 unfolding putsBytes writtenFrom
@@ -46,27 +43,27 @@ bytes-go s r [] f h = refl
 bytes-go s r (b ∷ l) f h =
     let room : r .len < length s = omega arith in
     let n : length (putBytes s r b) ≡ length s = put-size s r b in
-    let more : putRing (length s) r .len ≡ r .len + 1 = ring-len (length s) r room in
-    let at : nextPlace (length (putBytes s r b)) (putRing (length s) r) ≡ wrap (length s) (nextPlace (length s) r + 1) =
-    ap (λ (k : ℕ). nextPlace k (putRing (length s) r)) n ∙ places-go-on .later s r f room in
-    bytes-go (putBytes s r b) (putRing (length s) r) l (put-fit s r b f) (omega (arith, n, more))
-    ∙ (λ i. writtenFrom (at i) l (put-room s r b room i))
+    let more : putRing r .len ≡ r .len + 1 = ring-len r (omega arith) in
+    let at : nextPlace (length (putBytes s r b)) (putRing r) ≡ wrap (length s) (nextPlace (length s) r + 1) =
+    ap (λ (k : ℕ). nextPlace k (putRing r)) n ∙ places-go-on .later s r f room in
+    bytes-go (putBytes s r b) (putRing r) l (put-fit s r b f) (omega (arith, n, more))
+    ∙ (λ i. writtenFrom (at i) l (places-go-on .written s r b f room i))
 
 next-goes : (s : List ℕ) (r : Ring) (l : List ℕ) → Fit s r → r .len + length l ≤ length s →
-    nextPlace (length s) (putsRing (length s) r l) ≡ placeAfter (length s) (nextPlace (length s) r) l
+    nextPlace (length s) (putsRing r l) ≡ placeAfter (length s) (nextPlace (length s) r) l
 unfolding putsRing placeAfter
 next-goes s r [] f h = refl
 next-goes s r (b ∷ l) f h =
     let room : r .len < length s = omega arith in
-    let more : putRing (length s) r .len ≡ r .len + 1 = ring-len (length s) r room in
-    next-goes s (putRing (length s) r) l (more-fits s r f) (omega (arith, more))
+    let more : putRing r .len ≡ r .len + 1 = ring-len r (omega arith) in
+    next-goes s (putRing r) l (more-fits s r f) (omega (arith, more))
     ∙ ap (λ (p : ℕ). placeAfter (length s) p l) (places-go-on .later s r f room)
 
 -- bytes are added, where there is room for all of them
-pub added : (s : List ℕ) (r : Ring) (l : List ℕ) (cap : ℕ) → Fit s r → cap ≡ length s → r .len + length l ≤ length s →
-    Placed false l s r (putsBytes s r l) (putsRing cap r l)
-added s r l cap f e h = rw e (record { bytes = bytes-go s r l f h; next = next-goes s r l f h; none = λ h. absurd (false≢true h) })
+pub added : (s : List ℕ) (r : Ring) (l : List ℕ) → Fit s r → r .len + length l ≤ length s →
+    Placed false l s r (putsBytes s r l) (putsRing r l)
+added s r l f h = record { bytes = bytes-go s r l f h; next = next-goes s r l f h; none = λ h. absurd (false≢true h) }
 
 -- the n oldest bytes leave
-pub left : (s : List ℕ) (r : Ring) (n cap : ℕ) → Fit s r → cap ≡ length s → n ≤ r .len → nextPlace (length s) (dropRing cap r n) ≡ nextPlace (length s) r
-left s r n cap f e h = rw e (places-go-on .removed s r n f h)
+pub left : (s : List ℕ) (r : Ring) (n : ℕ) → Fit s r → n ≤ r .len → nextPlace (length s) (dropRing r n) ≡ nextPlace (length s) r
+left s r n f h = places-go-on .removed s r n f h

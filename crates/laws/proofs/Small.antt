@@ -29,14 +29,14 @@ use Rattle.store.specs.Bytes.{Bytes}
 pub held-bytes : (s : List ℕ) (r : Ring) → Fit s r → Bytes s → Bytes (held s r)
 held-bytes s r f b k =
     ⊎-elim
-    (λ l. subst (λ (n : ℕ). n < 256) (sym (held-at s r k f l)) (b (wrap (length s) (r .oldest + k))))
+    (λ l. subst (λ (n : ℕ). n < 256) (sym (held-at s r k f l)) (b (wrap (r .cap) (r .oldest + k))))
     (λ g. subst (λ (n : ℕ). n < 256) (sym (List·getD-eq-default (held s r) 0 {n = k} (omega (arith, held-length s r f)))) (omega arith))
     (split k (r .len))
 
 -- a byte stored among bytes
 pub put-bytes : (s : List ℕ) (r : Ring) (b : ℕ) → b < 256 → Bytes s → Bytes (putBytes s r b)
 unfolding putBytes
-put-bytes s r b h k = by-cond Bytes (full (length s) r) _ _ (λ _. k) (λ _ j. set-bytes s (wrap (length s) (r .oldest + r .len)) j k)
+put-bytes s r b h k = by-cond Bytes (full r) _ _ (λ _. k) (λ _ j. set-bytes s (wrap (r .cap) (r .oldest + r .len)) j k)
   where
     set-bytes : (xs : List ℕ) (at j : ℕ) → Bytes xs → getD (set xs at b) j 0 < 256
     set-bytes [] at j k = omega arith

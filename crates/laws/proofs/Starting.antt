@@ -6,6 +6,7 @@ use mathlib.Core.List.{List, [], _∷_, cons≢nil}
 use lib.ListN.{length}
 use Rattle.machine.specs.Machine.{Obeys, course, finally}
 use Rattle.registers.specs.Table as registers-table
+use Rattle.store.proofs.Laws.{fit-cap}
 use Rattle.state.specs.declared.State.{State}
 use Rattle.answers.specs.Answers.{said, refused}
 use Rattle.state.specs.Sizes.{sizesObeyed, startState, fits}
@@ -31,7 +32,7 @@ begun : (c : Call) (w : World) → restarts c (notRefused c w .said) ≡ true �
 unfolding notRefused outcome settledBy rxAfter txAfter restarts said
 begun (create m) w e = refl
 begun (show side) w e = absurd (false≢true e)
-begun (on reset) w e = λ i. world (started (w .state) (w .state .sizes .margin) (length (w .rx)) (length (w .tx)) i) (w .rx) (w .tx)
+begun (on reset) w e = λ i. world (started (w .state) (w .state .margin) (length (w .rx)) (length (w .tx)) i) (w .rx) (w .tx)
 begun (on (write n v)) w e = absurd (false≢true e)
 begun (on (lineByte b)) w e = absurd (false≢true e)
 begun (on lineBreak) w e = absurd (false≢true e)
@@ -60,32 +61,32 @@ starts-so c w _ e = subst Started (sym (restarted c w e)) start-right
         record { rx = refl; tx = refl; registers = refl; role = refl; held = refl; line = refl; seen = refl; request = refl; counts = refl }
 
 pub margin-recorded : Obeys (bridge step) MarginRecorded
-margin-recorded c w _ e = ap (λ (v : World). v .state .sizes .margin) (restarted c w e) ∙ (unfold startState in refl)
+margin-recorded c w _ e = ap (λ (v : World). v .state .margin) (restarted c w e) ∙ (unfold startState in refl)
 
 -- a create right after a reset
 create-again : (w : World) → taken (step (on reset) w .said) ≡ true →
-    (m : ℕ) → m ≡ step (on reset) w .world .state .sizes .margin → taken (step (create m) (step (on reset) w .world) .said) ≡ true →
+    (m : ℕ) → m ≡ step (on reset) w .world .state .margin → taken (step (create m) (step (on reset) w .world) .said) ≡ true →
     step (create m) (step (on reset) w .world) .world .state ≡ step (on reset) w .world .state
 create-again w t m q h =
     ap (λ (v : World). v .state) (restarted (create m) (step (on reset) w .world) (unfold restarts in h))
     ∙ ap (λ (k : ℕ). startState k (length (step (on reset) w .world .rx)) (length (step (on reset) w .world .tx))) q
-    ∙ subst (λ (v : World). startState (v .state .sizes .margin) (length (v .rx)) (length (v .tx)) ≡ v .state)
+    ∙ subst (λ (v : World). startState (v .state .margin) (length (v .rx)) (length (v .tx)) ≡ v .state)
     (sym (restarted (on reset) w (unfold restarts in t))) (unfold startState in refl)
 
 pub reset-gives-start : Obeys (bridge step) ResetGivesStart
 unfolding course finally
 reset-gives-start c cs d w _ _ _ = go cs
   where
-    again : (c : Call) → c ≡ on reset → taken (step c w .said) ≡ true → (m : ℕ) → m ≡ step c w .world .state .sizes .margin →
+    again : (c : Call) → c ≡ on reset → taken (step c w .said) ≡ true → (m : ℕ) → m ≡ step c w .world .state .margin →
         taken (step (create m) (step c w .world) .said) ≡ true → step (create m) (step c w .world) .world .state ≡ step c w .world .state
     again c q =
         subst
-        (λ (x : Call). taken (step x w .said) ≡ true → (m : ℕ) → m ≡ step x w .world .state .sizes .margin →
+        (λ (x : Call). taken (step x w .said) ≡ true → (m : ℕ) → m ≡ step x w .world .state .margin →
         taken (step (create m) (step x w .world) .said) ≡ true → step (create m) (step x w .world) .world .state ≡ step x w .world .state)
         (sym q) (create-again w)
 
     go : (cs : List Call) → c ≡ on reset → taken (step c w .said) ≡ true → course (bridge step) cs (step c w .world) ≡ [] →
-        d ≡ create (step c w .world .state .sizes .margin) → taken (step d (finally (bridge step) cs (step c w .world)) .said) ≡ true →
+        d ≡ create (step c w .world .state .margin) → taken (step d (finally (bridge step) cs (step c w .world)) .said) ≡ true →
         step d (finally (bridge step) cs (step c w .world)) .world .state ≡ step c w .world .state
     go [] q t e p h =
         subst (λ (x : Call). taken (step x (step c w .world) .said) ≡ true → step x (step c w .world) .world .state ≡ step c w .world .state) (sym p)
@@ -100,4 +101,4 @@ refused-create-fits-nothing m a b e x y = go (fits (startState m a b) x y) refl
     go true h = absurd (false≢true (sym e ∙ obeyed))
       where
         obeyed : sizesObeyed m a b ≡ true
-        obeyed = unfold startState in let t = tests (startState m a b) x y h in (λ i. sizesObeyed m (t .rxSize i) (t .txSize i)) ∙ t .sizes
+        obeyed = unfold startState in let t = tests (startState m a b) x y h in (λ i. sizesObeyed m (fit-cap x _ (t .rxRing) i) (fit-cap y _ (t .txRing) i)) ∙ t .sizes

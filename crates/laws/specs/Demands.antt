@@ -59,5 +59,5 @@ OverrunStays = Stays overrun
 abbrev pub NoneLost : Law
 NoneLost =
     ofRuns
-    (λ w ss. Without changes ss → protocol w ≡ true → holdsOff w ≡ false → w .state .sizes .margin < room w →
-    AtMost (w .state .sizes .margin) (spells 0 w ss) → all lost ss ≡ [])
+    (λ w ss. Without changes ss → protocol w ≡ true → holdsOff w ≡ false → w .state .margin < room w →
+    AtMost (w .state .margin) (spells 0 w ss) → all lost ss ≡ [])

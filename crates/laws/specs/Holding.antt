@@ -24,11 +24,11 @@ unfoldable pub holdingAfter : Call → World → Said → World → Bool
 holdingAfter c w a v =
     cond (empties c w a) false
     -- Holding the line off: it begins, with R11 bit 3 on, when a stored byte leaves m free or fewer
-    (cond (any (accepted c w a)) (holdsOff w || (protocol w && leb (room v) (w .state .sizes .margin)))
+    (cond (any (accepted c w a)) (holdsOff w || (protocol w && leb (room v) (w .state .margin)))
     -- it ends when a send leaves 2m free or more
-    (cond (sends c w a) (holdsOff w && not (leb (2 * w .state .sizes .margin) (room v)))
+    (cond (sends c w a) (holdsOff w && not (leb (2 * w .state .margin) (room v)))
     -- writing R11 sets it afresh
-    (cond (writesR11 c a) (protocol v && leb (room w) (w .state .sizes .margin))
+    (cond (writesR11 c a) (protocol v && leb (room w) (w .state .margin))
     (holdsOff w))))
 
 -- of every call, in every world

@@ -102,10 +102,10 @@ arrived c w a = onLineByte (λ b. cond (taken a && not (isFlow w b)) (b ∷ []) 
 
 -- Holding the line off, any other byte: stored, or lost exactly when the receive store is full
 unfoldable pub accepted : Call → World → Said → List ℕ
-accepted c w a = cond (full (w .state .sizes .rx) (w .state .rx)) [] (arrived c w a)
+accepted c w a = cond (full (w .state .rx)) [] (arrived c w a)
 
 unfoldable pub lost : Call → World → Said → List ℕ
-lost c w a = cond (full (w .state .sizes .rx) (w .state .rx)) (arrived c w a) []
+lost c w a = cond (full (w .state .rx)) (arrived c w a) []
 
 -- ---- frames out
 

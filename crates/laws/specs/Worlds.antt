@@ -27,7 +27,7 @@ reading w = frames (cut (ruleIn w))
 
 -- how many bytes of the receive store are free
 abbrev pub room : World → ℕ
-room w = w .state .sizes .rx - w .state .rx .len
+room w = w .state .rx .cap - w .state .rx .len
 
 -- Holding the line off: R11 bit 3
 abbrev pub protocol : World → Bool

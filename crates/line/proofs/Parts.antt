@@ -1,5 +1,5 @@
 -- Line bytes in and out, and register writes. Assumes nothing.
-use Prim.Native.Nat.{ℕ, _≤_, _<_, _-_}
+use Prim.Native.Nat.{ℕ, _*_, _≤_, _<_}
 use native.Mathlib.Omega.{arith}
 use mathlib.Core.Path.{_≡_, refl, sym, ap, _∙_}
 use mathlib.Core.List.{List}
@@ -11,7 +11,7 @@ use Rattle.registers.specs.declared.Registers.{Registers}
 use Rattle.registers.specs.Meanings.{protocolOn, go, stop}
 use Rattle.store.specs.declared.Ring.{Ring}
 use Rattle.store.specs.declared.Offered.{Offered}
-use Rattle.store.specs.Ring.{held, full, putRing, dropRing}
+use Rattle.store.specs.Ring.{held, full, room}
 use Rattle.store.specs.Promises.{Put, Dropped}
 use Rattle.state.specs.declared.State.{State}
 use Rattle.state.specs.declared.Out.{Out}
@@ -19,7 +19,7 @@ use Rattle.state.specs.declared.Out.the-variants.{Own, Held, Nothing}
 use Rattle.answers.specs.declared.Answer.the-variants as answer
 use Rattle.state.specs.State.{withRegisters, withLine, withRx, withTx, withNotes, withCounts}
 use Rattle.state.specs.Counts.{counted}
-use Rattle.line.specs.HoldingOff.{isGoOrStop, flowed, free, storedWith, lostState, lineState, lineBytes, Taken, setAfresh, afterWrite, owed, nextOut, goneState, outAnswer}
+use Rattle.line.specs.HoldingOff.{isGoOrStop, flowed, storedWith, lostState, lineState, lineBytes, Taken, resumed, setAfresh, afterWrite, owed, nextOut, goneState, outAnswer}
 
 -- ---- a line byte
 
@@ -28,7 +28,7 @@ module _ (s : State) (rx : List ℕ) (b : ℕ) where
   unfolding lineState lineBytes
   taken-flow t e q = record { state = rw (q, e); bytes = rw e; size = refl }
 
-  module _ (rx′ : List ℕ) (o : Offered) (size : s .sizes .rx ≡ length rx) (e : isGoOrStop (s .regs) b ≡ false) (p : Put rx (s .rx) b rx′ o) where
+  module _ (rx′ : List ℕ) (o : Offered) (e : isGoOrStop (s .regs) b ≡ false) (p : Put rx (s .rx) b rx′ o) where
     put-written : rx′ ≡ lineBytes s rx b
     unfolding lineBytes
     put-written = rw e (p .bytes)
@@ -36,8 +36,8 @@ module _ (s : State) (rx : List ℕ) (b : ℕ) where
     pub taken-stored : (t : State) → o .stored ≡ true → t ≡ storedWith s (o .ring) → Taken s rx b rx′ t
     unfolding lineState
     taken-stored t h q =
-        let room : full (s .sizes .rx) (s .rx) ≡ false = ap (λ (n : ℕ). full n (s .rx)) size ∙ not-is (full (length rx) (s .rx)) (sym (p .stored) ∙ h) in
-        record { state = rw (e, room) (q ∙ ap (storedWith s) (p .ring ∙ ap (λ (n : ℕ). putRing n (s .rx)) (sym size))); bytes = put-written; size = p .size }
+        let room : full (s .rx) ≡ false = not-is (full (s .rx)) (sym (p .stored) ∙ h) in
+        record { state = rw (e, room) (q ∙ ap (storedWith s) (p .ring)); bytes = put-written; size = p .size }
       where
         not-is : (x : Bool) → not x ≡ true → x ≡ false
         not-is true h = sym h
@@ -46,7 +46,7 @@ module _ (s : State) (rx : List ℕ) (b : ℕ) where
     pub taken-lost : (t : State) → o .stored ≡ false → t ≡ lostState s → Taken s rx b rx′ t
     unfolding lineState
     taken-lost t h q =
-        let none : full (s .sizes .rx) (s .rx) ≡ true = ap (λ (n : ℕ). full n (s .rx)) size ∙ not-is (full (length rx) (s .rx)) (sym (p .stored) ∙ h) in
+        let none : full (s .rx) ≡ true = not-is (full (s .rx)) (sym (p .stored) ∙ h) in
         record { state = rw (e, none) q; bytes = put-written; size = p .size }
       where
         not-is : (x : Bool) → not x ≡ false → x ≡ true
@@ -56,10 +56,10 @@ module _ (s : State) (rx : List ℕ) (b : ℕ) where
 -- ---- a register written
 
 module _ (s : State) (n : ℕ) (g : Registers) where
-  pub write-flow : (near on : Bool) → n ≡ 11 → near ≡ leb (free (withRegisters s g)) (s .sizes .margin) → on ≡ protocolOn g →
-      withLine (withRegisters s g) (record { holding = on && near; forbidden = false; stopped = s .line .stopped }) ≡ afterWrite s n g
+  pub write-flow : (left : ℕ) (on : Bool) → n ≡ 11 → left ≡ room (s .rx) → on ≡ protocolOn g →
+      withLine (withRegisters s g) (record { holding = on && leb left (s .margin); forbidden = false; stopped = s .line .stopped }) ≡ afterWrite s n g
   unfolding afterWrite setAfresh
-  write-flow near on e p q = rw (eq-eqb n 11 e, p, q)
+  write-flow left on e p q = rw (eq-eqb n 11 e, p, q)
 
   pub write-other : (n ≡ 11 → ⊥) → withRegisters s g ≡ afterWrite s n g
   unfolding afterWrite
@@ -110,9 +110,9 @@ module _ (s : State) (o : Out) where
   unfolding goneState
   gone-own b e = rw e
 
-  pub gone-held : (tx : List ℕ) (b : ℕ) (r : Ring) → o ≡ Held b → s .sizes .tx ≡ length tx → Dropped tx (s .tx) 1 r → withTx s r ≡ goneState s o
+  pub gone-held : (b : ℕ) (r : Ring) → o ≡ Held b → Dropped (s .tx) 1 r → withTx s r ≡ goneState s o
   unfolding goneState
-  gone-held tx b r e size d = rw e (ap (withTx s) (d .ring ∙ ap (λ (n : ℕ). dropRing n (s .tx) 1) (sym size)))
+  gone-held b r e d = rw e (ap (withTx s) (d .ring))
 
   pub gone-none : o ≡ Nothing → s ≡ goneState s o
   unfolding goneState
@@ -124,12 +124,16 @@ pub flow-met : (g : Registers) (b : ℕ) (on : Bool) → on ≡ protocolOn g →
 unfolding isGoOrStop
 flow-met g b on p = rw p
 
-pub stored-met : (s : State) (r : Ring) (n : ℕ) (near on : Bool) → n ≡ counted (s .counts .stored) →
-    near ≡ leb (s .sizes .rx - r .len) (s .sizes .margin) → on ≡ protocolOn (s .regs) →
-    withCounts (withLine (withRx s r) (record { holding = s .line .holding || (on && near); forbidden = s .line .forbidden; stopped = s .line .stopped }))
+pub stored-met : (s : State) (r : Ring) (n left : ℕ) (on : Bool) → n ≡ counted (s .counts .stored) → left ≡ room r → on ≡ protocolOn (s .regs) →
+    withCounts (withLine (withRx s r) (record { holding = s .line .holding || (on && leb left (s .margin)); forbidden = s .line .forbidden; stopped = s .line .stopped }))
     (record { stored = n; lost = s .counts .lost; sent = s .counts .sent }) ≡ storedWith s r
 unfolding storedWith
-stored-met s r n near on a b c = rw (a, b, c)
+stored-met s r n left on a b c = rw (a, b, c)
+
+pub resume-met : (s : State) (left : ℕ) → left ≡ room (s .rx) →
+    withLine s (record { holding = s .line .holding && not (leb (2 * s .margin) left); forbidden = s .line .forbidden; stopped = s .line .stopped }) ≡ resumed s
+unfolding resumed
+resume-met s left e = rw e
 
 pub lost-met : (s : State) (n : ℕ) → n ≡ counted (s .counts .lost) →
     withCounts (withNotes s (record {

@@ -1,5 +1,5 @@
 -- "Holding the line off": line bytes in, and line bytes out.
-use Prim.Native.Nat.{ℕ, _-_, _*_}
+use Prim.Native.Nat.{ℕ, _*_}
 use mathlib.Core.Path.{_≡_}
 use mathlib.Core.Bool.{Bool, true, false, cond, _&&_, _||_, not}
 use mathlib.Core.List.{List}
@@ -8,7 +8,7 @@ use lib.ListN.{length, getD}
 use Rattle.registers.specs.declared.Registers.{Registers}
 use Rattle.registers.specs.Meanings.{protocolOn, go, stop}
 use Rattle.store.specs.declared.Ring.{Ring}
-use Rattle.store.specs.Ring.{held, full, putRing, putBytes, dropRing}
+use Rattle.store.specs.Ring.{held, full, room, putRing, putBytes, dropRing}
 use Rattle.state.specs.declared.State.{State}
 use Rattle.state.specs.declared.Line.{Line}
 use Rattle.state.specs.declared.Out.{Out}
@@ -28,23 +28,19 @@ isGoOrStop g b = protocolOn g && (eqb b (go g) || eqb b (stop g))
 unfoldable pub flowed : State → ℕ → State
 flowed s b = withLine s (record { holding = s .line .holding; forbidden = eqb b (stop (s .regs)); stopped = s .line .stopped })
 
--- how many bytes of the receive store are free
-abbrev pub free : State → ℕ
-free s = s .sizes .rx - s .rx .len
-
 -- the same state, held off or not
 abbrev pub withHolding : State → Bool → State
 withHolding s h = withLine s (record { holding = h; forbidden = s .line .forbidden; stopped = s .line .stopped })
 
 -- "Any other byte is stored"; "Holding off begins, only with R11 bit 3 on, when a stored byte leaves m free or fewer"
 abbrev pub begun : State → State
-begun s = withHolding s (s .line .holding || (protocolOn (s .regs) && leb (free s) (s .sizes .margin)))
+begun s = withHolding s (s .line .holding || (protocolOn (s .regs) && leb (room (s .rx)) (s .margin)))
 
 unfoldable pub storedWith : State → Ring → State
 storedWith s ring = begun (storedMore (withRx s ring))
 
 abbrev pub storedState : State → State
-storedState s = storedWith s (putRing (s .sizes .rx) (s .rx))
+storedState s = storedWith s (putRing (s .rx))
 
 -- "or lost exactly when the receive store is full; a loss sets overrun"; and the note that it happened again
 unfoldable pub lostState : State → State
@@ -59,7 +55,7 @@ lostState s =
 
 -- the state after a line byte, and the receive store's bytes
 unfoldable pub lineState : State → ℕ → State
-lineState s b = cond (isGoOrStop (s .regs) b) (flowed s b) (cond (full (s .sizes .rx) (s .rx)) (lostState s) (storedState s))
+lineState s b = cond (isGoOrStop (s .regs) b) (flowed s b) (cond (full (s .rx)) (lostState s) (storedState s))
 
 unfoldable pub lineBytes : State → List ℕ → ℕ → List ℕ
 lineBytes s rx b = cond (isGoOrStop (s .regs) b) rx (putBytes rx (s .rx) b)
@@ -72,11 +68,11 @@ pub record Taken (s : State) (rx : List ℕ) (b : ℕ) (rx′ : List ℕ) (t : S
 
 -- "and ends when a send leaves 2m free or more"
 unfoldable pub resumed : State → State
-resumed s = withHolding s (s .line .holding && not (leb (2 * s .sizes .margin) (free s)))
+resumed s = withHolding s (s .line .holding && not (leb (2 * s .margin) (room (s .rx))))
 
 -- "Writing R11 sets it afresh: held off exactly if bit 3 is on and m or fewer are free"; "Writing R11 lets our sending start again at once"
 unfoldable pub setAfresh : State → State
-setAfresh s = withLine s (record { holding = protocolOn (s .regs) && leb (free s) (s .sizes .margin); forbidden = false; stopped = s .line .stopped })
+setAfresh s = withLine s (record { holding = protocolOn (s .regs) && leb (room (s .rx)) (s .margin); forbidden = false; stopped = s .line .stopped })
 
 -- a register written: "Writing R11" does more than change the register
 unfoldable pub afterWrite : State → ℕ → Registers → State
@@ -98,7 +94,7 @@ nextOut s tx =
 -- the state when that byte is gone
 unfoldable pub goneState : State → Out → State
 goneState s (Own b) = withLine s (record { holding = s .line .holding; forbidden = s .line .forbidden; stopped = s .line .holding })
-goneState s (Held b) = withTx s (dropRing (s .sizes .tx) (s .tx) 1)
+goneState s (Held b) = withTx s (dropRing (s .tx) 1)
 goneState s Nothing = s
 
 -- the answer for that byte

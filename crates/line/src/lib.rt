@@ -1,9 +1,9 @@
 // The line side: bytes in, holding off, and bytes out.
 ghost use mathlib.Core.Path.{_≡_};
 ghost use Prim.Native.Nat.{_≤_};
-ghost use lib.Dec.{leb};
+ghost use Rattle.store.specs.Ring.{Within, room};
 ghost use Rattle.state.specs.Sizes.{RxFits, TxFits};
-ghost use Rattle.line.specs.HoldingOff.{isGoOrStop, flowed, free, storedWith, lostState, Taken, resumed, afterWrite, nextOut, goneState, outAnswer};
+ghost use Rattle.line.specs.HoldingOff.{isGoOrStop, flowed, storedWith, lostState, Taken, resumed, afterWrite, nextOut, goneState, outAnswer};
 use answers::Answer;
 use registers::Registers;
 use state::Out;
@@ -27,24 +27,16 @@ fn permitted(s: State, b: u8) -> State
     t
 }
 
-// Whether the margin or less is free in the receive store.
-fn scarce(s: State) -> bool
-    requires { ⌜ s .rx .len ≤ s .sizes .rx ⌝ }
-    ensures { λ r. ⌜ r ≡ leb (free s) (s .sizes .margin) ⌝ }
-{
-    s.sizes.rx - s.rx.len <= s.sizes.margin
-}
-
-// The state after a byte stored, with the ring that it left.
-fn stored(s: State, ring: Ring) -> State
-    requires { ⌜ ring .len ≤ s .sizes .rx ⌝ }
+// The state after a byte stored, with the ring and the room that it left.
+fn stored(s: State, ring: Ring, left: usize) -> State
+    requires { ⌜ left ≡ room ring ⌝ }
     ensures { λ r. ⌜ r ≡ storedWith s ring ⌝ }
 {
     let mut t = s;
     t.rx = ring;
     let count = std::num::wrapping_add_u32(s.counts.stored, 1);
     t.counts.stored = count;
-    let near = scarce(t);
+    let near = left <= s.margin;
     let holding = s.line.holding | (registers::meanings::protocol_on(s.regs) & near);
     t.line.holding = holding;
     t
@@ -72,32 +64,36 @@ pub fn taken(s: State, rx: &mut [u8], b: u8) -> State
     }
     let o = store::put(rx, s.rx, b);
     let ring = o.ring;
-    if o.stored { stored(s, ring) } else { lost(s) }
+    if o.stored {
+        stored(s, ring, o.room)
+    } else {
+        lost(s)
+    }
 }
 
 // A send that leaves twice the margin free or more ends holding off.
 pub fn resume(s: State) -> State
-    requires { ⌜ s .rx .len ≤ s .sizes .rx ⌝ }
-    requires { ⌜ s .sizes .margin ≤ 1024 ⌝ }
+    requires { ⌜ Within (s .rx) ⌝ }
+    requires { ⌜ s .margin ≤ 1024 ⌝ }
     ensures { λ r. ⌜ r ≡ resumed s ⌝ }
 {
     let mut t = s;
-    let free = s.sizes.rx - s.rx.len;
-    let enough = 2 * s.sizes.margin;
-    let holding = s.line.holding & !(enough <= free);
+    let left = store::room(s.rx);
+    let enough = 2 * s.margin;
+    let holding = s.line.holding & !(enough <= left);
     t.line.holding = holding;
     t
 }
 
 // The state after a register write; writing R11 sets holding off afresh and lifts the other end's stop.
 pub fn after_write(s: State, n: u32, g: Registers) -> State
-    requires { ⌜ s .rx .len ≤ s .sizes .rx ⌝ }
+    requires { ⌜ Within (s .rx) ⌝ }
     ensures { λ r. ⌜ r ≡ afterWrite s n g ⌝ }
 {
     let mut t = s;
     t.regs = g;
     if n == 11 {
-        let near = scarce(t);
+        let near = store::room(s.rx) <= s.margin;
         let holding = registers::meanings::protocol_on(g) & near;
         t.line.holding = holding;
         t.line.forbidden = false;
@@ -149,7 +145,7 @@ pub fn gone(s: State, tx: &[u8], o: Out) -> State
             t.line.stopped = s.line.holding;
         }
         Out::Held(b) => {
-            let left = store::drop_oldest(tx, s.tx, 1);
+            let left = store::drop_oldest(s.tx, 1);
             t.tx = left;
         }
         Out::Nothing => {}

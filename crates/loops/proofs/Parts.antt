@@ -18,7 +18,7 @@ use Rattle.role.specs.declared.Ready.{Ready}
 use Rattle.role.specs.declared.Ready.the-variants.{Pass, Address, Data, Status, Finish}
 use Rattle.role.specs.Parts.{withTalker}
 use Rattle.store.specs.declared.Ring.{Ring}
-use Rattle.store.specs.Ring.{emptyRing}
+use Rattle.store.specs.Ring.{emptyRing, room}
 use Rattle.status.specs.declared.Events.{Events}
 use Rattle.role.specs.Orders.{orderOf}
 use Rattle.role.specs.Commands.{obeyedRole}
@@ -140,14 +140,14 @@ module _ (s : State) (rx : List ℕ) (f : ℕ) (o : Outcome) where
 
 -- ---- the smaller parts
 
-pub busy-met : (s : State) (f n : ℕ) (d : Bool) → d ≡ isData f → n ≡ length (adds (s .regs) f) → ((s .role .listener && d) && ltb (s .sizes .tx - s .tx .len) n) ≡ busy s f
+pub busy-met : (s : State) (f n left : ℕ) (d : Bool) → left ≡ room (s .tx) → d ≡ isData f → n ≡ length (adds (s .regs) f) → ((s .role .listener && d) && ltb left n) ≡ busy s f
 unfolding busy
-busy-met s f n d p q = rw (p, q)
+busy-met s f n left d l p q = rw (l, p, q)
 
-pub clear-met : (s t : State) (x : Ring) (quiet : Events) → x ≡ emptyRing → quiet ≡ noEvents →
-    t ≡ notesWith (withLine (withTx (withRx s x) x) (record { holding = false; forbidden = false; stopped = s .line .stopped })) quiet quiet false → t ≡ cleared s
+pub clear-met : (s t : State) (x y : Ring) (quiet : Events) → x ≡ emptyRing (s .rx .cap) → y ≡ emptyRing (s .tx .cap) → quiet ≡ noEvents →
+    t ≡ notesWith (withLine (withTx (withRx s x) y) (record { holding = false; forbidden = false; stopped = s .line .stopped })) quiet quiet false → t ≡ cleared s
 unfolding cleared
-clear-met s t x quiet p q e = rw (e, p, q)
+clear-met s t x y quiet p q r e = rw (e, p, q, r)
 
 pub settle-met : (s : State) (o : Outcome) (t : State) → t ≡ settled s (o .state) → record { state = t; answer = o .answer } ≡ outcomeSettled s o
 settle-met s o t p = rw p

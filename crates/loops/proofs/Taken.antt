@@ -22,11 +22,11 @@ use Rattle.state.specs.Status.{settled, serviced}
 use Rattle.loops.specs.Frames.{isClear, orderIn, cleared, obeyed, commandState, command, commandSettled, ready, returned, dataPassed, Passed, identify, outcomeSettled, frameTaken, passed, deviceClear, frameSettled, addsBytes, frameBytes, Framed}
 
 -- the transmit store with what a frame adds
-pub left-met : (s : State) (tx : List ℕ) (f : ℕ) (tx′ : List ℕ) (o : Ring) (l : List ℕ) → s .sizes .tx ≡ length tx → adds (s .regs) f ≡ l → Puts tx (s .tx) l tx′ o → Added s tx f tx′ (withTx s o)
+pub left-met : (s : State) (tx : List ℕ) (f : ℕ) (tx′ : List ℕ) (o : Ring) (l : List ℕ) → adds (s .regs) f ≡ l → Puts tx (s .tx) l tx′ o → Added s tx f tx′ (withTx s o)
 unfolding addedState addedBytes
-left-met s tx f tx′ o l size e p =
+left-met s tx f tx′ o l e p =
     record {
-      state = ap (withTx s) (p .ring ∙ (λ i. putsRing (sym size i) (s .tx) (sym e i)));
+      state = ap (withTx s) (p .ring ∙ ap (putsRing (s .tx)) (sym e));
       bytes = p .bytes ∙ ap (putsBytes tx (s .tx)) (sym e);
       size = p .size;
     }

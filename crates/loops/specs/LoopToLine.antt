@@ -1,5 +1,5 @@
 -- "Loop to line".
-use Prim.Native.Nat.{ℕ, _-_}
+use Prim.Native.Nat.{ℕ}
 use mathlib.Core.Path.{_≡_}
 use mathlib.Core.Bool.{Bool, cond, _&&_}
 use mathlib.Core.List.{List, [], _∷_}
@@ -8,7 +8,7 @@ use lib.ListN.{length}
 use Rattle.frame.specs.Frame.{dataOf, isData, isEnd}
 use Rattle.registers.specs.declared.Registers.{Registers}
 use Rattle.registers.specs.Meanings.{endInserted}
-use Rattle.store.specs.Ring.{putsRing, putsBytes}
+use Rattle.store.specs.Ring.{room, putsRing, putsBytes}
 use Rattle.state.specs.declared.State.{State}
 use Rattle.state.specs.State.{withTx}
 
@@ -18,11 +18,11 @@ adds g f = cond (isEnd f && endInserted g) (dataOf f ∷ g .c02 ∷ g .c03 ∷ [
 
 -- "busy: we are listener, the frame is data, the transmit store lacks room for what it adds"
 unfoldable pub busy : State → ℕ → Bool
-busy s f = (s .role .listener && isData f) && ltb (s .sizes .tx - s .tx .len) (length (adds (s .regs) f))
+busy s f = (s .role .listener && isData f) && ltb (room (s .tx)) (length (adds (s .regs) f))
 
 -- the transmit store with what a data frame adds: "All fit, or refusal 4", which `busy` gives
 unfoldable pub addedState : State → ℕ → State
-addedState s f = withTx s (putsRing (s .sizes .tx) (s .tx) (adds (s .regs) f))
+addedState s f = withTx s (putsRing (s .tx) (adds (s .regs) f))
 
 unfoldable pub addedBytes : State → List ℕ → ℕ → List ℕ
 addedBytes s tx f = putsBytes tx (s .tx) (adds (s .regs) f)

@@ -1,7 +1,7 @@
 // Frames taken from the loop, and what we send on it.
 ghost use mathlib.Core.Path.{_≡_};
-ghost use Prim.Native.Nat.{_≤_};
 ghost use lib.ListN.{length};
+ghost use Rattle.store.specs.Ring.{Within};
 ghost use Rattle.state.specs.Sizes.{RxFits, TxFits};
 ghost use Rattle.loops.specs.LoopToLine.{adds, busy, Added};
 ghost use Rattle.loops.specs.Frames.{isClear, cleared, obeyed, commandSettled, finishing, ready, returned, Passed, outcomeSettled, Framed};
@@ -27,10 +27,10 @@ fn added(g: Registers, f: u16) -> usize
 
 // Whether we are listener, the frame is data, and the transmit store lacks room for what it adds.
 pub fn busy(s: State, f: u16) -> bool
-    requires { ⌜ s .tx .len ≤ s .sizes .tx ⌝ }
+    requires { ⌜ Within (s .tx) ⌝ }
     ensures { λ r. ⌜ r ≡ busy s f ⌝ }
 {
-    let room = s.sizes.tx - s.tx.len;
+    let room = store::room(s.tx);
     (s.role.listener & frame::is_data(f)) & (room < added(s.regs, f))
 }
 
@@ -79,10 +79,11 @@ fn clear(s: State) -> State
     ensures { λ r. ⌜ r ≡ cleared s ⌝ }
 {
     let mut t = s;
-    let none = store::emptied();
+    let receive = store::emptied(s.rx.cap);
+    let transmit = store::emptied(s.tx.cap);
     let quiet = state::fitting::no_events();
-    t.rx = none;
-    t.tx = none;
+    t.rx = receive;
+    t.tx = transmit;
     t.line.holding = false;
     t.line.forbidden = false;
     state::requests::with_notes(t, quiet, quiet, false)

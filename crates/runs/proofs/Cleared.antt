@@ -175,7 +175,7 @@ gone-noted e w a (out.Own b) = kept e (on nextLineByte) w a _ refl (record { tal
 gone-noted e w a (out.Held b) = kept e (on nextLineByte) w a _ refl (record { talker = refl; frame = refl; seen = refl; again = refl })
 gone-noted e w a out.Nothing = kept e (on nextLineByte) w a _ refl (record { talker = refl; frame = refl; seen = refl; again = refl })
 
-line-noted : (e : Event) (w : World) (b : ℕ) (t u : Bool) → isGoOrStop (w .state .regs) b ≡ t → full (w .state .sizes .rx) (w .state .rx) ≡ u →
+line-noted : (e : Event) (w : World) (b : ℕ) (t u : Bool) → isGoOrStop (w .state .regs) b ≡ t → full (w .state .rx) ≡ u →
     Noted e (on (lineByte b)) w done (settled (w .state) (cond t (flowed (w .state) b) (cond u (lostState (w .state)) (storedState (w .state)))))
 unfolding flowed lostState storedWith settled restarts clears lost arrived isFlow isGoOrStop
 line-noted e w b true u p q = kept e (on (lineByte b)) w done _ refl (record { talker = refl; frame = refl; seen = refl; again = refl })
@@ -213,7 +213,7 @@ notes e (create m) w = noted-or e (create m) w _ _ (λ _. begun e (create m) w d
 notes e (on reset) w = noted-or e (on reset) w _ _ (λ _. settled-noted e (on reset) w done false _ (begun e (on reset) w done _ refl (none-noted e)))
 notes e (on (write n v)) w = noted-or e (on (write n v)) w _ _ (λ _. write-noted e w n v)
 notes e (on (lineByte b)) w =
-    noted-or e (on (lineByte b)) w _ _ (λ _. line-noted e w b (isGoOrStop (w .state .regs) b) (full (w .state .sizes .rx) (w .state .rx)) refl refl)
+    noted-or e (on (lineByte b)) w _ _ (λ _. line-noted e w b (isGoOrStop (w .state .regs) b) (full (w .state .rx)) refl refl)
 notes broken (on lineBreak) w = noted-or broken (on lineBreak) w _ _ (λ _. happened broken (on lineBreak) w done _ refl refl)
 notes overrun (on lineBreak) w =
     noted-or overrun (on lineBreak) w _ _

@@ -21,11 +21,11 @@ module _ (w : World) (F : Fits w) where
   pub empty-same : eqb (w .state .tx .len) 0 ≡ transmitEmpty w
   empty-same = ap (λ (n : ℕ). eqb n 0) for-line
 
-  pub room-same : ltb (w .state .tx .len) (w .state .sizes .tx) ≡ transmitNotFull w
-  room-same = λ i. ltb (for-line i) (tx-fits (w .state) (w .rx) (w .tx) F .size i)
+  pub room-same : ltb (w .state .tx .len) (w .state .tx .cap) ≡ transmitNotFull w
+  room-same = λ i. ltb (for-line i) (tx-fits (w .state) (w .rx) (w .tx) F .ring .cap i)
 
   pub some-same : ltb 0 (w .state .rx .len) ≡ receiveNotEmpty w
   some-same = ap (ltb 0) to-send
 
-  pub full-same : full (w .state .sizes .rx) (w .state .rx) ≡ receiveFull w
-  full-same = λ i. leb (rx-fits (w .state) (w .rx) (w .tx) F .size i) (to-send i)
+  pub full-same : full (w .state .rx) ≡ receiveFull w
+  full-same = λ i. leb (rx-fits (w .state) (w .rx) (w .tx) F .ring .cap i) (to-send i)

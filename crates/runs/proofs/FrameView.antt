@@ -18,7 +18,7 @@ use Rattle.answers.specs.declared.Answer.the-variants.{Frame}
 use Rattle.answers.specs.Answers.{said}
 use Rattle.state.specs.Status.{settled}
 use Rattle.state.specs.Status as status
-use Rattle.state.proofs.Fits.{tx-room}
+use Rattle.state.proofs.Fits.{tx-fits}
 use Rattle.line.specs.HoldingOff.{resumed}
 use Rattle.loops.specs.LoopToLine.{adds, busy, addedState, addedBytes}
 use Rattle.loops.specs.Sending.{ruleOf, removedState, sendState, sendFrom, sendStatus, talking, ended}
@@ -64,12 +64,12 @@ module _ (w : World) (f : ℕ) where
 -- ---- every frame
 
 module _ (w : World) (F : Fits w) (f : ℕ) (B : busy (w .state) f ≡ false) where
-  room : isData f ≡ true → w .state .role .listener ≡ true → w .state .tx .len + length (adds (w .state .regs) f) ≤ w .state .sizes .tx
+  room : isData f ≡ true → w .state .role .listener ≡ true → w .state .tx .len + length (adds (w .state .regs) f) ≤ w .state .tx .cap
   unfolding busy
   room d e =
-      let r : ltb (w .state .sizes .tx - w .state .tx .len) (length (adds (w .state .regs) f)) ≡ false =
-      (λ i. (sym e i && sym d i) && ltb (w .state .sizes .tx - w .state .tx .len) (length (adds (w .state .regs) f))) ∙ B in
-      omega (arith, ltb-false (w .state .sizes .tx - w .state .tx .len) (length (adds (w .state .regs) f)) r, tx-room (w .state) (w .rx) (w .tx) F)
+      let r : ltb (w .state .tx .cap - w .state .tx .len) (length (adds (w .state .regs) f)) ≡ false =
+      (λ i. (sym e i && sym d i) && ltb (w .state .tx .cap - w .state .tx .len) (length (adds (w .state .regs) f))) ∙ B in
+      omega (arith, ltb-false (w .state .tx .cap - w .state .tx .len) (length (adds (w .state .regs) f)) r, tx-fits (w .state) (w .rx) (w .tx) F .ring .within .len)
 
   -- a listener is no active talker
   stores : addsBytes (w .state) f ≡ (isData f && w .state .role .listener)

@@ -37,12 +37,9 @@ afterSend w = held (w .rx) (sentRing (ruleOf (w .state .regs)) (w .rx) (w .state
 
 module _ (w : World) where
   -- a byte stored is the newest of those held
-  pub held-stored : (b : ℕ) → Fits w → w .state .rx .len < w .state .sizes .rx →
-      held (putBytes (w .rx) (w .state .rx) b) (putRing (w .state .sizes .rx) (w .state .rx)) ≡ heldToSend w ++ (b ∷ [])
-  held-stored b F h =
-      let f = rx-fits (w .state) (w .rx) (w .tx) F in
-      ap (λ (n : ℕ). held (putBytes (w .rx) (w .state .rx) b) (putRing n (w .state .rx))) (f .size)
-      ∙ held-put (w .rx) (w .state .rx) b (f .ring) (subst (λ (n : ℕ). w .state .rx .len < n) (f .size) h)
+  pub held-stored : (b : ℕ) → Fits w → w .state .rx .len < w .state .rx .cap →
+      held (putBytes (w .rx) (w .state .rx) b) (putRing (w .state .rx)) ≡ heldToSend w ++ (b ∷ [])
+  held-stored b F h = held-put (w .rx) (w .state .rx) b (rx-fits (w .state) (w .rx) (w .tx) F .ring) h
 
   -- what is held after a send
   pub held-after : (x : Sent ℕ ℕ) → Fits w → sendHeld (ruleOf (w .state .regs)) (w .rx) (w .state .rx) ≡ x →

@@ -7,7 +7,7 @@ use lib.Dec.{eqb, leb}
 use Rattle.runs.proofs.Refusals.{or-refused, frame-fits}
 use Rattle.registers.specs.Meanings.{protocolOn, stop}
 use Rattle.registers.specs.Writing.{written}
-use Rattle.store.specs.Ring.{full}
+use Rattle.store.specs.Ring.{full, room}
 use Rattle.reading.specs.Reading.{Sent, none, one}
 use Rattle.sending.specs.Sending.{givenOf, sendHeld}
 use Rattle.state.specs.declared.State.{State}
@@ -20,7 +20,7 @@ use Rattle.answers.specs.Answers.{Said, said, done, refused}
 use Rattle.state.specs.Sizes.{startState}
 use Rattle.state.specs.Status.{settled, breakState, keyState}
 use Rattle.state.specs.Status as state-status
-use Rattle.line.specs.HoldingOff.{isGoOrStop, flowed, free, lostState, storedWith, storedState, lineState}
+use Rattle.line.specs.HoldingOff.{isGoOrStop, flowed, lostState, storedWith, storedState, lineState}
 use Rattle.line.specs.HoldingOff.{lineBytes, resumed, setAfresh, afterWrite, nextOut, goneState, outAnswer}
 use Rattle.loops.specs.LoopToLine.{addedState}
 use Rattle.loops.specs.Sending.{ruleOf, removedState, sendState, sendFrom, sendStatus, talking, ended}
@@ -59,7 +59,7 @@ same : (c : Call) (w : World) (d : Did) → Unseen c w (d .said) → d .world .s
 unfolding holdingAfter forbiddenAfter accepted
 same c w d u h f =
     record {
-      holding = rw (u .empties, u .arrived, none-any (full (w .state .sizes .rx) (w .state .rx)), u .sends, u .writes) h;
+      holding = rw (u .empties, u .arrived, none-any (full (w .state .rx)), u .sends, u .writes) h;
       forbidden = rw (u .empties, u .writes, u .byte) f;
     }
 
@@ -95,8 +95,8 @@ line-goes : (w : World) (b : ℕ) →
 unfolding holdingAfter forbiddenAfter afterByte accepted arrived restarts clears isFlow isGoOrStop sends lineState flowed lostState storedWith settled
 line-goes w b =
     record {
-      holding = holding-by (isGoOrStop (s .regs) b) (full (s .sizes .rx) (s .rx));
-      forbidden = forbidden-by (isGoOrStop (s .regs) b) (full (s .sizes .rx) (s .rx));
+      holding = holding-by (isGoOrStop (s .regs) b) (full (s .rx));
+      forbidden = forbidden-by (isGoOrStop (s .regs) b) (full (s .rx));
     }
   where
     s : State
@@ -107,7 +107,7 @@ line-goes w b =
 
     holding-by : (t u : Bool) →
         state t u .line .holding
-        ≡ cond (any (cond u [] (cond (not t) (b ∷ []) []))) (s .line .holding || (protocolOn (s .regs) && leb (free (state t u)) (s .sizes .margin)))
+        ≡ cond (any (cond u [] (cond (not t) (b ∷ []) []))) (s .line .holding || (protocolOn (s .regs) && leb (room (state t u .rx)) (s .margin)))
         (s .line .holding)
     holding-by true true = refl
     holding-by true false = refl
@@ -131,7 +131,7 @@ write-goes : (w : World) (n v : ℕ) →
 unfolding holdingAfter forbiddenAfter afterByte accepted arrived restarts clears sends afterWrite setAfresh settled
 write-goes w n v =
     record {
-      holding = rw (none-any (full (w .state .sizes .rx) (w .state .rx))) (holding-by (eqb n 11));
+      holding = rw (none-any (full (w .state .rx))) (holding-by (eqb n 11));
       forbidden = forbidden-by (eqb n 11);
     }
   where
@@ -140,7 +140,7 @@ write-goes w n v =
 
     holding-by : (x : Bool) →
         cond x (setAfresh g) g .line .holding ≡
-        cond x (protocolOn (cond x (setAfresh g) g .regs) && leb (free (w .state)) (w .state .sizes .margin)) (w .state .line .holding)
+        cond x (protocolOn (cond x (setAfresh g) g .regs) && leb (room (w .state .rx)) (w .state .margin)) (w .state .line .holding)
     holding-by true = refl
     holding-by false = refl
 
@@ -153,7 +153,7 @@ write-goes w n v =
 module _ (s : State) (rx : List ℕ) (f : ℕ) where
   -- the line after a frame that is a device clear or not, x, and a send or not, y
   record Framed (x y : Bool) (t : State) : Type 0 where
-    holding : t .line .holding ≡ cond x false (cond y (s .line .holding && not (leb (2 * s .sizes .margin) (free t))) (s .line .holding))
+    holding : t .line .holding ≡ cond x false (cond y (s .line .holding && not (leb (2 * s .margin) (room (t .rx)))) (s .line .holding))
     forbidden : t .line .forbidden ≡ cond x false (s .line .forbidden)
 
   send-framed : Framed false true (sendFrom s rx .state)
@@ -184,7 +184,7 @@ unfolding holdingAfter forbiddenAfter afterByte accepted arrived restarts clears
 frame-goes w f F =
     let k = settled-framed (w .state) (w .rx) f _ _ (deviceClear (w .state) f) _ (by-kind (w .state) (w .rx) f _ (kind-of f w F)) in
     record {
-      holding = rw (t, none-any (full (w .state .sizes .rx) (w .state .rx))) (k .holding);
+      holding = rw (t, none-any (full (w .state .rx))) (k .holding);
       forbidden = rw t (k .forbidden);
     }
   where

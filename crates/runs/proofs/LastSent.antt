@@ -54,7 +54,7 @@ Same s t = t .line .stopped ≡ s .line .stopped
 
 line-same : (s : State) (b : ℕ) → Same s (lineState s b)
 unfolding lineState flowed lostState storedWith
-line-same s b = by-cond (Same s) (isGoOrStop (s .regs) b) _ _ (λ _. refl) (λ _. by-cond (Same s) (full (s .sizes .rx) (s .rx)) _ _ (λ _. refl) (λ _. refl))
+line-same s b = by-cond (Same s) (isGoOrStop (s .regs) b) _ _ (λ _. refl) (λ _. by-cond (Same s) (full (s .rx)) _ _ (λ _. refl) (λ _. refl))
 
 write-same : (s : State) (n v : ℕ) → Same s (afterWrite s n (written (s .regs) n v))
 unfolding afterWrite setAfresh

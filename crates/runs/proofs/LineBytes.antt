@@ -31,19 +31,16 @@ first-rest [] h = absurd (omega arith)
 first-rest (x ∷ l) h = refl
 
 module _ (w : World) (F : Fits w) where
-  held-left : (l : List ℕ) → w .state .tx .len + length l ≤ w .state .sizes .tx →
-      held (putsBytes (w .tx) (w .state .tx) l) (putsRing (w .state .sizes .tx) (w .state .tx) l) ≡ heldForLine w ++ l
-  held-left l h =
-      let f = tx-fits (w .state) (w .rx) (w .tx) F in
-      ap (λ (n : ℕ). held (putsBytes (w .tx) (w .state .tx) l) (putsRing n (w .state .tx) l)) (f .size)
-      ∙ held-puts (w .tx) (w .state .tx) l (f .ring) (omega (arith, f .size))
+  held-left : (l : List ℕ) → w .state .tx .len + length l ≤ w .state .tx .cap →
+      held (putsBytes (w .tx) (w .state .tx) l) (putsRing (w .state .tx) l) ≡ heldForLine w ++ l
+  held-left l h = held-puts (w .tx) (w .state .tx) l (tx-fits (w .state) (w .rx) (w .tx) F .ring) h
 
-  held-handed : 0 < w .state .tx .len → heldForLine w ≡ getD (heldForLine w) 0 0 ∷ held (w .tx) (dropRing (w .state .sizes .tx) (w .state .tx) 1)
+  held-handed : 0 < w .state .tx .len → heldForLine w ≡ getD (heldForLine w) 0 0 ∷ held (w .tx) (dropRing (w .state .tx) 1)
   held-handed h =
       let f = tx-fits (w .state) (w .rx) (w .tx) F in
       first-rest (heldForLine w) (omega (arith, held-length (w .tx) (w .state .tx) (f .ring)))
       ∙ ap (λ l. getD (heldForLine w) 0 0 ∷ l)
-      (sym (held-drop (w .tx) (w .state .tx) 1 (f .ring) (omega arith)) ∙ ap (λ (n : ℕ). held (w .tx) (dropRing n (w .state .tx) 1)) (sym (f .size)))
+      (sym (held-drop (w .tx) (w .state .tx) 1 (f .ring) (omega arith)))
 
 keeps : (w : World) (x : Seen) (h : Heart) (rx tx : List ℕ) → Shape w x h rx tx → x .empties ≡ false → (ys : List ℕ) →
     heldForLine w ++ (x .left ++ ys) ≡ x .handed ++ (held tx (h .tx) ++ ys)
@@ -74,9 +71,9 @@ line-kept cs w B k n = from-turns loopToLine ours cs w (turns cs w n)
 emptied : (w : World) (x : Seen) (h : Heart) (rx tx : List ℕ) → Shape w x h rx tx → x .empties ≡ true → held tx (h .tx) ≡ []
 unfolding startState
 emptied w x h rx tx isStill n = absurd (false≢true n)
-emptied w x h rx tx (isBegun m) n = held-empty (w .tx)
+emptied w x h rx tx (isBegun m) n = held-empty (w .tx) _
 emptied w x h rx tx (isWritten g t) n = absurd (false≢true n)
-emptied w x h rx tx isCleared n = held-empty (w .tx)
+emptied w x h rx tx isCleared n = held-empty (w .tx) _
 emptied w x h rx tx (isStored b F l) n = absurd (false≢true n)
 emptied w x h rx tx (isLost b l) n = absurd (false≢true n)
 emptied w x h rx tx (isSent f r F e) n = absurd (false≢true n)

@@ -28,16 +28,16 @@ use Rattle.runs.proofs.Quiet.{quiet, quietly}
 module _ (w : World) (F : Fits w) (b : ℕ) where
   pub line-shape : Shape w (seen (on (lineByte b)) w done) (heart (lineState (w .state) b)) (lineBytes (w .state) (w .rx) b) (w .tx)
   unfolding arrived accepted lost sent added isFlow isGoOrStop handedOut restarts writes clears lineState lineBytes flowed lostState
-  line-shape = by-tests (isGoOrStop (w .state .regs) b) (full (w .state .sizes .rx) (w .state .rx)) refl refl
+  line-shape = by-tests (isGoOrStop (w .state .regs) b) (full (w .state .rx)) refl refl
     where
-      by-tests : (t u : Bool) → isGoOrStop (w .state .regs) b ≡ t → full (w .state .sizes .rx) (w .state .rx) ≡ u →
+      by-tests : (t u : Bool) → isGoOrStop (w .state .regs) b ≡ t → full (w .state .rx) ≡ u →
           Shape w (seen (on (lineByte b)) w done) (heart (cond t (flowed (w .state) b) (cond u (lostState (w .state)) (storedState (w .state)))))
           (cond t (w .rx) (putBytes (w .rx) (w .state .rx) b)) (w .tx)
       by-tests true true f e = simp (f, e) isStill
       by-tests true false f e = simp (f, e) isStill
       by-tests false true f e =
-          let h : w .state .sizes .rx ≤ w .state .rx .len = leb-true _ _ e in
-          simp (f, e, put-full (w .rx) (w .state .rx) b (omega (arith, rx-fits (w .state) (w .rx) (w .tx) F .size))) (isLost b h)
+          let h : w .state .rx .cap ≤ w .state .rx .len = leb-true _ _ e in
+          simp (f, e, put-full (w .rx) (w .state .rx) b h) (isLost b h)
       by-tests false false f e = simp (f, e) (isStored b F (leb-false _ _ e))
 
 -- ---- line bytes out

@@ -7,13 +7,12 @@ use mathlib.Core.List.{List, [], _∷_, _++_}
 use lib.Dec.{leb}
 use lib.ListN.{length}
 use borrow.Author.Tests.{leb-true, leb-false}
-use Rattle.cases.proofs.Cases.{and-left, and-right}
 use Rattle.registers.specs.Meanings.{protocolOn}
-use Rattle.store.proofs.Laws.{ring-len}
+use Rattle.store.proofs.Laws.{ring-len, put-cap}
+use Rattle.store.specs.Ring as store-ring
 use Rattle.sending.specs.Sending.{sentRing}
-use Rattle.state.specs.Sizes.{sizesObeyed}
-use Rattle.state.proofs.Fits.{tests, rx-fits}
-use Rattle.line.specs.HoldingOff.{storedWith, resumed, free}
+use Rattle.state.proofs.Fits.{sizes-hold, tests, rx-fits}
+use Rattle.line.specs.HoldingOff.{storedWith, resumed}
 use Rattle.loops.specs.Sending.{ruleOf, removedState}
 use Rattle.bridge.specs.Calls.{Call, World}
 use Rattle.laws.specs.Observers.{arrived, lost, changes}
@@ -23,7 +22,7 @@ use Rattle.laws.specs.Demands.{NoneLost}
 use Rattle.runs.proofs.Shapes.{Seen, seen, Heart, heart, Fits, Shape, isStill, isBegun}
 use Rattle.runs.proofs.Shapes.{isWritten, isCleared, isStored, isLost, isSent, isNone, isLeft, isHanded}
 use Rattle.runs.proofs.View.{view}
-use Rattle.runs.proofs.Sends.{sent-less}
+use Rattle.runs.proofs.Sends.{sent-less, sent-cap}
 use Rattle.runs.proofs.Runs.{first-not}
 use Rattle.runs.proofs.Steps.{answer, after, all, Without, spells, ours}
 use Rattle.laws.specs.Spells as run
@@ -49,8 +48,8 @@ Within false m k = Unit {0}
 -- the protocol is on, and there is room
 record Calm (m k : ℕ) (h : Heart) : Type 0 where
   on : protocolOn (h .regs) ≡ true
-  margin : h .sizes .margin ≡ m
-  room : Room (h .holding) m k (h .sizes .rx - h .rx .len)
+  margin : h .margin ≡ m
+  room : Room (h .holding) m k (store-ring.room (h .rx))
 
 still-room : (h : Bool) (m k f : ℕ) → Room h m k f → Room h m (count h k 0) f
 still-room true m k f r = omega arith
@@ -79,28 +78,26 @@ never-full true m k f e r w = omega arith
 never-full false m k f e r w = omega arith
 
 -- a margin of a world that fits is 1 or more
-some-margin : (w : World) → Fits w → 1 ≤ w .state .sizes .margin
-unfolding sizesObeyed
-some-margin w F = go (w .state .sizes .margin) (length (w .rx)) (length (w .tx)) (tests (w .state) (length (w .rx)) (length (w .tx)) F .sizes)
-  where
-    go : (m rx tx : ℕ) → sizesObeyed m rx tx ≡ true → 1 ≤ m
-    go m rx tx e = leb-true 1 m (and-left _ _ (and-left _ _ (and-left _ _ (and-left _ _ (and-right (leb m 1024) _ e)))))
+some-margin : (w : World) → Fits w → 1 ≤ w .state .margin
+some-margin w F = sizes-hold (w .state .margin) (length (w .rx)) (length (w .tx)) (tests (w .state) (length (w .rx)) (length (w .tx)) F .sizes) .some
 
 -- what a send leaves free
 sent-room : (w : World) (m k : ℕ) → Fits w → Calm m k (heart (w .state)) →
     Room (removedState (w .state) (w .rx) .line .holding) m (count (holdsOff w) k 0)
-    (w .state .sizes .rx - sentRing (ruleOf (w .state .regs)) (w .rx) (w .state .rx) .len)
+    (store-ring.room (sentRing (ruleOf (w .state .regs)) (w .rx) (w .state .rx)))
 unfolding removedState resumed
 sent-room w m k F c =
     let r = sentRing (ruleOf (w .state .regs)) (w .rx) (w .state .rx) in
-    let less : r .len ≤ w .state .rx .len = sent-less (ruleOf (w .state .regs)) (w .rx) (w .state .rx) (rx-fits (w .state) (w .rx) (w .tx) F .ring) in
-    send-room (holdsOff w) m (w .state .sizes .margin) k (free (w .state)) (w .state .sizes .rx - r .len) (omega (arith, some-margin w F, c .margin))
+    let fit = rx-fits (w .state) (w .rx) (w .tx) F .ring in
+    let less : r .len ≤ w .state .rx .len = sent-less (ruleOf (w .state .regs)) (w .rx) (w .state .rx) fit in
+    let cap : r .cap ≡ w .state .rx .cap = sent-cap (ruleOf (w .state .regs)) (w .rx) (w .state .rx) fit in
+    send-room (holdsOff w) m (w .state .margin) k (store-ring.room (w .state .rx)) (store-ring.room r) (omega (arith, some-margin w F, c .margin))
     (c .margin) (omega arith) (c .room)
 
 calm : (w : World) (x : Seen) (h : Heart) (rx tx : List ℕ) → Shape w x h rx tx → x .changes ≡ false → (m k : ℕ) → Calm m k (heart (w .state)) →
     Within (holdsOff w) m (k + length (x .arrived)) → (x .lost ≡ []) × Calm m (count (holdsOff w) k (length (x .arrived))) h
 unfolding storedWith
-calm w x h rx tx isStill n m k c i = (refl, record { on = c .on; margin = c .margin; room = still-room (holdsOff w) m k (free (w .state)) (c .room) })
+calm w x h rx tx isStill n m k c i = (refl, record { on = c .on; margin = c .margin; room = still-room (holdsOff w) m k (store-ring.room (w .state .rx)) (c .room) })
 calm w x h rx tx (isBegun j) n m k c i = absurd (false≢true (sym n))
 calm w x h rx tx (isWritten g t) n m k c i = absurd (false≢true (sym n))
 calm w x h rx tx isCleared n m k c i = absurd (false≢true (sym n))
@@ -109,15 +106,15 @@ calm w x h rx tx (isStored b F l) n m k c i = (
   record {
     on = c .on;
     margin = c .margin;
-    room = store-room (holdsOff w) (protocolOn (w .state .regs)) m (w .state .sizes .margin) k (free (w .state)) _ (c .on) (c .margin)
-        (omega (arith, ring-len (w .state .sizes .rx) (w .state .rx) l)) (c .room);
+    room = store-room (holdsOff w) (protocolOn (w .state .regs)) m (w .state .margin) k (store-ring.room (w .state .rx)) _ (c .on) (c .margin)
+        (omega (arith, ring-len (w .state .rx) l, put-cap (w .state .rx))) (c .room);
   },
 )
-calm w x h rx tx (isLost b l) n m k c i = absurd (never-full (holdsOff w) m k (free (w .state)) (omega arith) (c .room) i)
+calm w x h rx tx (isLost b l) n m k c i = absurd (never-full (holdsOff w) m k (store-ring.room (w .state .rx)) (omega arith) (c .room) i)
 calm w x h rx tx (isSent f r F e) n m k c i = (refl, record { on = c .on; margin = c .margin; room = sent-room w m k F c })
 calm w x h rx tx (isNone r F e) n m k c i = (refl, record { on = c .on; margin = c .margin; room = sent-room w m k F c })
-calm w x h rx tx (isLeft l F e) n m k c i = (refl, record { on = c .on; margin = c .margin; room = still-room (holdsOff w) m k (free (w .state)) (c .room) })
-calm w x h rx tx (isHanded F e) n m k c i = (refl, record { on = c .on; margin = c .margin; room = still-room (holdsOff w) m k (free (w .state)) (c .room) })
+calm w x h rx tx (isLeft l F e) n m k c i = (refl, record { on = c .on; margin = c .margin; room = still-room (holdsOff w) m k (store-ring.room (w .state .rx)) (c .room) })
+calm w x h rx tx (isHanded F e) n m k c i = (refl, record { on = c .on; margin = c .margin; room = still-room (holdsOff w) m k (store-ring.room (w .state .rx)) (c .room) })
 
 -- ---- what the spells of a run say of its first call and of the rest
 
@@ -180,5 +177,5 @@ none-lost-from (c ∷ cs) w m k n q a =
 -- (3c)
 pub none-lost : Obeys ours NoneLost
 none-lost cs w B k n on off room a =
-    none-lost-from cs w (w .state .sizes .margin) 0 n
-    (record { on = on; margin = refl; room = subst (λ t. Room t (w .state .sizes .margin) 0 (free (w .state))) (sym off) room }) a
+    none-lost-from cs w (w .state .margin) 0 n
+    (record { on = on; margin = refl; room = subst (λ t. Room t (w .state .margin) 0 (store-ring.room (w .state .rx))) (sym off) room }) a

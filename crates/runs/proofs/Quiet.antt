@@ -33,11 +33,11 @@ quiet c w a =
 module _ (c : Call) (w : World) (a : Said) (e : arrived c w a ≡ []) where
   none-accepted : accepted c w a ≡ []
   unfolding accepted
-  none-accepted = rw e (same-either (full (w .state .sizes .rx) (w .state .rx)) [])
+  none-accepted = rw e (same-either (full (w .state .rx)) [])
 
   none-lost : lost c w a ≡ []
   unfolding lost
-  none-lost = rw e (same-either (full (w .state .sizes .rx) (w .state .rx)) [])
+  none-lost = rw e (same-either (full (w .state .rx)) [])
 
 pub quietly : (c : Call) (w : World) (a : Said) (h : Heart) (rx tx : List ℕ) → arrived c w a ≡ [] → Shape w (quiet c w a) h rx tx →
     Shape w (seen c w a) h rx tx

@@ -67,7 +67,7 @@ unfolding afterWrite setAfresh
 write-rx s n v = by-cond (λ (t : State). t .rx ≡ s .rx) (eqb n 11) _ _ (λ _. refl) (λ _. refl)
 
 -- a line byte is accepted, lost or no data
-line-held : (w : World) → Fits w → (b : ℕ) (t u : Bool) → full (w .state .sizes .rx) (w .state .rx) ≡ u →
+line-held : (w : World) → Fits w → (b : ℕ) (t u : Bool) → full (w .state .rx) ≡ u →
     held (cond t (w .rx) (putBytes (w .rx) (w .state .rx) b)) (cond t (flowed (w .state) b) (cond u (lostState (w .state)) (storedState (w .state))) .rx)
     ≡ heldToSend w ++ cond u [] (cond (not t) (b ∷ []) [])
 unfolding flowed lostState storedWith
@@ -75,16 +75,16 @@ line-held w F b true true e = sym (append-nil (heldToSend w))
 line-held w F b true false e = sym (append-nil (heldToSend w))
 line-held w F b false true e =
     ap (λ (l : List ℕ). held l (w .state .rx))
-    (put-full (w .rx) (w .state .rx) b (omega (arith, leb-true (w .state .sizes .rx) (w .state .rx .len) e, rx-fits (w .state) (w .rx) (w .tx) F .size)))
+    (put-full (w .rx) (w .state .rx) b (leb-true (w .state .rx .cap) (w .state .rx .len) e))
     ∙ sym (append-nil (heldToSend w))
-line-held w F b false false e = held-stored w b F (leb-false (w .state .sizes .rx) (w .state .rx .len) e)
+line-held w F b false false e = held-stored w b F (leb-false (w .state .rx .cap) (w .state .rx .len) e)
 
 abbrev Stays : Call → World → Did → Type 0
 Stays c w d = empties c w (d .said) ≡ false → onFrame (isSend (w .state)) false c ≡ false → heldToSend (d .world) ≡ heldToSend w ++ accepted c w (d .said)
 
 module _ (w : World) where
   abbrev F : Bool
-  F = full (w .state .sizes .rx) (w .state .rx)
+  F = full (w .state .rx)
 
   same-ring : (r : Ring) → r ≡ w .state .rx → held (w .rx) r ≡ heldToSend w ++ cond F [] []
   same-ring r e = ap (held (w .rx)) e ∙ none-accepted (heldToSend w) F

@@ -85,7 +85,7 @@ gone-kept s out.Nothing = refl
 
 line-kept : (s : State) (b : ℕ) → lineState s b .notes .request ≡ s .notes .request
 unfolding lineState flowed lostState storedWith
-line-kept s b = by-cond Same (isGoOrStop (s .regs) b) _ _ (λ _. refl) (λ _. by-cond Same (full (s .sizes .rx) (s .rx)) _ _ (λ _. refl) (λ _. refl))
+line-kept s b = by-cond Same (isGoOrStop (s .regs) b) _ _ (λ _. refl) (λ _. by-cond Same (full (s .rx)) _ _ (λ _. refl) (λ _. refl))
   where
     Same : State → Type 0
     Same t = t .notes .request ≡ s .notes .request
@@ -170,7 +170,7 @@ reset-none s t e q = λ i. q i || status.begins (asking s) (both (enabledBy (e i
 starts : (c : Call) (w : World) → empties c w (answer c w) ≡ true → requested (after c w) ≡ false
 unfolding step calls.notRefused outcome settledBy said restarts clears startState cleared
 starts (create m) w = starts-or (create m) w _ _ refl (λ _ _. refl)
-starts (on reset) w = starts-or (on reset) w _ _ refl (λ _ _. reset-none (w .state) (startState (w .state .sizes .margin) _ _) refl refl)
+starts (on reset) w = starts-or (on reset) w _ _ refl (λ _ _. reset-none (w .state) (startState (w .state .margin) _ _) refl refl)
 starts (on (write n v)) w = λ q. absurd (false≢true q)
 starts (on (lineByte b)) w = λ q. absurd (false≢true q)
 starts (on lineBreak) w = λ q. absurd (false≢true q)

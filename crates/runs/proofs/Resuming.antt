@@ -16,12 +16,13 @@ use Rattle.reading.proofs.Cuts.{by-cuts}
 use Rattle.reading.proofs.Reading.{send-at}
 use Rattle.reading.proofs.Lawful.{lawful}
 use Rattle.store.specs.Ring.{held}
+use Rattle.store.specs.Ring as store-ring
 use Rattle.store.proofs.Laws.{drop-len}
 use Rattle.sending.specs.Sending.{givenOf, sendHeld, sentRing}
 use Rattle.state.specs.declared.State.{State}
-use Rattle.state.specs.Sizes.{sizesObeyed, fits}
+use Rattle.state.specs.Sizes.{fits}
 use Rattle.state.specs.Status.{settled}
-use Rattle.state.proofs.Fits.{tests}
+use Rattle.state.proofs.Fits.{sizes-hold, tests, rx-fits}
 use Rattle.line.specs.HoldingOff.{resumed}
 use Rattle.loops.specs.Sending.{ruleOf, talking, ended, removedState, sendState, sendFrom}
 use Rattle.answers.specs.Refusals.{firstRefusal}
@@ -38,7 +39,7 @@ use Rattle.laws.specs.Resuming.{EmptySendResumes}
 use Rattle.runs.proofs.Shapes.{Fits}
 use Rattle.runs.proofs.Refusals.{if-taken, frame-fits}
 use Rattle.runs.proofs.Bytes.{sent-plain, held-all}
-use Rattle.runs.proofs.Sends.{seen-plain}
+use Rattle.runs.proofs.Sends.{sent-cap, seen-plain}
 use Rattle.runs.proofs.FrameKinds.{send-alone, sends-from, kind-of}
 use Rattle.machine.specs.Machine.{Obeys}
 use Rattle.runs.proofs.Steps.{ours, answer, after, at-call}
@@ -98,20 +99,9 @@ few-left r =
 
 -- ---- so holding off ends
 
--- the least size of a receive store
-least-size : (m a b : ℕ) → sizesObeyed m a b ≡ true → 2 * m + 2 ≤ a
-unfolding sizesObeyed
-least-size m a b e =
-    let p = leb 1 m in
-    let q = leb (2 * m + 2) a in
-    let e₀ = and-right (leb m 1024) ((((p && q) && leb a 32768) && leb 3 b) && leb b 32768) e in
-    let e₁ = and-left (((p && q) && leb a 32768) && leb 3 b) (leb b 32768) e₀ in
-    let e₂ = and-left ((p && q) && leb a 32768) (leb 3 b) e₁ in
-    leb-true (2 * m + 2) a (and-right p q (and-left (p && q) (leb a 32768) e₂))
-
 none-resumes : (s : State) (rx tx r : List ℕ) → fits s (length rx) (length tx) ≡ true → sendHeld (ruleOf (s .regs)) rx (s .rx) ≡ none r →
     removedState s rx .line .holding ≡ false
-none-resumes s rx tx r e h = unfold removedState resumed in off (s .line .holding) _ (le-leb (2 * s .sizes .margin) _ room)
+none-resumes s rx tx r e h = unfold removedState resumed in off (s .line .holding) _ (le-leb (2 * s .margin) _ room)
   where
     few : length (sentRest (sendHeld (ruleOf (s .regs)) rx (s .rx))) ≤ 2
     few =
@@ -119,10 +109,13 @@ none-resumes s rx tx r e h = unfold removedState resumed in off (s .line .holdin
         subst (λ (x : Sent ℕ ℕ). length (sentRest x) ≤ 2) (sym h) l
 
     left : sentRing (ruleOf (s .regs)) rx (s .rx) .len ≤ 2
-    left = unfold sentRing in omega (arith, few, drop-len (length rx) (s .rx) (s .rx .len - length (sentRest (sendHeld (ruleOf (s .regs)) rx (s .rx)))))
+    left = unfold sentRing in omega (arith, few, drop-len (s .rx) (s .rx .len - length (sentRest (sendHeld (ruleOf (s .regs)) rx (s .rx)))))
 
-    room : 2 * s .sizes .margin ≤ s .sizes .rx - sentRing (ruleOf (s .regs)) rx (s .rx) .len
-    room = let t = tests s (length rx) (length tx) e in omega (arith, left, t .rxSize, least-size (s .sizes .margin) (length rx) (length tx) (t .sizes))
+    room : 2 * s .margin ≤ store-ring.room (sentRing (ruleOf (s .regs)) rx (s .rx))
+    room =
+        let t = tests s (length rx) (length tx) e in
+        let fit = rx-fits s rx tx e .ring in
+        omega (arith, left, fit .cap, sent-cap (ruleOf (s .regs)) rx (s .rx) fit, sizes-hold (s .margin) (length rx) (length tx) (t .sizes) .rxLeast)
 
     off : (x y : Bool) → y ≡ true → (x && not y) ≡ false
     off true true q = refl

@@ -10,7 +10,7 @@ use Rattle.frame.specs.Frame.{controlOf, stripped}
 use Rattle.frame.proofs.Laws.{made-parts}
 use Rattle.store.specs.declared.Ring.{Ring}
 use Rattle.store.specs.Ring.{Fit, held}
-use Rattle.store.proofs.Laws.{held-length, held-drop, drop-len}
+use Rattle.store.proofs.Laws.{held-length, held-drop, drop-cap, drop-len}
 use Rattle.reading.specs.declared.Rule.{Rule}
 use Rattle.reading.specs.Reading.{sentRest, send}
 use Rattle.reading.specs.Steps.{cut}
@@ -37,7 +37,12 @@ module _ (rule : Rule) (s : List ℕ) (r : Ring) (f : Fit s r) where
   -- and is no longer than before
   pub sent-less : sentRing rule s r .len ≤ r .len
   unfolding sentRing
-  sent-less = omega (arith, drop-len (length s) r (r .len - length (sentRest (sendHeld rule s r))))
+  sent-less = omega (arith, drop-len r (r .len - length (sentRest (sendHeld rule s r))))
+
+  -- the capacity stays
+  pub sent-cap : sentRing rule s r .cap ≡ r .cap
+  unfolding sentRing
+  sent-cap = drop-cap r (r .len - length (sentRest (sendHeld rule s r)))
 
 -- a plain frame is seen as it is, the service bit aside
 pub seen-plain : (s : State) (f : ℕ) → Plain f → dataFrame (said (Frame (serviced s f))) ≡ f ∷ []

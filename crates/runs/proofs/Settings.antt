@@ -2,15 +2,16 @@
 use Prim.Native.Nat.{ℕ}
 use mathlib.Core.Path.{_≡_, refl, sym, ap}
 use mathlib.Core.Bool.{Bool, true, false, cond, true≢false}
-use mathlib.Core.List.{List}
+use mathlib.Core.List.{List, [], _∷_}
 use lib.Dec.{eqb}
 use Rattle.cases.proofs.Cases.{by-cond}
 use Rattle.machine.specs.Machine.{Obeys}
 use Rattle.registers.specs.Writing.{written}
-use Rattle.store.specs.Ring.{full}
+use Rattle.store.specs.Ring.{full, putRing, dropRing}
+use Rattle.store.proofs.Several.{puts-cap}
 use Rattle.sending.specs.declared.Given.{Given}
 use Rattle.sending.specs.declared.Given.the-variants.{Nothing, One}
-use Rattle.sending.specs.Sending.{givenOf, sendHeld}
+use Rattle.sending.specs.Sending.{givenOf, sendHeld, sentRing}
 use Rattle.state.specs.declared.State.{State}
 use Rattle.state.specs.declared.Outcome.{Outcome}
 use Rattle.state.specs.declared.Out.{Out}
@@ -24,7 +25,7 @@ use Rattle.loops.specs.Frames.{obeyed, cleared, finishing, deviceClear, frameTa
 use Rattle.bridge.specs.Calls.{reset, write, lineByte, lineBreak, key, nextLineByte, loopFrame, Call}
 use Rattle.bridge.specs.Calls.{create, show, on, World, Did, outcome, settledBy, notRefused}
 use Rattle.laws.specs.Observers.{taken, onWrite, restarts}
-use Rattle.laws.specs.Starting.{registerValues, SizesStay}
+use Rattle.laws.specs.Starting.{registerValues, recorded, SizesStay}
 use Rattle.laws.specs.Registers.{numbers, writtenTo, RegistersGo}
 use Rattle.laws.proofs.Refusing.{by-refusal}
 use Rattle.laws.proofs.Ways.{Way, isNext, isBack, isLast, isDamaged, isStored, isPassed, isCleared}
@@ -35,7 +36,7 @@ use Rattle.runs.proofs.Steps.{ours}
 -- the registers and the sizes stay
 record Same (s t : State) : Type 0 where
   regs : t .regs ≡ s .regs
-  sizes : t .sizes ≡ s .sizes
+  sizes : recorded t ≡ recorded s
 
 same : (s : State) → Same s s
 same s = record { regs = refl; sizes = refl }
@@ -47,7 +48,7 @@ settled-same s true u e = e
 settled-same s false u e = record { regs = e .regs; sizes = e .sizes }
 
 send-same : (s : State) (rx : List ℕ) → Same s (sendFrom s rx .state)
-unfolding sendFrom sendState ended talking removedState resumed
+unfolding sendFrom sendState ended talking removedState resumed sentRing dropRing
 send-same s rx = go (givenOf (sendHeld (ruleOf (s .regs)) rx (s .rx)))
   where
     go : (g : Given) → Same s (sendState s (removedState s rx) g .state)
@@ -60,7 +61,7 @@ frame-same s rx f o (isNext r m k e) = send-same s rx
 frame-same s rx f o (isBack r m k) = record { regs = refl; sizes = refl }
 frame-same s rx f o (isLast r m k e) = record { regs = refl; sizes = refl }
 frame-same s rx f o (isDamaged r m) = record { regs = refl; sizes = refl }
-frame-same s rx f o (isStored r l) = record { regs = refl; sizes = refl }
+frame-same s rx f o (isStored r l) = record { regs = refl; sizes = ap (λ (n : ℕ). s .margin ∷ s .rx .cap ∷ n ∷ []) (puts-cap (s .tx) _) }
 frame-same s rx f o (isPassed r l) = record { regs = refl; sizes = refl }
 frame-same s rx f o (isCleared r c) = record { regs = refl; sizes = refl }
 frame-same s rx f o (isObeyed r c) = record { regs = refl; sizes = refl }
@@ -72,13 +73,13 @@ frame-same s rx f o (isReady r a x y z) = record { regs = refl; sizes = refl }
 frame-same s rx f o (isIdentified r) = record { regs = refl; sizes = refl }
 
 line-same : (s : State) (b : ℕ) → Same s (lineState s b)
-unfolding lineState flowed lostState storedWith
+unfolding lineState flowed lostState storedWith putRing
 line-same s b =
     by-cond (Same s) (isGoOrStop (s .regs) b) _ _ (λ _. record { regs = refl; sizes = refl })
-    (λ _. by-cond (Same s) (full (s .sizes .rx) (s .rx)) _ _ (λ _. record { regs = refl; sizes = refl }) (λ _. record { regs = refl; sizes = refl }))
+    (λ _. by-cond (Same s) (full (s .rx)) _ _ (λ _. record { regs = refl; sizes = refl }) (λ _. record { regs = refl; sizes = refl }))
 
 gone-same : (s : State) (o : Out) → Same s (goneState s o)
-unfolding goneState
+unfolding goneState dropRing
 gone-same s (out.Own b) = record { regs = refl; sizes = refl }
 gone-same s (out.Held b) = record { regs = refl; sizes = refl }
 gone-same s out.Nothing = record { regs = refl; sizes = refl }
@@ -119,12 +120,12 @@ registers-go c w _ = by-refusal (Goes c w) c w (λ _. done-goes c w) (λ _. refu
 
 -- ---- the sizes
 
-write-sizes : (s : State) (n v : ℕ) → afterWrite s n (written (s .regs) n v) .sizes ≡ s .sizes
+write-sizes : (s : State) (n v : ℕ) → recorded (afterWrite s n (written (s .regs) n v)) ≡ recorded s
 unfolding afterWrite setAfresh
-write-sizes s n v = by-cond (λ (t : State). t .sizes ≡ s .sizes) (eqb n 11) _ _ (λ _. refl) (λ _. refl)
+write-sizes s n v = by-cond (λ (t : State). recorded t ≡ recorded s) (eqb n 11) _ _ (λ _. refl) (λ _. refl)
 
 abbrev Stay : Call → World → Did → Type 0
-Stay c w d = restarts c (d .said) ≡ false → d .world .state .sizes ≡ w .state .sizes
+Stay c w d = restarts c (d .said) ≡ false → recorded (d .world .state) ≡ recorded (w .state)
 
 done-stay : (c : Call) (w : World) → Stay c w (notRefused c w)
 unfolding notRefused outcome settledBy settled restarts said breakState keyState

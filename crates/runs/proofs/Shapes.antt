@@ -10,7 +10,6 @@ use Rattle.store.specs.Ring.{held, emptyRing, putBytes, putsRing, putsBytes, dr
 use Rattle.reading.specs.Reading.{none, one}
 use Rattle.sending.specs.Sending.{sendHeld, sentRing}
 use Rattle.state.specs.declared.State.{State}
-use Rattle.state.specs.declared.Sizes.{Sizes}
 use Rattle.state.specs.declared.Counts.{Counts}
 use Rattle.answers.specs.declared.Answer.the-variants.{Frame}
 use Rattle.answers.specs.Answers.{Said, said}
@@ -50,7 +49,7 @@ seen c w a =
 
 -- the part of a state that runs are about
 pub record Heart : Type 0 where
-  pub sizes : Sizes
+  pub margin : ℕ
   pub regs : Registers
   pub rx : Ring
   pub tx : Ring
@@ -60,7 +59,7 @@ pub record Heart : Type 0 where
 abbrev pub heart : State → Heart
 heart s =
     record {
-      sizes = s .sizes;
+      margin = s .margin;
       regs = s .regs;
       rx = s .rx;
       tx = s .tx;
@@ -95,7 +94,7 @@ Fits w = fits (w .state) (length (w .rx)) (length (w .tx)) ≡ true
 abbrev pub withTransmit : State → Ring → Heart
 withTransmit s r =
     record {
-      sizes = s .sizes;
+      margin = s .margin;
       regs = s .regs;
       rx = s .rx;
       tx = r;
@@ -106,7 +105,7 @@ withTransmit s r =
 abbrev pub withReceive : State → Ring → Bool → Counts → Heart
 withReceive s r h n =
     record {
-      sizes = s .sizes;
+      margin = s .margin;
       regs = s .regs;
       rx = r;
       tx = s .tx;
@@ -120,7 +119,7 @@ pub data Shape (w : World) : Seen → Heart → List ℕ → List ℕ → Type 0
   isWritten : (g : Registers) (h : Bool) →
       Shape w (begun true false)
       (record {
-        sizes = w .state .sizes;
+        margin = w .state .margin;
         regs = g;
         rx = w .state .rx;
         tx = w .state .tx;
@@ -131,22 +130,22 @@ pub data Shape (w : World) : Seen → Heart → List ℕ → List ℕ → Type 0
   isCleared :
       Shape w (frames [] [] true)
       (record {
-        sizes = w .state .sizes;
+        margin = w .state .margin;
         regs = w .state .regs;
-        rx = emptyRing;
-        tx = emptyRing;
+        rx = emptyRing (w .state .rx .cap);
+        tx = emptyRing (w .state .tx .cap);
         holding = false;
         counts = w .state .counts;
       })
       (w .rx) (w .tx)
-  isStored : (b : ℕ) → Fits w → w .state .rx .len < w .state .sizes .rx →
+  isStored : (b : ℕ) → Fits w → w .state .rx .len < w .state .rx .cap →
       Shape w (takes (b ∷ []) (b ∷ []) [])
       (heart (storedState (w .state)))
       (putBytes (w .rx) (w .state .rx) b) (w .tx)
-  isLost : (b : ℕ) → w .state .sizes .rx ≤ w .state .rx .len →
+  isLost : (b : ℕ) → w .state .rx .cap ≤ w .state .rx .len →
       Shape w (takes (b ∷ []) [] (b ∷ []))
       (record {
-        sizes = w .state .sizes;
+        margin = w .state .margin;
         regs = w .state .regs;
         rx = w .state .rx;
         tx = w .state .tx;
@@ -166,7 +165,7 @@ pub data Shape (w : World) : Seen → Heart → List ℕ → List ℕ → Type 0
       (removedState (w .state) (w .rx) .line .holding)
       (w .state .counts))
       (w .rx) (w .tx)
-  isLeft : (l : List ℕ) → Fits w → w .state .tx .len + length l ≤ w .state .sizes .tx →
-      Shape w (frames [] l false) (withTransmit (w .state) (putsRing (w .state .sizes .tx) (w .state .tx) l)) (w .rx) (putsBytes (w .tx) (w .state .tx) l)
+  isLeft : (l : List ℕ) → Fits w → w .state .tx .len + length l ≤ w .state .tx .cap →
+      Shape w (frames [] l false) (withTransmit (w .state) (putsRing (w .state .tx) l)) (w .rx) (putsBytes (w .tx) (w .state .tx) l)
   isHanded : Fits w → 0 < w .state .tx .len →
-      Shape w (hands (getD (held (w .tx) (w .state .tx)) 0 0 ∷ [])) (withTransmit (w .state) (dropRing (w .state .sizes .tx) (w .state .tx) 1)) (w .rx) (w .tx)
+      Shape w (hands (getD (held (w .tx) (w .state .tx)) 0 0 ∷ [])) (withTransmit (w .state) (dropRing (w .state .tx) 1)) (w .rx) (w .tx)

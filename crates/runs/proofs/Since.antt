@@ -21,9 +21,9 @@ use Rattle.laws.proofs.Fitting.{keeps-bytes}
 emptied : (w : World) (x : Seen) (h : Heart) (rx tx : List ℕ) → Shape w x h rx tx → x .empties ≡ true → held rx (h .rx) ≡ []
 unfolding startState
 emptied w x h rx tx isStill n = absurd (false≢true n)
-emptied w x h rx tx (isBegun m) n = held-empty (w .rx)
+emptied w x h rx tx (isBegun m) n = held-empty (w .rx) _
 emptied w x h rx tx (isWritten g t) n = absurd (false≢true n)
-emptied w x h rx tx isCleared n = held-empty (w .rx)
+emptied w x h rx tx isCleared n = held-empty (w .rx) _
 emptied w x h rx tx (isStored b F l) n = absurd (false≢true n)
 emptied w x h rx tx (isLost b l) n = absurd (false≢true n)
 emptied w x h rx tx (isSent f r F e) n = absurd (false≢true n)

@@ -216,7 +216,7 @@ line-left : (s : State) (b : ℕ) → Left s (part (lineState s b))
 unfolding lineState flowed lostState storedWith
 line-left s b =
     by-cond (λ (t : State). Left s (part t)) (isGoOrStop (s .regs) b) _ _ (λ _. same s _ refl)
-    (λ _. by-cond (λ (t : State). Left s (part t)) (full (s .sizes .rx) (s .rx)) _ _
+    (λ _. by-cond (λ (t : State). Left s (part t)) (full (s .rx)) _ _
     (λ _. record { talker = refl; frame = refl; seen = noting overrun (s .notes .seen); again = noting overrun (s .notes .again) })
     (λ _. same s _ refl))
 

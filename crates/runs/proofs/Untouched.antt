@@ -35,7 +35,7 @@ pub line-untouched : (s : State) (b : ℕ) → Untouched s (lineState s b)
 unfolding lineState flowed lostState storedWith
 line-untouched s b =
     by-cond (Untouched s) (isGoOrStop (s .regs) b) _ _ (λ _. record { role = refl; under = refl })
-    (λ _. by-cond (Untouched s) (full (s .sizes .rx) (s .rx)) _ _ (λ _. record { role = refl; under = refl }) (λ _. record { role = refl; under = refl }))
+    (λ _. by-cond (Untouched s) (full (s .rx)) _ _ (λ _. record { role = refl; under = refl }) (λ _. record { role = refl; under = refl }))
 
 pub gone-untouched : (s : State) (o : Out) → Untouched s (goneState s o)
 unfolding goneState

@@ -49,7 +49,7 @@ module _ (w : World) where
 pub view : (c : Call) (w : World) → Shaped w c (step c w)
 unfolding step checks calls.notRefused outcome settledBy rxAfter txAfter settled said arrived sent added handedOut restarts writes clears breakState keyState
 view (create m) w = refused-or w (create m) _ _ (λ e. quietly (create m) w done _ _ _ refl (isBegun m))
-view (on reset) w = refused-or w (on reset) _ _ (λ e. quietly (on reset) w done _ _ _ refl (isBegun (w .state .sizes .margin)))
+view (on reset) w = refused-or w (on reset) _ _ (λ e. quietly (on reset) w done _ _ _ refl (isBegun (w .state .margin)))
 view (on (write n v)) w = refused-or w (on (write n v)) _ _ (λ e. write-shape w n v)
 view (on (lineByte b)) w = refused-or w (on (lineByte b)) _ _ (λ e. line-shape w (fitting (lineByte b) w e .0) b)
 view (on lineBreak) w = refused-or w (on lineBreak) _ _ (λ e. quietly (on lineBreak) w done _ _ _ refl isStill)

@@ -7,7 +7,7 @@ use mathlib.Core.Bool.{true, false, false≢true}
 use lib.ListN.{length, getD, drop, length-drop, List·getD-eq-default}
 use Rattle.frame.specs.Frame.{made}
 use Rattle.store.specs.declared.Ring.{Ring}
-use Rattle.store.specs.Ring.{Fit, held, dropRing}
+use Rattle.store.specs.Ring.{Within, Fit, held, dropRing}
 use Rattle.store.specs.Promises.{Dropped}
 use Rattle.store.proofs.Promises.{held-length, drop-none, drop-again}
 use Rattle.reading.specs.declared.Rule.{Rule}
@@ -38,30 +38,30 @@ pair-enough rule s q f e = enough rule s q Removed f (removed-is (decision rule 
 
 pub left-start : (rule : Rule) (s : List ℕ) (r : Ring) → Fit s r → Left rule s r r
 left-start rule s r f =
-    record { fit = f; less = omega arith; ring = sym (drop-none s r f) ∙ ap (dropRing (length s) r) (omega arith); same = refl }
+    record { fit = f; less = omega arith; ring = sym (drop-none r (f .within)) ∙ ap (dropRing r) (omega arith); same = refl }
 
 -- n bytes more dropped from a ring on the way
-further : (s : List ℕ) (r q o : Ring) (n : ℕ) → Fit s r → q .len ≤ r .len → n ≤ q .len → q ≡ dropRing (length s) r (r .len - q .len) → Dropped s q n o →
-    o ≡ dropRing (length s) r (r .len - (q .len - n))
-further s r q o n f less h e d =
+further : (r q o : Ring) (n : ℕ) → Within r → q .len ≤ r .len → n ≤ q .len → q ≡ dropRing r (r .len - q .len) → Dropped q n o →
+    o ≡ dropRing r (r .len - (q .len - n))
+further r q o n f less h e d =
     d .ring
-    ∙ ap (λ (x : Ring). dropRing (length s) x n) e
-    ∙ drop-again s r (r .len - q .len) n f (omega arith)
-    ∙ ap (dropRing (length s) r) (omega arith)
+    ∙ ap (λ (x : Ring). dropRing x n) e
+    ∙ drop-again r (r .len - q .len) n f (omega arith)
+    ∙ ap (dropRing r) (omega arith)
 
-pub left-again : (rule : Rule) (s : List ℕ) (r q o : Ring) → Fit s r → Left rule s r q → isRemoved (decision rule (held s q)) ≡ true → Dropped s q 2 o → Left rule s r o
+pub left-again : (rule : Rule) (s : List ℕ) (r q o : Ring) → Fit s r → Left rule s r q → isRemoved (decision rule (held s q)) ≡ true → Dropped q 2 o → Left rule s r o
 unfolding sendHeld
 left-again rule s r q o f l e d =
     let two : 2 ≤ q .len = pair-enough rule s q (l .fit) e in
     let n : o .len ≡ q .len - 2 = d .len in
     record {
-      fit = d .fit;
+      fit = d .fit s (l .fit);
       less = omega (arith, l .less);
-      ring = further s r q o 2 f (l .less) two (l .ring) d ∙ ap (λ (k : ℕ). dropRing (length s) r (r .len - k)) (sym n);
+      ring = further r q o 2 (f .within) (l .less) two (l .ring) d ∙ ap (λ (k : ℕ). dropRing r (r .len - k)) (sym n);
       same =
           l .same
           ∙ send-removed rule (held s q) (removed-is (decision rule (held s q)) e)
-          ∙ ap (send (cut rule)) (sym (d .holds));
+          ∙ ap (send (cut rule)) (sym (d .holds s (l .fit)));
     }
 
 module _ (rule : Rule) (s : List ℕ) (r q : Ring) (f : Fit s r) (l : Left rule s r q) where
@@ -75,9 +75,9 @@ module _ (rule : Rule) (s : List ℕ) (r q : Ring) (f : Fit s r) (l : Left rule 
       ap (λ (x : Sent ℕ ℕ). length (sentRest x)) whole ∙ length-drop n (held s q) ∙ ap (λ (k : ℕ). k - n) (held-length s q (l .fit)) in
       record {
         given = g .given ∙ sym (ap givenOf whole);
-        ring = further s r q (o .ring) n f (l .less) h (l .ring) (g .dropped) ∙ ap (λ (k : ℕ). dropRing (length s) r (r .len - k)) (sym size);
-        fit = g .dropped .fit;
-        holds = g .dropped .holds ∙ sym (ap sentRest whole);
+        ring = further r q (o .ring) n (f .within) (l .less) h (l .ring) (g .dropped) ∙ ap (λ (k : ℕ). dropRing r (r .len - k)) (sym size);
+        fit = g .dropped .fit s (l .fit);
+        holds = g .dropped .holds s (l .fit) ∙ sym (ap sentRest whole);
       }
 
   pub end-met : (o : Sending) → decision rule (held s q) ≡ End → Goes s q 2 3 o → Sends rule s r o
@@ -95,7 +95,7 @@ module _ (rule : Rule) (s : List ℕ) (r q : Ring) (f : Fit s r) (l : Left rule 
       let size : length (sentRest (sendHeld rule s r)) ≡ q .len = ap (λ (x : Sent ℕ ℕ). length (sentRest x)) whole ∙ held-length s q (l .fit) in
       record {
         given = sym (ap givenOf whole);
-        ring = l .ring ∙ ap (λ (k : ℕ). dropRing (length s) r (r .len - k)) (sym size);
+        ring = l .ring ∙ ap (λ (k : ℕ). dropRing r (r .len - k)) (sym size);
         fit = l .fit;
         holds = sym (ap sentRest whole);
       }
@@ -113,5 +113,5 @@ pub decided-met : (rule : Rule) (s : List ℕ) (r : Ring) (a b c : ℕ) (d : Dec
     d ≡ decision rule (firsts (r .len) a b c) → d ≡ decision rule (held s r)
 decided-met rule s r a b c d f p q t e = e ∙ on-oldest rule (held s r) (r .len) a b c (held-length s r f) (λ _. p) (λ _. q) (λ _. t)
 
-pub gone-met : (s : List ℕ) (q : Ring) (control n b x : ℕ) (o : Ring) → b ≡ getD (held s q) 0 0 → x ≡ made control b → Dropped s q n o → Goes s q control n (record { given = One x; ring = o })
+pub gone-met : (s : List ℕ) (q : Ring) (control n b x : ℕ) (o : Ring) → b ≡ getD (held s q) 0 0 → x ≡ made control b → Dropped q n o → Goes s q control n (record { given = One x; ring = o })
 gone-met s q control n b x o e m d = record { given = ap One (m ∙ ap (made control) e); dropped = d }

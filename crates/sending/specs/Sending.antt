@@ -33,7 +33,7 @@ send-reads rule s r = refl
 
 -- the ring without what the send removed
 unfoldable pub sentRing : Rule → List ℕ → Ring → Ring
-sentRing rule s r = dropRing (length s) r (r .len - length (sentRest (sendHeld rule s r)))
+sentRing rule s r = dropRing r (r .len - length (sentRest (sendHeld rule s r)))
 
 -- the promise of a send
 pub record Sends (rule : Rule) (s : List ℕ) (r : Ring) (o : Sending) : Type 0 where
@@ -53,7 +53,7 @@ isRemoved Wait = false
 pub record Left (rule : Rule) (s : List ℕ) (r q : Ring) : Type 0 where
   pub fit : Fit s q
   pub less : q .len ≤ r .len
-  pub ring : q ≡ dropRing (length s) r (r .len - q .len)
+  pub ring : q ≡ dropRing r (r .len - q .len)
   pub same : sendHeld rule s r ≡ sendHeld rule s q
 
 -- step 1 as often as it holds
@@ -64,4 +64,4 @@ pub record Skips (rule : Rule) (s : List ℕ) (r q : Ring) : Type 0 where
 -- a frame that takes the n oldest bytes
 pub record Goes (s : List ℕ) (q : Ring) (control n : ℕ) (o : Sending) : Type 0 where
   pub given : o .given ≡ One (made control (getD (held s q) 0 0))
-  pub dropped : Dropped s q n (o .ring)
+  pub dropped : Dropped q n (o .ring)

@@ -61,7 +61,7 @@ fn skipped(rule: Rule, s: &[u8], r: Ring) -> Ring
 {
     let mut q = r;
     while removes(decided(rule, s, q)) {
-        q = store::drop_oldest(s, q, 2);
+        q = store::drop_oldest(q, 2);
     }
     q
 }
@@ -74,7 +74,7 @@ fn gone(s: &[u8], q: Ring, control: u8, n: usize) -> Sending
 {
     let first = oldest(s, q, 0);
     let frame = frame::make(control, first);
-    let left = store::drop_oldest(s, q, n);
+    let left = store::drop_oldest(q, n);
     Sending {
         given: Given::One(frame),
         ring: left,

@@ -1,25 +1,51 @@
 -- What a state that fits gives to the functions of the bridge. Assumes nothing.
-use Prim.Native.Nat.{ℕ, _≤_, _<_}
-use native.Mathlib.Omega.{arith}
-use mathlib.Core.Path.{_≡_, sym, _∙_}
-use mathlib.Core.List.{List}
+use Prim.Native.Nat.{ℕ, zero, suc, _+_, _*_, _≤_, _<_}
+use mathlib.Core.Path.{_≡_, refl, sym, _∙_}
+use mathlib.Core.List.{List, [], _∷_}
 use mathlib.Core.Bool.{Bool, true, false, _&&_, not}
-use lib.Dec.{eqb, leb, ltb}
-use lib.ListN.{length}
-use borrow.Author.Tests.{eqb-true, leb-true, ltb-true, not-true, not-false}
+use lib.Dec.{leb}
+use lib.ListN.{length, getD}
+use borrow.Author.Tests.{leb-true, ltb-true, not-true, not-false}
 use Rattle.cases.proofs.Cases.{and-left, and-right}
 use Rattle.store.specs.Ring as store-ring
 use Rattle.store.proofs.Laws.{fit-true}
 use Rattle.role.specs.Fit as role-fit
 use Rattle.registers.specs.Fit.{registersFit}
 use Rattle.state.specs.declared.State.{State}
-use Rattle.state.specs.Sizes.{sizesObeyed, fits, RxFits, TxFits}
+use Rattle.state.specs.Sizes.{allHold, marginObeyed, receiveObeyed, transmitObeyed, sizesObeyed, fitTests, fits, RxFits, TxFits}
+
+-- a test of a list that holds whole
+hold-at : (ts : List Bool) (n : ℕ) → allHold ts ≡ true → getD ts n true ≡ true
+hold-at [] zero e = refl
+hold-at [] (suc n) e = refl
+hold-at (t ∷ ts) zero e = and-left t (allHold ts) e
+hold-at (t ∷ ts) (suc n) e = hold-at ts n (and-right t (allHold ts) e)
+
+-- what sizes that are obeyed come to
+pub record Obeyed (m rx tx : ℕ) : Type 0 where
+  pub some : 1 ≤ m
+  pub most : m ≤ 1024
+  pub rxLeast : 2 * m + 2 ≤ rx
+  pub rxMost : rx ≤ 32768
+  pub txLeast : 3 ≤ tx
+  pub txMost : tx ≤ 32768
+
+pub sizes-hold : (m rx tx : ℕ) → sizesObeyed m rx tx ≡ true → Obeyed m rx tx
+unfolding sizesObeyed
+sizes-hold m rx tx e =
+    let ts : List Bool = marginObeyed m ∷ receiveObeyed m rx ∷ transmitObeyed tx ∷ [] in
+    record {
+      some = leb-true 1 m (and-left (leb 1 m) (leb m 1024) (hold-at ts 0 e));
+      most = leb-true m 1024 (and-right (leb 1 m) (leb m 1024) (hold-at ts 0 e));
+      rxLeast = leb-true (2 * m + 2) rx (and-left (leb (2 * m + 2) rx) (leb rx 32768) (hold-at ts 1 e));
+      rxMost = leb-true rx 32768 (and-right (leb (2 * m + 2) rx) (leb rx 32768) (hold-at ts 1 e));
+      txLeast = leb-true 3 tx (and-left (leb 3 tx) (leb tx 32768) (hold-at ts 2 e));
+      txMost = leb-true tx 32768 (and-right (leb 3 tx) (leb tx 32768) (hold-at ts 2 e));
+    }
 
 -- each test of a state that fits
 pub record Tests (s : State) (rx tx : ℕ) : Type 0 where
-  pub rxSize : s .sizes .rx ≡ rx
-  pub txSize : s .sizes .tx ≡ tx
-  pub sizes : sizesObeyed (s .sizes .margin) rx tx ≡ true
+  pub sizes : sizesObeyed (s .margin) rx tx ≡ true
   pub regs : registersFit (s .regs) ≡ true
   pub role : role-fit.fitTest (s .role) ≡ true
   pub frame : s .under .frame < 1024
@@ -27,54 +53,28 @@ pub record Tests (s : State) (rx tx : ℕ) : Type 0 where
   pub txRing : store-ring.fitTest tx (s .tx) ≡ true
 
 pub tests : (s : State) (rx tx : ℕ) → fits s rx tx ≡ true → Tests s rx tx
-unfolding fits
+unfolding fits registersFit
 tests s rx tx e =
-    let a = eqb (s .sizes .rx) rx in
-    let b = eqb (s .sizes .tx) tx in
-    let c = sizesObeyed (s .sizes .margin) rx tx in
-    let d = registersFit (s .regs) in
-    let r = role-fit.fitTest (s .role) in
-    let f = ltb (s .under .frame) 1024 in
-    let g = store-ring.fitTest rx (s .rx) in
-    let h = store-ring.fitTest tx (s .tx) in
-    let e₇ : (((((a && b) && c) && d) && r) && f) && g ≡ true = and-left _ h e in
-    let e₆ : ((((a && b) && c) && d) && r) && f ≡ true = and-left _ g e₇ in
-    let e₅ : (((a && b) && c) && d) && r ≡ true = and-left _ f e₆ in
-    let e₄ : ((a && b) && c) && d ≡ true = and-left _ r e₅ in
-    let e₃ : (a && b) && c ≡ true = and-left _ d e₄ in
-    let e₂ : a && b ≡ true = and-left _ c e₃ in
+    let ts : List Bool = fitTests s rx tx in
     record {
-      rxSize = eqb-true (s .sizes .rx) rx (and-left a b e₂);
-      txSize = eqb-true (s .sizes .tx) tx (and-right a b e₂);
-      sizes = and-right (a && b) c e₃;
-      regs = and-right ((a && b) && c) d e₄;
-      role = and-right (((a && b) && c) && d) r e₅;
-      frame = ltb-true (s .under .frame) 1024 (and-right ((((a && b) && c) && d) && r) f e₆);
-      rxRing = and-right (((((a && b) && c) && d) && r) && f) g e₇;
-      txRing = and-right ((((((a && b) && c) && d) && r) && f) && g) h e;
+      sizes = hold-at ts 2 e;
+      regs = rw (hold-at ts 3 e, hold-at ts 4 e);
+      role = rw (hold-at ts 5 e, hold-at ts 6 e);
+      frame = ltb-true (s .under .frame) 1024 (hold-at ts 7 e);
+      rxRing = hold-at ts 0 e;
+      txRing = hold-at ts 1 e;
     }
-
--- the margin of sizes that are obeyed
-pub margin-small : (m rx tx : ℕ) → sizesObeyed m rx tx ≡ true → m ≤ 1024
-unfolding sizesObeyed
-margin-small m rx tx e = leb-true m 1024 (and-left (leb m 1024) _ e)
 
 module _ (s : State) (rx tx : List ℕ) (e : fits s (length rx) (length tx) ≡ true) where
   pub rx-fits : RxFits s rx
   rx-fits =
       let t : Tests s (length rx) (length tx) = tests s (length rx) (length tx) e in
-      record { size = t .rxSize; ring = fit-true rx (s .rx) (t .rxRing); margin = margin-small (s .sizes .margin) (length rx) (length tx) (t .sizes) }
+      record { ring = fit-true rx (s .rx) (t .rxRing); margin = sizes-hold (s .margin) (length rx) (length tx) (t .sizes) .most }
 
   pub tx-fits : TxFits s tx
   tx-fits =
       let t : Tests s (length rx) (length tx) = tests s (length rx) (length tx) e in
-      record { size = t .txSize; ring = fit-true tx (s .tx) (t .txRing) }
-
-  pub rx-room : s .rx .len ≤ s .sizes .rx
-  rx-room = let f : RxFits s rx = rx-fits in omega (arith, f .size, f .ring .len)
-
-  pub tx-room : s .tx .len ≤ s .sizes .tx
-  tx-room = let f : TxFits s tx = tx-fits in omega (arith, f .size, f .ring .len)
+      record { ring = fit-true tx (s .tx) (t .txRing) }
 
 -- what the test of fit told
 pub is-misfit : {r t : Bool} → r ≡ t → not r ≡ true → t ≡ false

@@ -1,8 +1,9 @@
 -- What the parts of a state's functions come to, on plain values. Assumes nothing.
-use Prim.Native.Nat.{ℕ}
+use Prim.Native.Nat.{ℕ, _+_, _*_, _≤_, _<_}
 use mathlib.Core.Path.{_≡_}
-use mathlib.Core.Bool.{Bool, false, _&&_, _||_}
-use lib.Dec.{eqb, ltb}
+use mathlib.Core.Bool.{Bool, false, _&&_, _||_, and-assoc, and-true, and-false}
+use lib.Dec.{leb, ltb}
+use borrow.Author.Tests.{le-leb, lt-leb}
 use Rattle.registers.specs.declared.Registers.{Registers}
 use Rattle.registers.specs.Table.{startRegisters}
 use Rattle.registers.specs.Fit.{registersFit}
@@ -20,9 +21,9 @@ use Rattle.state.specs.State.{noEvents, notesWith, noFrame}
 use Rattle.state.specs.Sizes.{sizesObeyed, startState, fits}
 use Rattle.state.specs.Status.{conditions, enabledBy, asking, withRequest, settled, shows, statusOf, afterStatus, afterStatusBack}
 
-pub start-met : (m a b : ℕ) (g : Registers) (r : Role) (x y : Ring) (p q : Events) → g ≡ startRegisters → r ≡ startRole → x ≡ store-ring.emptyRing → y ≡ store-ring.emptyRing → p ≡ noEvents → q ≡ noEvents →
+pub start-met : (m a b : ℕ) (g : Registers) (r : Role) (x y : Ring) (p q : Events) → g ≡ startRegisters → r ≡ startRole → x ≡ store-ring.emptyRing a → y ≡ store-ring.emptyRing b → p ≡ noEvents → q ≡ noEvents →
     record {
-      sizes = record { rx = a; tx = b; margin = m };
+      margin = m;
       regs = g;
       role = r;
       under = noFrame;
@@ -35,10 +36,18 @@ pub start-met : (m a b : ℕ) (g : Registers) (r : Role) (x y : Ring) (p q : Eve
 unfolding startState
 start-met m a b g r x y p q eg er ex ey ep eq = rw (eg, er, ex, ey, ep, eq)
 
-pub fits-met : (s : State) (a b : ℕ) (z g r x y : Bool) → z ≡ sizesObeyed (s .sizes .margin) a b → g ≡ registersFit (s .regs) → r ≡ role-fit.fitTest (s .role) → x ≡ store-ring.fitTest a (s .rx) → y ≡ store-ring.fitTest b (s .tx) →
-    (((((((eqb (s .sizes .rx) a && eqb (s .sizes .tx) b) && z) && g) && r) && ltb (s .under .frame) 1024) && x) && y) ≡ fits s a b
-unfolding fits
-fits-met s a b z g r x y ez eg er ex ey = rw (ez, eg, er, ex, ey)
+pub sizes-large : (m a b : ℕ) → 1024 < m → false ≡ sizesObeyed m a b
+unfolding sizesObeyed
+sizes-large m a b h = simp (lt-leb m 1024 h, and-false)
+
+pub sizes-met : (m a b : ℕ) → m ≤ 1024 → ((((leb 1 m && leb (2 * m + 2) a) && leb a 32768) && leb 3 b) && leb b 32768) ≡ sizesObeyed m a b
+unfolding sizesObeyed
+sizes-met m a b h = simp (le-leb m 1024 h, and-assoc, and-true)
+
+pub fits-met : (s : State) (a b : ℕ) (x y z g r : Bool) → x ≡ store-ring.fitTest a (s .rx) → y ≡ store-ring.fitTest b (s .tx) → z ≡ sizesObeyed (s .margin) a b → g ≡ registersFit (s .regs) → r ≡ role-fit.fitTest (s .role) →
+    (((((x && y) && z) && g) && r) && ltb (s .under .frame) 1024) ≡ fits s a b
+unfolding fits registersFit
+fits-met s a b x y z g r ex ey ez eg er = rw (ex, ey, ez, eg, er) (simp (and-assoc, and-true))
 
 pub enabled-met : (g : Registers) (a b c d e f h : Bool) → a ≡ transmitEmptyEnabled g → b ≡ transmitNotFullEnabled g → c ≡ receiveNotEmptyEnabled g → d ≡ receiveFullEnabled g → e ≡ breakEnabled g → f ≡ overrunEnabled g → h ≡ keyEnabled g →
     record { txempty = a; txnotfull = b; rxnotempty = c; rxfull = d; brk = e; overrun = f; key = h } ≡ enabledBy g

@@ -1,51 +1,101 @@
 -- "Sizes and refusals": the sizes, the start, and when a state fits.
 use Prim.Native.Nat.{ℕ, _+_, _*_, _≤_}
-use mathlib.Core.Path.{_≡_}
-use mathlib.Core.List.{List}
-use lib.ListN.{length}
-use mathlib.Core.Bool.{Bool, false, _&&_}
-use lib.Dec.{eqb, leb, ltb}
+use mathlib.Core.List.{List, [], _∷_}
+use mathlib.Core.Bool.{Bool, true, false, _&&_, not}
+use lib.Dec.{leb, ltb}
 use Rattle.registers.specs.Table.{startRegisters}
-use Rattle.registers.specs.Fit.{registersFit}
-use Rattle.role.specs.Parts.{startRole}
-use Rattle.role.specs.Fit as role-fit
+use Rattle.registers.specs.Fit.{values, allInRange}
+use Rattle.registers.specs.Writing.{goIsStop}
+use Rattle.role.specs.Parts.{startRole, unassigned, activeStatus, isTalker}
 use Rattle.store.specs.Ring as store-ring
 use Rattle.state.specs.declared.State.{State}
 use Rattle.state.specs.State.{noEvents, noFrame}
 
--- "Margin m is 1 to 1,024. The receive store has 2m+2 to 32,768 bytes, the transmit store 3 to 32,768."
+-- every test of a list holds
+abbrev pub allHold : List Bool → Bool
+allHold [] = true
+allHold (t ∷ ts) = t && allHold ts
+
+-- ---- Sizes and refusals, first: the sizes
+
+-- the margin
+abbrev pub marginObeyed : ℕ → Bool
+marginObeyed m = leb 1 m && leb m 1024
+
+-- the receive store, which has room to resume with two bytes undecided
+abbrev pub receiveObeyed : ℕ → ℕ → Bool
+receiveObeyed m rx = leb (2 * m + 2) rx && leb rx 32768
+
+-- the transmit store
+abbrev pub transmitObeyed : ℕ → Bool
+transmitObeyed tx = leb 3 tx && leb tx 32768
+
 unfoldable pub sizesObeyed : ℕ → ℕ → ℕ → Bool
-sizesObeyed m rx tx = leb m 1024 && ((((leb 1 m && leb (2 * m + 2) rx) && leb rx 32768) && leb 3 tx) && leb tx 32768)
+sizesObeyed m rx tx = allHold (marginObeyed m ∷ receiveObeyed m rx ∷ transmitObeyed tx ∷ [])
+
+-- ---- the start
 
 -- the state after create: start values, empty stores, no frame under way, go the last of go and stop that we sent, counts 0
 unfoldable pub startState : ℕ → ℕ → ℕ → State
 startState m rx tx =
     record {
-      sizes = record { rx = rx; tx = tx; margin = m };
+      margin = m;
       regs = startRegisters;
       role = startRole;
       under = noFrame;
-      rx = store-ring.emptyRing;
-      tx = store-ring.emptyRing;
+      rx = store-ring.emptyRing rx;
+      tx = store-ring.emptyRing tx;
       line = record { holding = false; forbidden = false; stopped = false };
       notes = record { seen = noEvents; again = noEvents; request = false };
       counts = record { stored = 0; lost = 0; sent = 0 };
     }
 
--- "A state fits if its recorded lengths are those of the stores and obey the sizes above with its margin, every field is in its range,
--- go and stop differ, and it is not talker and listener at once": the registers, the role, the frame under way (a data frame) and both
--- rings have ranges of their own, and every value of the other fields is in range
+-- ---- Sizes and refusals, a state fits: a test for each clause; every value of the fields that none of them names is in range
+
+-- the length that a ring records is that of its store, and the ring is in range
+abbrev pub receiveRecorded : State → ℕ → Bool
+receiveRecorded s rx = store-ring.fitTest rx (s .rx)
+
+abbrev pub transmitRecorded : State → ℕ → Bool
+transmitRecorded s tx = store-ring.fitTest tx (s .tx)
+
+-- every field in its range, by part: the registers, the role, and the frame under way, which is a data frame
+abbrev pub registersInRange : State → Bool
+registersInRange s = allInRange (values (s .regs))
+
+abbrev pub roleInRange : State → Bool
+roleInRange s = leb (s .role .address) unassigned && leb (s .role .talker) activeStatus
+
+abbrev pub frameInRange : State → Bool
+frameInRange s = ltb (s .under .frame) 1024
+
+-- go and stop differ
+abbrev pub goAndStopDiffer : State → Bool
+goAndStopDiffer s = not (goIsStop (s .regs))
+
+-- not talker and listener at once
+abbrev pub notBoth : State → Bool
+notBoth s = not (isTalker (s .role) && s .role .listener)
+
+abbrev pub fitTests : State → ℕ → ℕ → List Bool
+fitTests s rx tx =
+    receiveRecorded s rx
+    ∷ transmitRecorded s tx
+    ∷ sizesObeyed (s .margin) rx tx
+    ∷ registersInRange s
+    ∷ goAndStopDiffer s
+    ∷ roleInRange s
+    ∷ notBoth s
+    ∷ frameInRange s
+    ∷ []
+
 unfoldable pub fits : State → ℕ → ℕ → Bool
-fits s rx tx =
-    ((((((eqb (s .sizes .rx) rx && eqb (s .sizes .tx) tx) && sizesObeyed (s .sizes .margin) rx tx) && registersFit (s .regs))
-    && role-fit.fitTest (s .role)) && ltb (s .under .frame) 1024) && store-ring.fitTest rx (s .rx)) && store-ring.fitTest tx (s .tx)
+fits s rx tx = allHold (fitTests s rx tx)
 
 -- what fitting says of the receive side, and of the transmit side
 pub record RxFits (s : State) (rx : List ℕ) : Type 0 where
-  pub size : s .sizes .rx ≡ length rx
   pub ring : store-ring.Fit rx (s .rx)
-  pub margin : s .sizes .margin ≤ 1024
+  pub margin : s .margin ≤ 1024
 
 pub record TxFits (s : State) (tx : List ℕ) : Type 0 where
-  pub size : s .sizes .tx ≡ length tx
   pub ring : store-ring.Fit tx (s .tx)

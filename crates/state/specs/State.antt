@@ -11,28 +11,28 @@ use Rattle.state.specs.declared.Notes.{Notes}
 use Rattle.state.specs.declared.Counts.{Counts}
 
 abbrev pub withRegisters : State → Registers → State
-withRegisters s x = record { sizes = s .sizes; regs = x; role = s .role; under = s .under; rx = s .rx; tx = s .tx; line = s .line; notes = s .notes; counts = s .counts }
+withRegisters s x = record { margin = s .margin; regs = x; role = s .role; under = s .under; rx = s .rx; tx = s .tx; line = s .line; notes = s .notes; counts = s .counts }
 
 abbrev pub withRole : State → Role → State
-withRole s x = record { sizes = s .sizes; regs = s .regs; role = x; under = s .under; rx = s .rx; tx = s .tx; line = s .line; notes = s .notes; counts = s .counts }
+withRole s x = record { margin = s .margin; regs = s .regs; role = x; under = s .under; rx = s .rx; tx = s .tx; line = s .line; notes = s .notes; counts = s .counts }
 
 abbrev pub withUnder : State → Under → State
-withUnder s x = record { sizes = s .sizes; regs = s .regs; role = s .role; under = x; rx = s .rx; tx = s .tx; line = s .line; notes = s .notes; counts = s .counts }
+withUnder s x = record { margin = s .margin; regs = s .regs; role = s .role; under = x; rx = s .rx; tx = s .tx; line = s .line; notes = s .notes; counts = s .counts }
 
 abbrev pub withRx : State → Ring → State
-withRx s x = record { sizes = s .sizes; regs = s .regs; role = s .role; under = s .under; rx = x; tx = s .tx; line = s .line; notes = s .notes; counts = s .counts }
+withRx s x = record { margin = s .margin; regs = s .regs; role = s .role; under = s .under; rx = x; tx = s .tx; line = s .line; notes = s .notes; counts = s .counts }
 
 abbrev pub withTx : State → Ring → State
-withTx s x = record { sizes = s .sizes; regs = s .regs; role = s .role; under = s .under; rx = s .rx; tx = x; line = s .line; notes = s .notes; counts = s .counts }
+withTx s x = record { margin = s .margin; regs = s .regs; role = s .role; under = s .under; rx = s .rx; tx = x; line = s .line; notes = s .notes; counts = s .counts }
 
 abbrev pub withLine : State → Line → State
-withLine s x = record { sizes = s .sizes; regs = s .regs; role = s .role; under = s .under; rx = s .rx; tx = s .tx; line = x; notes = s .notes; counts = s .counts }
+withLine s x = record { margin = s .margin; regs = s .regs; role = s .role; under = s .under; rx = s .rx; tx = s .tx; line = x; notes = s .notes; counts = s .counts }
 
 abbrev pub withNotes : State → Notes → State
-withNotes s x = record { sizes = s .sizes; regs = s .regs; role = s .role; under = s .under; rx = s .rx; tx = s .tx; line = s .line; notes = x; counts = s .counts }
+withNotes s x = record { margin = s .margin; regs = s .regs; role = s .role; under = s .under; rx = s .rx; tx = s .tx; line = s .line; notes = x; counts = s .counts }
 
 abbrev pub withCounts : State → Counts → State
-withCounts s x = record { sizes = s .sizes; regs = s .regs; role = s .role; under = s .under; rx = s .rx; tx = s .tx; line = s .line; notes = s .notes; counts = x }
+withCounts s x = record { margin = s .margin; regs = s .regs; role = s .role; under = s .under; rx = s .rx; tx = s .tx; line = s .line; notes = s .notes; counts = x }
 
 -- nothing happened
 abbrev pub noEvents : Events

@@ -16,9 +16,9 @@ unfoldable pub conditions : State → Conditions
 conditions s =
     record {
       txempty = eqb (s .tx .len) 0;
-      txnotfull = ltb (s .tx .len) (s .sizes .tx);
+      txnotfull = ltb (s .tx .len) (s .tx .cap);
       rxnotempty = ltb 0 (s .rx .len);
-      rxfull = full (s .sizes .rx) (s .rx);
+      rxfull = full (s .rx);
       brk = s .notes .seen .brk;
       overrun = s .notes .seen .overrun;
       key = s .notes .seen .key;

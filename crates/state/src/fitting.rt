@@ -5,7 +5,6 @@ ghost use Rattle.state.specs.Sizes.{sizesObeyed, startState, fits};
 use crate::Counts;
 use crate::Line;
 use crate::Notes;
-use crate::Sizes;
 use crate::State;
 use crate::Under;
 use status::Events;
@@ -37,19 +36,15 @@ pub fn start(m: usize, rx: usize, tx: usize) -> State
     ensures { λ r. ⌜ r ≡ startState m rx tx ⌝ }
 {
     State {
-        sizes: Sizes {
-            rx: rx,
-            tx: tx,
-            margin: m,
-        },
+        margin: m,
         regs: registers::start(),
         role: role::start(),
         under: Under {
             frame: 0,
             finishing: false,
         },
-        rx: store::emptied(),
-        tx: store::emptied(),
+        rx: store::emptied(rx),
+        tx: store::emptied(tx),
         line: Line {
             holding: false,
             forbidden: false,
@@ -72,12 +67,10 @@ pub fn start(m: usize, rx: usize, tx: usize) -> State
 pub fn state_fits(s: State, rx: usize, tx: usize) -> bool
     ensures { λ r. ⌜ r ≡ fits s rx tx ⌝ }
 {
-    (s.sizes.rx == rx)
-        & (s.sizes.tx == tx)
-        & sizes_obeyed(s.sizes.margin, rx, tx)
+    store::ring_fits(rx, s.rx)
+        & store::ring_fits(tx, s.tx)
+        & sizes_obeyed(s.margin, rx, tx)
         & registers::registers_fit(s.regs)
         & role::role_fits(s.role)
         & (s.under.frame < 1024)
-        & store::ring_fits(rx, s.rx)
-        & store::ring_fits(tx, s.tx)
 }

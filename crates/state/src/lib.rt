@@ -8,13 +8,6 @@ use store::Ring;
 pub mod fitting;
 pub mod requests;
 
-// The recorded lengths of the stores, and the margin.
-pub struct Sizes {
-    pub rx: usize,
-    pub tx: usize,
-    pub margin: usize,
-}
-
 // The frame under way, which calls keep without its service bit, and whether sending ends after it.
 pub struct Under {
     pub frame: u16,
@@ -42,9 +35,9 @@ pub struct Counts {
     pub sent: u32,
 }
 
-// "a state that the caller keeps": it goes into every call by value and comes back with the answer.
+// "a state that the caller keeps": it goes into every call by value and comes back with the answer. The rings record the stores' lengths.
 pub struct State {
-    pub sizes: Sizes,
+    pub margin: usize,
     pub regs: Registers,
     pub role: Role,
     pub under: Under,

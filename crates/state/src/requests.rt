@@ -14,9 +14,9 @@ fn conditions(s: State) -> Conditions
 {
     Conditions {
         txempty: s.tx.len == 0,
-        txnotfull: s.tx.len < s.sizes.tx,
+        txnotfull: s.tx.len < s.tx.cap,
         rxnotempty: 0 < s.rx.len,
-        rxfull: s.sizes.rx <= s.rx.len,
+        rxfull: s.rx.cap <= s.rx.len,
         brk: s.notes.seen.brk,
         overrun: s.notes.seen.overrun,
         key: s.notes.seen.key,

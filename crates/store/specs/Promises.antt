@@ -7,23 +7,24 @@ use mathlib.Core.Bool.{cond, not}
 use lib.ListN.{length, take, drop}
 use Rattle.store.specs.declared.Ring.{Ring}
 use Rattle.store.specs.declared.Offered.{Offered}
-use Rattle.store.specs.Ring.{Fit, held, full, putRing, putBytes, putsRing, putsBytes, dropRing, run}
+use Rattle.store.specs.Ring.{Within, Fit, held, full, room, putRing, putBytes, putsRing, putsBytes, dropRing, run}
 
 -- a byte b offered: s and r before, s′ and o after
 pub record Put (s : List ℕ) (r : Ring) (b : ℕ) (s′ : List ℕ) (o : Offered) : Type 0 where
-  pub stored : o .stored ≡ not (full (length s) r)
-  pub ring : o .ring ≡ putRing (length s) r
+  pub stored : o .stored ≡ not (full r)
+  pub ring : o .ring ≡ putRing r
   pub bytes : s′ ≡ putBytes s r b
   pub size : length s′ ≡ length s
+  pub room : o .room ≡ room (o .ring)
   pub fit : Fit s′ (o .ring)
-  pub holds : held s′ (o .ring) ≡ held s r ++ cond (full (length s) r) [] (b ∷ [])
+  pub holds : held s′ (o .ring) ≡ held s r ++ cond (full r) [] (b ∷ [])
 
--- the n oldest bytes dropped
-pub record Dropped (s : List ℕ) (r : Ring) (n : ℕ) (o : Ring) : Type 0 where
-  pub ring : o ≡ dropRing (length s) r n
+-- the n oldest bytes dropped, of whatever list the ring fits
+pub record Dropped (r : Ring) (n : ℕ) (o : Ring) : Type 0 where
+  pub ring : o ≡ dropRing r n
   pub len : o .len ≡ r .len - n
-  pub fit : Fit s o
-  pub holds : held s o ≡ drop n (held s r)
+  pub fit : (s : List ℕ) → Fit s r → Fit s o
+  pub holds : (s : List ℕ) → Fit s r → held s o ≡ drop n (held s r)
 
 -- the part shown
 pub record Shown (s : List ℕ) (r : Ring) (o : List ℕ) : Type 0 where
@@ -32,7 +33,7 @@ pub record Shown (s : List ℕ) (r : Ring) (o : List ℕ) : Type 0 where
 
 -- several bytes stored, one after the other
 pub record Puts (s : List ℕ) (r : Ring) (l : List ℕ) (s′ : List ℕ) (o : Ring) : Type 0 where
-  pub ring : o ≡ putsRing (length s) r l
+  pub ring : o ≡ putsRing r l
   pub bytes : s′ ≡ putsBytes s r l
   pub size : length s′ ≡ length s
 
@@ -44,11 +45,11 @@ HeldLength = (s : List ℕ) (r : Ring) → Fit s r → length (held s r) ≡ r .
 
 -- no byte dropped leaves the ring
 abbrev pub DropNone : Type 0
-DropNone = (s : List ℕ) (r : Ring) → Fit s r → dropRing (length s) r 0 ≡ r
+DropNone = (r : Ring) → Within r → dropRing r 0 ≡ r
 
 -- n bytes dropped and then m are n + m
 abbrev pub DropAgain : Type 0
-DropAgain = (s : List ℕ) (r : Ring) (n m : ℕ) → Fit s r → n + m ≤ r .len → dropRing (length s) (dropRing (length s) r n) m ≡ dropRing (length s) r (n + m)
+DropAgain = (r : Ring) (n m : ℕ) → Within r → n + m ≤ r .len → dropRing (dropRing r n) m ≡ dropRing r (n + m)
 
 -- no byte stored, and one stored before the others
 abbrev pub PutsNone : Type 0

@@ -1,20 +1,22 @@
-// A store: a ring of bytes on a lent slice, whose length is the capacity. The bookkeeping is a struct by value.
+// A store: a ring of bytes on a lent slice. The bookkeeping is a struct by value, which knows the slice's length.
 ghost use mathlib.Core.Path.{_≡_};
 ghost use Prim.Native.Nat.{_+_, _≤_, _<_};
 ghost use lib.ListN.{length, getD};
-ghost use Rattle.store.specs.Ring.{Fit, fitTest, wrap, held, emptyRing};
+ghost use Rattle.store.specs.Ring.{Within, Fit, fitTest, wrap, held, emptyRing, room};
 ghost use Rattle.store.specs.Promises.{Put, Dropped, Shown};
 
-// The place of the oldest byte, and how many bytes are held.
+// The capacity, the place of the oldest byte, and how many bytes are held.
 pub struct Ring {
+    pub cap: usize,
     pub oldest: usize,
     pub len: usize,
 }
 
-// The answer to a byte offered: whether it was stored, and the ring after it.
+// The answer to a byte offered: whether it was stored, the ring after it, and the room that is left.
 pub struct Offered {
     pub stored: bool,
     pub ring: Ring,
+    pub room: usize,
 }
 
 // The place p, gone round by a comparison where it is past the last.
@@ -29,14 +31,26 @@ fn place(cap: usize, p: usize) -> usize
 pub fn ring_fits(cap: usize, r: Ring) -> bool
     ensures { λ o. ⌜ o ≡ fitTest cap r ⌝ }
 {
-    (r.oldest < cap) & (r.len <= cap) & (cap <= 32768)
+    (r.cap == cap) & (r.oldest < cap) & (r.len <= cap) & (cap <= 32768)
 }
 
-// A ring that holds nothing and stores its first byte at place 0.
-pub fn emptied() -> Ring
-    ensures { λ o. ⌜ o ≡ emptyRing ⌝ }
+// A ring of this capacity that holds nothing and stores its first byte at place 0.
+pub fn emptied(cap: usize) -> Ring
+    ensures { λ o. ⌜ o ≡ emptyRing cap ⌝ }
 {
-    Ring { oldest: 0, len: 0 }
+    Ring {
+        cap: cap,
+        oldest: 0,
+        len: 0,
+    }
+}
+
+// How many bytes more a store takes.
+pub fn room(r: Ring) -> usize
+    requires { ⌜ Within r ⌝ }
+    ensures { λ o. ⌜ o ≡ room r ⌝ }
+{
+    r.cap - r.len
 }
 
 // Stores b behind the newest byte; a full store stays as it was.
@@ -44,24 +58,29 @@ pub fn put(s: &mut [u8], r: Ring, b: u8) -> Offered
     requires { ⌜ Fit (now s) r ⌝ }
     ensures { λ o. ⌜ Put (now (s .entry)) r b (now (s .exit)) o ⌝ }
 {
+    let cap = r.cap;
     let oldest = r.oldest;
     let len = r.len;
-    if len >= s.len() {
+    if len >= cap {
         return Offered {
             stored: false,
             ring: r,
+            room: 0,
         };
     }
-    let at = place(s.len(), oldest + len);
+    let at = place(cap, oldest + len);
     s[at] = b;
     let more = len + 1;
     let ring = Ring {
+        cap: cap,
         oldest: oldest,
         len: more,
     };
+    let left = room(ring);
     Offered {
         stored: true,
         ring: ring,
+        room: left,
     }
 }
 
@@ -72,21 +91,23 @@ pub fn look(s: &[u8], r: Ring, k: usize) -> u8
     ensures { λ o. ⌜ o ≡ getD (held (now (s .entry)) r) k 0 ⌝ }
 {
     let oldest = r.oldest;
-    let at = place(s.len(), oldest + k);
+    let at = place(r.cap, oldest + k);
     s[at]
 }
 
 // The ring without the n oldest bytes, which stay written where they are.
-pub fn drop_oldest(s: &[u8], r: Ring, n: usize) -> Ring
-    requires { ⌜ Fit (now s) r ⌝ }
+pub fn drop_oldest(r: Ring, n: usize) -> Ring
+    requires { ⌜ Within r ⌝ }
     requires { ⌜ n ≤ r .len ⌝ }
-    ensures { λ o. ⌜ Dropped (now (s .entry)) r n o ⌝ }
+    ensures { λ o. ⌜ Dropped r n o ⌝ }
 {
+    let cap = r.cap;
     let oldest = r.oldest;
     let len = r.len;
-    let at = place(s.len(), oldest + n);
+    let at = place(cap, oldest + n);
     let left = len - n;
     Ring {
+        cap: cap,
         oldest: at,
         len: left,
     }
@@ -99,7 +120,7 @@ pub fn show(s: &[u8], r: Ring) -> &[u8]
 {
     let oldest = r.oldest;
     let len = r.len;
-    if len <= s.len() - oldest {
+    if len <= r.cap - oldest {
         let end = oldest + len;
         &s[oldest..end]
     } else {

@@ -67,8 +67,8 @@ fair-calls B (c ∷ cs) e = (fair-call c (and-left (byteCall c) (byteCalls cs) e
 -- ---- what a store holds, by the laws of the store
 
 -- n bytes from place p, where they do not go round
-pub holds : (s : List ℕ) (p n : ℕ) → leb (p + n) (length s) ≡ true → held s (ring p n) ≡ take n (drop p s)
-holds s p n e = held-unbroken s (ring p n) (leb-true (p + n) (length s) e)
+pub holds : (s : List ℕ) (p n : ℕ) → leb (p + n) (length s) ≡ true → held s (ring (length s) p n) ≡ take n (drop p s)
+holds s p n e = held-unbroken s (ring (length s) p n) (leb-true (p + n) (length s) e)
 
 pub no-round : (cap p : ℕ) → ltb p cap ≡ true → wrap cap p ≡ p
 no-round cap p e = wrap-low cap p (ltb-true p cap e)

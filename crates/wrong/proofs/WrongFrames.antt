@@ -46,7 +46,7 @@ shows-hidden-falls law = true≢false (law (takes 0 68) hiddenRequest are-bytes 
 
 two-held : heldToSend activeTalker ≡ 49 ∷ 50 ∷ []
 unfolding startState
-two-held = held-unbroken oneToFour (record { oldest = 0; len = 2 }) (omega arith)
+two-held = held-unbroken oneToFour (record { cap = 4; oldest = 0; len = 2 }) (omega arith)
 
 -- 1,48 comes back for 0,48, and 1,49 is sent
 pub carries-service-falls : Breaks carriesServiceOver ServiceBit

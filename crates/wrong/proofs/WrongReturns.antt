@@ -41,7 +41,7 @@ judged B f ts r does none fair isdata answered law =
     in-between B ReturnsJudged full (sends f) ts (on (loopFrame r)) does refl fair law false firstFrame r refl none refl isdata answered
 
 -- the second line is held
-second-holds : held twoLines (ring 3 3) ≡ 50 ∷ 13 ∷ 10 ∷ []
+second-holds : held twoLines (ring 6 3 3) ≡ 50 ∷ 13 ∷ 10 ∷ []
 second-holds = holds twoLines 3 3 refl
 
 -- ---- the return at once

@@ -86,15 +86,15 @@ removes-pairs-always-falls law =
 displaced : List ℕ
 displaced = 51 ∷ 13 ∷ 10 ∷ 50 ∷ 13 ∷ 10 ∷ []
 
-displaced-fits : Fit displaced (ring 1 6)
+displaced-fits : Fit displaced (ring 6 1 6)
 unfolding displaced
-displaced-fits = record { oldest = omega arith; len = omega arith; small = omega arith }
+displaced-fits = record { cap = refl; within = record { oldest = omega arith; len = omega arith; small = omega arith } }
 
 pub drops-oldest-when-full-falls : Breaks dropsOldestWhenFull NoneRemoved
 unfolding computes displaced
 drops-oldest-when-full-falls law =
     numbers-differ _ _ refl
-    (sym (held-at displaced (ring 1 6) 0 displaced-fits (omega arith) ∙ ap (λ p. getD displaced p 0) (no-round 6 1 refl))
+    (sym (held-at displaced (ring 6 1 6) 0 displaced-fits (omega arith) ∙ ap (λ p. getD displaced p 0) (no-round 6 1 refl))
     ∙ ap (λ l. getD l 0 0) (rw (full-holds, no-round 6 1 refl, wrap-high 6 6 (omega arith)) at (law (on (lineByte 51)) full full-bytes refl refl)))
 
 -- another device is addressed, and all is gone

@@ -3,10 +3,10 @@ use Prim.Native.Nat.{ℕ}
 use native.Mathlib.Omega.{arith}
 use mathlib.Core.Path.{_≡_, refl, ap}
 use mathlib.Core.Bool.{true≢false}
-use mathlib.Core.List.{[]}
+use mathlib.Core.List.{List, []}
 use lib.Dec.{eqb}
+use lib.ListN.{getD}
 use Rattle.store.specs.Bytes.{Bytes}
-use Rattle.state.specs.declared.Sizes.{Sizes}
 use Rattle.bridge.specs.Calls.{write, show, on}
 use Rattle.laws.specs.Showing.{ShowsSo}
 use Rattle.laws.specs.Starting.{SizesStay}
@@ -34,8 +34,8 @@ wide-bytes = bytes wideBytes refl
 
 pub clears-margin-falls : Breaks clearsMargin SizesStay
 unfolding computes
-clears-margin-falls law = true≢false (ap (λ (x : Sizes). eqb (x .margin) 1) (law (takesCommand 20) wide wide-bytes refl))
+clears-margin-falls law = true≢false (ap (λ (x : List ℕ). eqb (getD x 0 0) 1) (law (takesCommand 20) wide wide-bytes refl))
 
 pub writes-margin-falls : Breaks writesMargin SizesStay
 unfolding computes
-writes-margin-falls law = true≢false (ap (λ (x : Sizes). eqb (x .margin) 1) (law (on (write 11 8)) wide wide-bytes refl))
+writes-margin-falls law = true≢false (ap (λ (x : List ℕ). eqb (getD x 0 0) 1) (law (on (write 11 8)) wide wide-bytes refl))

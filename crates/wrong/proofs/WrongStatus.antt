@@ -19,11 +19,11 @@ use Rattle.wrong.proofs.Computing.{computes}
 use Rattle.wrong.proofs.Ends.{hasAt}
 use Rattle.wrong.proofs.Small.{are-bytes}
 
-one-held : held oneToFour (record { oldest = 0; len = 1 }) ≡ 49 ∷ []
-one-held = held-unbroken oneToFour (record { oldest = 0; len = 1 }) (omega arith)
+one-held : held oneToFour (record { cap = 4; oldest = 0; len = 1 }) ≡ 49 ∷ []
+one-held = held-unbroken oneToFour (record { cap = 4; oldest = 0; len = 1 }) (omega arith)
 
-all-held : held transmitBytes (record { oldest = 0; len = 3 }) ≡ transmitBytes
-all-held = held-unbroken transmitBytes (record { oldest = 0; len = 3 }) (omega arith)
+all-held : held transmitBytes (record { cap = 3; oldest = 0; len = 3 }) ≡ transmitBytes
+all-held = held-unbroken transmitBytes (record { cap = 3; oldest = 0; len = 3 }) (omega arith)
 
 -- ---- the status byte
 
@@ -32,7 +32,7 @@ pub shows-exchanged-falls : Breaks showsExchanged StatusTold
 unfolding computes
 shows-exchanged-falls law =
     let sent = law (takesReady 97) talkerOfOne are-bytes (made 5 97) refl refl refl in
-    let z : true ≡ false = rw (one-held, held-empty transmitBytes) at (ap (hasAt 0 11) sent) in
+    let z : true ≡ false = rw (one-held, held-empty transmitBytes 3) at (ap (hasAt 0 11) sent) in
     true≢false z
 
 -- the transmit store is full: no bit is due
@@ -40,7 +40,7 @@ pub shows-room-falls : Breaks showsRoom StatusTold
 unfolding computes
 shows-room-falls law =
     let sent = law (takesReady 97) talkerWithoutRoom are-bytes (made 5 97) refl refl refl in
-    let z : true ≡ false = rw (all-held, held-empty oneToFour) at (ap (hasAt 0 2) sent) in
+    let z : true ≡ false = rw (all-held, held-empty oneToFour 4) at (ap (hasAt 0 2) sent) in
     true≢false z
 
 -- bit 6 is due, since a request showed
@@ -48,7 +48,7 @@ pub shows-after-falls : Breaks showsAfter StatusTold
 unfolding computes
 shows-after-falls law =
     let sent = law (takesReady 97) shownRequest are-bytes (made 5 97) refl refl refl in
-    let z : true ≡ false = rw (held-empty oneToFour, held-empty transmitBytes) at (ap (hasAt 0 3) sent) in
+    let z : true ≡ false = rw (held-empty oneToFour 4, held-empty transmitBytes 3) at (ap (hasAt 0 3) sent) in
     true≢false z
 
 -- bit 6 where R00 bit 3 is off
@@ -56,7 +56,7 @@ pub shows-any-request-falls : Breaks showsAnyRequest StatusTold
 unfolding computes
 shows-any-request-falls law =
     let sent = law (takesReady 97) hiddenRequest are-bytes (made 5 97) refl refl refl in
-    let z : true ≡ false = rw (held-empty oneToFour, held-empty transmitBytes) at (ap (hasAt 0 67) sent) in
+    let z : true ≡ false = rw (held-empty oneToFour 4, held-empty transmitBytes 3) at (ap (hasAt 0 67) sent) in
     true≢false z
 
 -- ---- requests

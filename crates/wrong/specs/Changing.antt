@@ -5,7 +5,6 @@ use lib.Dec.{eqb}
 use Rattle.answers.specs.Refusals.{firstRefusal}
 use Rattle.frame.specs.Frame.{controlOf, dataOf}
 use Rattle.state.specs.declared.State.{State}
-use Rattle.state.specs.declared.Sizes.{Sizes}
 use Rattle.answers.specs.Answers.{Said, refused, isRefusal}
 use Rattle.bridge.specs.Calls.{Call, create, show, on, World, world, Did, checks, notRefused, step}
 use Rattle.laws.specs.Observers.{onFrame}
@@ -46,11 +45,11 @@ refusing n c w = record { said = refused n; world = w }
 abbrev pub heedless : ℕ → Call → World → Did
 heedless n = instead (λ c w. eqb (firstRefusal (checks c w)) n) notRefused
 
--- the state with other sizes recorded
-abbrev pub withSizes : State → Sizes → State
-withSizes s x =
+-- the state with this margin
+abbrev pub withMargin : State → ℕ → State
+withMargin s m =
     record {
-      sizes = x;
+      margin = m;
       regs = s .regs;
       role = s .role;
       under = s .under;
@@ -60,10 +59,6 @@ withSizes s x =
       notes = s .notes;
       counts = s .counts;
     }
-
--- the state with this margin
-abbrev pub withMargin : State → ℕ → State
-withMargin s m = withSizes s (record { rx = s .sizes .rx; tx = s .sizes .tx; margin = m })
 
 -- ---- calls
 

@@ -70,7 +70,7 @@ withNoted e b s = withNotes s (record { seen = noting e b (s .notes .seen); agai
 
 -- the n oldest bytes are removed from the receive store; a pair of C00, C01 is, where it is the oldest that is held
 abbrev pub withoutOldest : ℕ → World → World
-withoutOldest n = having (λ s. withRx s (dropRing (s .sizes .rx) (s .rx) n))
+withoutOldest n = having (λ s. withRx s (dropRing (s .rx) n))
 
 abbrev pub pairRemoved : World → World
 pairRemoved v = cond (startsWithPair (ruleIn v) (heldToSend v)) (withoutOldest 2 v) v

@@ -33,7 +33,7 @@ registered n v s = withRegisters s (written startRegisters n v)
 
 -- a state that holds n bytes of the receive store
 abbrev holds : ℕ → State → State
-holds n s = withRx s (ring 0 n)
+holds n s = withRx s (ring 4 0 n)
 
 -- R10 bit 3 is on
 abbrev pub detecting : World
@@ -80,7 +80,7 @@ activeTalker = started (λ s. holds 2 (withUnder (withRole s active) (record { f
 
 -- a listener that has room for one byte, where an end byte adds three
 abbrev pub nearlyFull : World
-nearlyFull = started (λ s. withTx (withRole (registered 10 4 s) listener) (ring 0 2))
+nearlyFull = started (λ s. withTx (withRole (registered 10 4 s) listener) (ring 3 0 2))
 
 -- ---- stores
 
@@ -93,7 +93,7 @@ talkerOfOne = started (λ s. holds 1 (withRole s talker))
 
 -- an addressed talker whose transmit store is full
 abbrev pub talkerWithoutRoom : World
-talkerWithoutRoom = started (λ s. withTx (withRole s talker) (ring 0 3))
+talkerWithoutRoom = started (λ s. withTx (withRole s talker) (ring 3 0 3))
 
 -- ---- notes and counts
 

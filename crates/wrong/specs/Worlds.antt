@@ -14,9 +14,9 @@ use Rattle.bridge.specs.Calls.{World, world}
 use Rattle.laws.specs.Events.{Event}
 use Rattle.wrong.specs.Seeing.{having, withNoted, withForbidden}
 
--- n bytes are held, the oldest at place p
-abbrev pub ring : ℕ → ℕ → Ring
-ring p n = record { oldest = p; len = n }
+-- a store of so many places that holds n bytes, the oldest at place p
+abbrev pub ring : ℕ → ℕ → ℕ → Ring
+ring cap p n = record { cap = cap; oldest = p; len = n }
 
 -- ---- on the loop: addressed talkers with the margin 1 and R10 bit 3 on, so that C00, C01 behind a byte make it an end byte
 
@@ -24,7 +24,7 @@ ring p n = record { oldest = p; len = n }
 abbrev pub fullOf : List ℕ → World
 fullOf bs =
     world
-    (withRole (withRegisters (withRx (startState 1 (length bs) 3) (ring 0 (length bs))) (written startRegisters 10 8)) (withTalker startRole addressed))
+    (withRole (withRegisters (withRx (startState 1 (length bs) 3) (ring (length bs) 0 (length bs))) (written startRegisters 10 8)) (withTalker startRole addressed))
     bs (0 ∷ 0 ∷ 0 ∷ [])
 
 -- two lines, "1" and "2", each with 13 and 10 behind it
@@ -38,7 +38,7 @@ full = fullOf twoLines
 abbrev pub oneSent : ℕ → ℕ → World
 oneSent phase f =
     having
-    (λ s. withCounts (withUnder (withRole (withRx s (ring 3 3)) (withTalker startRole phase)) (record { frame = f; finishing = false }))
+    (λ s. withCounts (withUnder (withRole (withRx s (ring 6 3 3)) (withTalker startRole phase)) (record { frame = f; finishing = false }))
     (record { stored = 0; lost = 0; sent = 1 }))
     full
 
@@ -70,7 +70,7 @@ abbrev pub undecidedBytes : List ℕ
 undecidedBytes = 13 ∷ 10 ∷ 13 ∷ 0 ∷ []
 
 abbrev pub undecided : World
-undecided = having (λ s. withLine (withRx s (ring 0 3)) (record { holding = true; forbidden = false; stopped = true })) (fullOf undecidedBytes)
+undecided = having (λ s. withLine (withRx s (ring 4 0 3)) (record { holding = true; forbidden = false; stopped = true })) (fullOf undecidedBytes)
 
 -- Frames: ready 96 and 97, which ask a talker for data and for status; ready 66; a device clear, to a listener and to others
 abbrev pub sendData : ℕ
@@ -94,7 +94,7 @@ oneToFour = 49 ∷ 50 ∷ 51 ∷ 52 ∷ []
 abbrev pub cameIn : ℕ → Bool → Bool → World
 cameIn k holding stopped =
     world
-    (withLine (withCounts (withRx (startState 1 4 3) (ring 0 k)) (record { stored = k; lost = 0; sent = 0 }))
+    (withLine (withCounts (withRx (startState 1 4 3) (ring 4 0 k)) (record { stored = k; lost = 0; sent = 0 }))
     (record { holding = holding; forbidden = false; stopped = stopped }))
     oneToFour (0 ∷ 0 ∷ 0 ∷ [])
 
@@ -105,7 +105,7 @@ talkerCameIn k holding = having (λ s. withRole s (withTalker startRole addresse
 abbrev pub oneGone : ℕ → ℕ → Bool → World
 oneGone k n holding =
     having
-    (λ s. withUnder (withRole (withCounts (withRx s (ring 1 n)) (record { stored = k; lost = 0; sent = 1 })) (withTalker startRole activeData))
+    (λ s. withUnder (withRole (withCounts (withRx s (ring 4 1 n)) (record { stored = k; lost = 0; sent = 1 })) (withTalker startRole activeData))
     (record { frame = made 0 49; finishing = false }))
     (cameIn k holding false)
 
@@ -124,7 +124,7 @@ abbrev pub begunWith : ℕ → List ℕ
 begunWith b = b ∷ 0 ∷ 0 ∷ []
 
 abbrev pub oneForTheLine : ℕ → World
-oneForTheLine b = world (withTx (startState 1 4 3) (ring 0 1)) oneToFour (begunWith b)
+oneForTheLine b = world (withTx (startState 1 4 3) (ring 3 0 1)) oneToFour (begunWith b)
 
 -- a listener that adds C02, C03 to an end byte
 abbrev pub listenerAddingEnds : World

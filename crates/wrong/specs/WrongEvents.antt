@@ -15,7 +15,7 @@ use Rattle.wrong.specs.Seeing.{withNoted}
 
 -- a break empties the receive store
 abbrev pub breakEmpties : Call → World → Did
-breakEmpties = afterwards (λ c w s. onOne lineBreak (withRx s emptyRing) s c)
+breakEmpties = afterwards (λ c w s. onOne lineBreak (withRx s (emptyRing (s .rx .cap))) s c)
 
 -- a break sets the key's bit too
 abbrev pub breakPresses : Call → World → Did

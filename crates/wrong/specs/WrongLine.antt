@@ -21,7 +21,7 @@ stuttering = afterSight (λ c w a. onOne nextLineByte true false c) (λ before a
 abbrev pub leavesOutC03 : Call → World → Did
 leavesOutC03 =
     afterSight (λ c w a. ltb 1 (length (added c w a)))
-    (λ before after. withTx after (record { oldest = after .tx .oldest; len = after .tx .len - 1 }))
+    (λ before after. withTx after (record { cap = after .tx .cap; oldest = after .tx .oldest; len = after .tx .len - 1 }))
 
 -- the byte handed out is the stop character, and no character of our own
 abbrev pub isStopByte : World → List ℕ → Bool

@@ -55,7 +55,7 @@ withoutEnd (f ∷ fs) a = cond (isEnd f) (frame 0 (dataOf f)) a
 
 -- What a reader may hold us to: reads one line, and when its end byte has gone, drops what is held behind it
 abbrev pub impatient : Call → World → Did
-impatient = afterSight (λ c w a. anyEnd (sent c w a)) (λ before after. withRx after emptyRing)
+impatient = afterSight (λ c w a. anyEnd (sent c w a)) (λ before after. withRx after (emptyRing (after .rx .cap)))
 
 -- sends a frame and still holds its bytes
 abbrev pub repeats : Call → World → Did
@@ -91,7 +91,7 @@ dropsOldestWhenFull = insteadAt (λ c w a. any (lost c w a)) (λ c w. step c (wi
 
 -- drops all that it holds at every command
 abbrev pub commandEmpties : Call → World → Did
-commandEmpties = afterSight (λ c w a. onFrame (λ f. eqb (controlOf f) 4) false c) (λ before after. withRx after emptyRing)
+commandEmpties = afterSight (λ c w a. onFrame (λ f. eqb (controlOf f) 4) false c) (λ before after. withRx after (emptyRing (after .rx .cap)))
 
 -- keeps the receive store at a device clear
 abbrev pub clearKeepsStore : Call → World → Did

@@ -32,11 +32,11 @@ startsAssigned = afterwards (λ c w s. cond (restarts c done) (withRole s (withA
 
 -- reset makes the margin larger by one
 abbrev pub resetWidens : Call → World → Did
-resetWidens = resetting (λ w s. withMargin s (s .sizes .margin + 1))
+resetWidens = resetting (λ w s. withMargin s (s .margin + 1))
 
 -- create keeps the margin that it finds
 abbrev pub createKeepsMargin : Call → World → Did
-createKeepsMargin = afterwards (λ c w s. cond (isCreate c) (withMargin s (w .state .sizes .margin)) s)
+createKeepsMargin = afterwards (λ c w s. cond (isCreate c) (withMargin s (w .state .margin)) s)
 
 -- reset keeps the registers
 abbrev pub resetKeepsRegisters : Call → World → Did

@@ -3,14 +3,14 @@ use Prim.Native.Nat.{_+_}
 use mathlib.Core.Bool.{cond}
 use mathlib.Core.List.{[], _++_}
 use lib.ListN.{length, set}
-use Rattle.store.specs.Ring.{wrap, dropRing}
+use Rattle.store.specs.Ring.{wrap, emptyRing, dropRing}
 use Rattle.answers.specs.Answers.{done}
-use Rattle.state.specs.State.{withRx}
+use Rattle.state.specs.State.{withRx, withTx}
 use Rattle.bridge.specs.Calls.{Call, World, world, Did, step}
 use Rattle.laws.specs.Observers.{any, accepted, lost, handedOut, clears}
 use Rattle.laws.specs.Places.{nextPlace}
 use Rattle.laws.specs.CallPlaces.{writtenFrom}
-use Rattle.wrong.specs.Changing.{leaving, afterwards, withSizes, isCreate}
+use Rattle.wrong.specs.Changing.{leaving, afterwards, isCreate}
 
 -- ---- places
 
@@ -22,7 +22,7 @@ oneTooFar =
 
 -- a device clear drops what the receive store holds and does not go back to place 0
 abbrev pub clearsInPlace : Call → World → Did
-clearsInPlace = afterwards (λ c w s. cond (clears c w done) (withRx s (dropRing (length (w .rx)) (w .state .rx) (w .state .rx .len))) s)
+clearsInPlace = afterwards (λ c w s. cond (clears c w done) (withRx s (dropRing (w .state .rx) (w .state .rx .len))) s)
 
 -- writes 0 over the byte that it hands out
 abbrev pub wiping : Call → World → Did
@@ -42,4 +42,4 @@ clearsAway = leaving (λ c w v. cond (clears c w done) (world (v .state) [] []) 
 
 -- create records the length of the receive store for both
 abbrev pub createsAlike : Call → World → Did
-createsAlike = afterwards (λ c w s. cond (isCreate c) (withSizes s (record { rx = length (w .rx); tx = length (w .rx); margin = s .sizes .margin })) s)
+createsAlike = afterwards (λ c w s. cond (isCreate c) (withTx s (emptyRing (length (w .rx)))) s)

@@ -1,7 +1,7 @@
 use mathlib.Core.Path.{refl, sym, _∙_}
 use denote.Ref.{now}
 use native.Mathlib.Omega.{arith}
-use Rattle.state.proofs.Fits.{is-misfit, is-fit, rx-fits, tx-fits, tx-room}
+use Rattle.state.proofs.Fits.{is-misfit, is-fit, rx-fits, tx-fits}
 use Rattle.bridge.specs.Calls.{checksOn, outcome, settledBy, rxAfter, txAfter, loopFrame}
 use Rattle.bridge.proofs.Steps.{misfit-met, refused-met, frame-large, frame-busy, frame-done}
 use borrow.Author.Needs.{needs}
@@ -19,7 +19,7 @@ returns-2 c =
 
 busy-requires : tie.Need-busy-requires
 busy-requires c κs =
-    tx-room (c .before .before .before .before .before .args .s) (now (c .before .before .before .before .before .args .rx)) (now (c .before .before .before .before .before .args .tx)) (is-fit (c .before .before .state-fits .ensures) (c .before .if1 .left))
+    tx-fits (c .before .before .before .before .before .args .s) (now (c .before .before .before .before .before .args .rx)) (now (c .before .before .before .before .before .args .tx)) (is-fit (c .before .before .state-fits .ensures) (c .before .if1 .left)) .ring .within
 
 returns-3 : tie.Need-returns-3
 unfolding checksOn outcome settledBy rxAfter txAfter

@@ -1,6 +1,6 @@
 use mathlib.Core.Path.{refl, sym, ap, _∙_}
 use denote.Ref.{now}
-use Rattle.state.proofs.Fits.{is-misfit, is-fit, rx-room}
+use Rattle.state.proofs.Fits.{is-misfit, is-fit, rx-fits}
 use Rattle.line.specs.HoldingOff.{afterWrite}
 use Rattle.registers.specs.Writing.{writeChecks}
 use Rattle.registers.proofs.Refusals.{accepted-written}
@@ -21,7 +21,7 @@ returns-2 c =
 
 after-write-requires : tie.Need-after-write-requires
 after-write-requires c κs =
-    rx-room (c .before .before .before .before .before .before .before .args .s) (now (c .before .before .before .before .before .before .before .args .rx)) (now (c .before .before .before .before .before .before .before .args .tx)) (is-fit (c .before .before .before .before .state-fits .ensures) (c .before .before .before .if1 .left))
+    rx-fits (c .before .before .before .before .before .before .before .args .s) (now (c .before .before .before .before .before .before .before .args .rx)) (now (c .before .before .before .before .before .before .before .args .tx)) (is-fit (c .before .before .before .before .state-fits .ensures) (c .before .before .before .if1 .left)) .ring .within
 
 returns-3 : tie.Need-returns-3
 unfolding checksOn outcome settledBy rxAfter txAfter

@@ -5,7 +5,7 @@ use Rattle.line.proofs.after_write.Tie as tie
 
 returns : tie.Need-returns
 returns c =
-    write-flow _ _ _ _ _ (c .before .before .before .before .if1 .taken) (c .before .before .before .scarce .ensures) (c .before .before .protocol-on .ensures)
+    write-flow _ _ _ _ _ (c .before .before .before .before .before .if1 .taken) (c .before .before .before .before .room .ensures) (c .before .before .protocol-on .ensures)
 
 returns-2 : tie.Need-returns-2
 returns-2 c =

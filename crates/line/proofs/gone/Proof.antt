@@ -6,7 +6,7 @@ use Rattle.line.proofs.gone.Tie as tie
 
 drop-oldest-requires : tie.Need-drop-oldest-requires
 drop-oldest-requires c κs =
-    (c .before .before .before .before .pre .0 .ring, gone-some _ _ _ (sym (c .before .o2 .given .1) ∙ c .before .before .before .before .pre .1))
+    (c .before .before .before .before .pre .0 .ring .within, gone-some _ _ _ (sym (c .before .o2 .given .1) ∙ c .before .before .before .before .pre .1))
 
 returns : tie.Need-returns
 returns c =
@@ -14,7 +14,7 @@ returns c =
 
 returns-2 : tie.Need-returns-2
 returns-2 c =
-    gone-held _ _ _ _ _ (c .before .before .o2 .given .1) (c .before .before .before .before .before .pre .0 .size) (c .drop-oldest .ensures)
+    gone-held _ _ _ _ (c .before .before .o2 .given .1) (c .drop-oldest .ensures)
 
 returns-3 : tie.Need-returns-3
 returns-3 c =

@@ -10,11 +10,11 @@ returns c =
 
 returns-2 : tie.Need-returns-2
 returns-2 c =
-    taken-stored _ _ _ _ _ (c .before .before .before .before .before .before .before .before .before .before .pre .size) (sym (c .before .before .before .before .before .before .before .before .is-go-or-stop .ensures) ∙ c .before .before .before .before .before .before .before .if1 .left) (c .before .before .before .before .before .put .ensures) _ (c .before .if2 .taken) (c .stored .ensures)
+    taken-stored _ _ _ _ _ (sym (c .before .before .before .before .before .before .before .before .is-go-or-stop .ensures) ∙ c .before .before .before .before .before .before .before .if1 .left) (c .before .before .before .before .before .put .ensures) _ (c .before .if2 .taken) (c .stored .ensures)
 
 returns-3 : tie.Need-returns-3
 returns-3 c =
-    taken-lost _ _ _ _ _ (c .before .before .before .before .before .before .before .before .before .before .pre .size) (sym (c .before .before .before .before .before .before .before .before .is-go-or-stop .ensures) ∙ c .before .before .before .before .before .before .before .if1 .left) (c .before .before .before .before .before .put .ensures) _ (c .before .if2 .left) (c .lost .ensures)
+    taken-lost _ _ _ _ _ (sym (c .before .before .before .before .before .before .before .before .is-go-or-stop .ensures) ∙ c .before .before .before .before .before .before .before .if1 .left) (c .before .before .before .before .before .put .ensures) _ (c .before .if2 .left) (c .lost .ensures)
 
 pub taken-spec : {M : Type 1} → statement M
 taken-spec =

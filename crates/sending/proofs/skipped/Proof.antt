@@ -25,7 +25,7 @@ drop-oldest-requires : tie.Need-drop-oldest-requires Inv-loop μ-loop
 drop-oldest-requires c κs =
     let d = c .before .before in
     let l = d .before .loop .inv in
-    (l .fit, pair-enough _ _ _ (l .fit) (sym (c .before .removes .ensures ∙ ap isRemoved (d .decided .ensures)) ∙ c .if1 .taken))
+    (l .fit .within, pair-enough _ _ _ (l .fit) (sym (c .before .removes .ensures ∙ ap isRemoved (d .decided .ensures)) ∙ c .if1 .taken))
 
 loop-less : tie.Need-loop-less Inv-loop μ-loop
 loop-less c =

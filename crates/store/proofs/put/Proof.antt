@@ -11,8 +11,9 @@ returns c =
 
 returns-2 : tie.Need-returns-2
 returns-2 c =
-    let p = c .before .before .before in
-    put-met (now (p .args .s)) (p .args .r) (p .args .b) (c .place .result) (p .pre) (c .before .if1 .left) (c .place .ensures .0)
+    let q = c .before in
+    let p = q .before .before .before in
+    put-met (now (p .args .s)) (p .args .r) (p .args .b) (q .place .result) (c .room .result) (p .pre) (q .before .if1 .left) (q .place .ensures .0) (c .room .ensures)
 
 pub put-spec : {M : Type 1} → statement M
 put-spec =
@@ -23,5 +24,6 @@ put-spec =
     (λ c κs. search needs)
     (λ c. search needs)
     (λ c. search needs)
+    (λ c κs. search needs)
     (λ c. search needs)
     returns-2)
