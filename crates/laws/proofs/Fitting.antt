@@ -99,14 +99,14 @@ module _ (rx tx : List ℕ) where
   settled-good s q e = e
 
   -- a talker in another phase
-  talking-good : (q : State) (phase f : ℕ) → G q → 1 ≤ q .role .talker → phase ≤ 3 → f < 1024 → G (talking q phase f)
+  talking-good : (q : State) (phase f : ℕ) → G q → 1 ≤ q .talker .role .phase → phase ≤ 3 → f < 1024 → G (talking q phase f)
   talking-good q phase f e h p k = good _ (talking-tests q (length rx) (length tx) (tests q (length rx) (length tx) e) phase f h p k)
 
-  ended-good : (q : State) (d : ℕ) → G q → 1 ≤ q .role .talker → G (ended q d .state)
+  ended-good : (q : State) (d : ℕ) → G q → 1 ≤ q .talker .role .phase → G (ended q d .state)
   unfolding ended
   ended-good q d e h = talking-good q 1 0 e h (omega arith) (omega arith)
 
-  given-good : (p q : State) (d : Given) → G q → 1 ≤ q .role .talker → ((g : ℕ) → d ≡ One g → g < 1024) → G (sendState p q d .state)
+  given-good : (p q : State) (d : Given) → G q → 1 ≤ q .talker .role .phase → ((g : ℕ) → d ≡ One g → g < 1024) → G (sendState p q d .state)
   unfolding sendState
   given-good p q Nothing e h k = ended-good q 64 e h
   given-good p q (One g) e h k = unfold fits in talking-good q 2 g e h (omega arith) (k g refl)
@@ -176,29 +176,29 @@ module _ (rx tx : List ℕ) where
         unfold fits resumed in
         (fits-with-rx (sentRing (ruleOf (s .regs)) rx (s .rx)) (store-laws.drop-fit rx (s .rx) _ (rx-fits s rx tx e .ring) (omega arith)))
 
-    send-good : Bytes rx → 1 ≤ s .role .talker → G (sendFrom s rx .state)
+    send-good : Bytes rx → 1 ≤ s .talker .role .phase → G (sendFrom s rx .state)
     unfolding sendFrom
     send-good b h =
         given-good s (removedState s rx) (givenOf (sendHeld (ruleOf (s .regs)) rx (s .rx))) removed-good (unfold removedState resumed in h)
         (λ g k. given-small (ruleOf (s .regs)) rx (s .rx) g (rx-fits s rx tx e .ring) b k)
 
-    status-good : 1 ≤ s .role .talker → G (sendStatus s .state)
+    status-good : 1 ≤ s .talker .role .phase → G (sendStatus s .state)
     unfolding sendStatus statusOf
     status-good h =
         talking-good (afterStatus s) 3 (made 0 (statusOf s)) (unfold fits afterStatus in e) (unfold afterStatus in h) (omega arith)
         (omega (arith, status-small (conditions s) (shows s)))
 
     -- an active talker, and one that is asked to send
-    active : (f : ℕ) → Returning s f → 1 ≤ s .role .talker
-    active f r = omega (arith, leb-true 2 (s .role .talker) (r .active))
+    active : (f : ℕ) → Returning s f → 1 ≤ s .talker .role .phase
+    active f r = omega (arith, leb-true 2 (s .talker .role .phase) (r .active))
 
-    asked : (d : Bool) → (d && eqb (s .role .talker) 1) ≡ true → 1 ≤ s .role .talker
-    asked d x = omega (arith, eqb-true (s .role .talker) 1 (and-right d (eqb (s .role .talker) 1) x))
+    asked : (d : Bool) → (d && eqb (s .talker .role .phase) 1) ≡ true → 1 ≤ s .talker .role .phase
+    asked d x = omega (arith, eqb-true (s .talker .role .phase) 1 (and-right d (eqb (s .talker .role .phase) 1) x))
 
     way-good : Bytes rx → (f : ℕ) (o : Outcome) → Way s rx f o → G (o .state)
     way-good b f o (isNext r m k n) = send-good b (active f r)
     way-good b f o (isBack r m k) =
-        ended-good (afterStatusBack s (dataOf (s .under .frame))) 64 (unfold fits afterStatusBack in e) (unfold afterStatusBack in active f r)
+        ended-good (afterStatusBack s (dataOf (s .talker .under .frame))) 64 (unfold fits afterStatusBack in e) (unfold afterStatusBack in active f r)
     way-good b f o (isLast r m k n) = ended-good s 64 e (active f r)
     way-good b f o (isDamaged r m) = ended-good s 65 e (active f r)
     way-good b f o (isStored r l) = left-good f

@@ -34,7 +34,7 @@ pub record Still (n : ℕ) (s t : State) : Type 0 where
 -- the three kinds of a frame f in the state s, with the state after it; n is the length of the receive store
 pub data Kind (n : ℕ) (s : State) (f : ℕ) (t : State) : Type 0 where
   clears : deviceClear s f ≡ true → addsBytes s f ≡ false → t .rx ≡ emptyRing → t .tx ≡ emptyRing → Kind n s f t
-  stores : deviceClear s f ≡ false → addsBytes s f ≡ true → isData f ≡ true → s .role .listener ≡ true →
+  stores : deviceClear s f ≡ false → addsBytes s f ≡ true → isData f ≡ true → s .talker .role .listener ≡ true →
       t .rx ≡ s .rx → t .tx ≡ putsRing (s .sizes .tx) (s .tx) (adds (s .regs) f) → Kind n s f t
   other : deviceClear s f ≡ false → addsBytes s f ≡ false → Still n s t → Kind n s f t
 
@@ -64,7 +64,7 @@ module _ (rx : List ℕ) (s : State) (fit : Fit rx (s .rx)) where
 
     clear-same : eqb (controlOf f) 4 ≡ true → deviceClear s f ≡ isClear (orderIn s f)
     unfolding deviceClear
-    clear-same e = λ i. e i && sym (clear-order (s .role) (dataOf f)) i
+    clear-same e = λ i. e i && sym (clear-order (s .talker .role) (dataOf f)) i
 
     return-kind : (t : State) → Returning s f → S t → K t
     unfolding addsBytes

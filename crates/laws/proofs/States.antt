@@ -21,7 +21,7 @@ use Rattle.store.specs.declared.Ring.{Ring}
 use Rattle.store.specs.Ring as store-ring
 use Rattle.store.specs.Ring.{emptyRing}
 use Rattle.state.specs.declared.State.{State}
-use Rattle.state.specs.declared.Under.{Under}
+use Rattle.talker.specs.declared.Under.{Under}
 use Rattle.state.specs.State.{withRegisters, withRole, withUnder, withRx, withTx, noFrame}
 use Rattle.state.specs.Sizes.{sizesObeyed, startState, fits}
 use Rattle.state.proofs.Fits.{Tests}
@@ -37,8 +37,8 @@ tested s a b t =
       eq-eqb (s .sizes .tx) b (t .txSize),
       t .sizes,
       t .regs,
-      t .role,
-      lt-ltb (s .under .frame) 1024 (t .frame),
+      t .talker .role,
+      lt-ltb (s .talker .under .frame) 1024 (t .frame),
       t .rxRing,
       t .txRing,
     )
@@ -95,7 +95,7 @@ start-fits m a b e =
 module _ (s : State) (a b : ℕ) (t : Tests s a b) where
   pub with-registers : (g : Registers) → registersFit g ≡ true → Tests (withRegisters s g) a b
   with-registers g e =
-      record { rxSize = t .rxSize; txSize = t .txSize; sizes = t .sizes; regs = e; role = t .role; frame = t .frame; rxRing = t .rxRing; txRing = t .txRing }
+      record { rxSize = t .rxSize; txSize = t .txSize; sizes = t .sizes; regs = e; role = t .talker .role; frame = t .frame; rxRing = t .rxRing; txRing = t .txRing }
 
   pub with-role : (r : Role) → role-fit.Fit r → Tests (withRole s r) a b
   with-role r e =
@@ -113,20 +113,20 @@ module _ (s : State) (a b : ℕ) (t : Tests s a b) where
 
   pub with-under : (u : Under) → u .frame < 1024 → Tests (withUnder s u) a b
   with-under u h =
-      record { rxSize = t .rxSize; txSize = t .txSize; sizes = t .sizes; regs = t .regs; role = t .role; frame = h; rxRing = t .rxRing; txRing = t .txRing }
+      record { rxSize = t .rxSize; txSize = t .txSize; sizes = t .sizes; regs = t .regs; role = t .talker .role; frame = h; rxRing = t .rxRing; txRing = t .txRing }
 
   pub with-rx : (r : Ring) → store-ring.fitTest a r ≡ true → Tests (withRx s r) a b
   with-rx r e =
-      record { rxSize = t .rxSize; txSize = t .txSize; sizes = t .sizes; regs = t .regs; role = t .role; frame = t .frame; rxRing = e; txRing = t .txRing }
+      record { rxSize = t .rxSize; txSize = t .txSize; sizes = t .sizes; regs = t .regs; role = t .talker .role; frame = t .frame; rxRing = e; txRing = t .txRing }
 
   pub with-tx : (r : Ring) → store-ring.fitTest b r ≡ true → Tests (withTx s r) a b
   with-tx r e =
-      record { rxSize = t .rxSize; txSize = t .txSize; sizes = t .sizes; regs = t .regs; role = t .role; frame = t .frame; rxRing = t .rxRing; txRing = e }
+      record { rxSize = t .rxSize; txSize = t .txSize; sizes = t .sizes; regs = t .regs; role = t .talker .role; frame = t .frame; rxRing = t .rxRing; txRing = e }
 
-  role-fits : role-fit.Fit (s .role)
-  role-fits = role-laws.fit-true (s .role) (t .role)
+  role-fits : role-fit.Fit (s .talker .role)
+  role-fits = role-laws.fit-true (s .talker .role) (t .talker .role)
 
-  pub talking-tests : (phase f : ℕ) → 1 ≤ s .role .talker → phase ≤ 3 → f < 1024 → Tests (talking s phase f) a b
+  pub talking-tests : (phase f : ℕ) → 1 ≤ s .talker .role .phase → phase ≤ 3 → f < 1024 → Tests (talking s phase f) a b
   unfolding talking
   talking-tests phase f h p k =
       record {
@@ -134,7 +134,7 @@ module _ (s : State) (a b : ℕ) (t : Tests s a b) where
         txSize = t .txSize;
         sizes = t .sizes;
         regs = t .regs;
-        role = role-laws.fit-test (withTalker (s .role) phase) (role-laws.fit-talker (s .role) phase h p role-fits);
+        role = role-laws.fit-test (withTalker (s .talker .role) phase) (role-laws.fit-talker (s .talker .role) phase h p role-fits);
         frame = k;
         rxRing = t .rxRing;
         txRing = t .txRing;
@@ -148,8 +148,8 @@ module _ (s : State) (a b : ℕ) (t : Tests s a b) where
         txSize = t .txSize;
         sizes = t .sizes;
         regs = t .regs;
-        role = role-laws.fit-test _ (obeyed-fit (s .role) o role-fits);
-        frame = by-cond (λ (u : Under). u .frame < 1024) (isActive (s .role)) noFrame (s .under) (λ _. omega arith) (λ _. t .frame);
+        role = role-laws.fit-test _ (obeyed-fit (s .talker .role) o role-fits);
+        frame = by-cond (λ (u : Under). u .frame < 1024) (isActive (s .talker .role)) noFrame (s .talker .under) (λ _. omega arith) (λ _. t .frame);
         rxRing = t .rxRing;
         txRing = t .txRing;
       }
@@ -163,11 +163,11 @@ module _ (s : State) (a b : ℕ) (t : Tests s a b) where
         txSize = t .txSize;
         sizes = t .sizes;
         regs = t .regs;
-        role = t .role;
+        role = t .talker .role;
         frame = t .frame;
         rxRing = empty-test a (r .rx) (r .rxMost);
         txRing = empty-test b (r .tx) (r .txMost);
       }
 
-  pub assigned-tests : (d : ℕ) → Tests (withRole s (assignedRole (s .role) d)) a b
-  assigned-tests d = with-role (assignedRole (s .role) d) (assigned-fit (s .role) d role-fits)
+  pub assigned-tests : (d : ℕ) → Tests (withRole s (assignedRole (s .talker .role) d)) a b
+  assigned-tests d = with-role (assignedRole (s .talker .role) d) (assigned-fit (s .talker .role) d role-fits)

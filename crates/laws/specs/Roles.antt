@@ -94,5 +94,5 @@ abbrev pub RoleGoes : Law
 RoleGoes =
     ofCalls
     (λ s. of startsAnew s ≡ false →
-    s .after .state .role ≡
-    onFrame (λ f. cond (taken (s .answer)) (byFrame f (s .before .state .role) (s .answer)) (s .before .state .role)) (s .before .state .role) (s .call))
+    s .after .state .talker .role ≡
+    onFrame (λ f. cond (taken (s .answer)) (byFrame f (s .before .state .talker .role) (s .answer)) (s .before .state .talker .role)) (s .before .state .talker .role) (s .call))

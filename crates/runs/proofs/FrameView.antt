@@ -64,7 +64,7 @@ module _ (w : World) (f : ℕ) where
 -- ---- every frame
 
 module _ (w : World) (F : Fits w) (f : ℕ) (B : busy (w .state) f ≡ false) where
-  room : isData f ≡ true → w .state .role .listener ≡ true → w .state .tx .len + length (adds (w .state .regs) f) ≤ w .state .sizes .tx
+  room : isData f ≡ true → w .state .talker .role .listener ≡ true → w .state .tx .len + length (adds (w .state .regs) f) ≤ w .state .sizes .tx
   unfolding busy
   room d e =
       let r : ltb (w .state .sizes .tx - w .state .tx .len) (length (adds (w .state .regs) f)) ≡ false =
@@ -72,16 +72,16 @@ module _ (w : World) (F : Fits w) (f : ℕ) (B : busy (w .state) f ≡ false) wh
       omega (arith, ltb-false (w .state .sizes .tx - w .state .tx .len) (length (adds (w .state .regs) f)) r, tx-room (w .state) (w .rx) (w .tx) F)
 
   -- a listener is no active talker
-  stores : addsBytes (w .state) f ≡ (isData f && w .state .role .listener)
+  stores : addsBytes (w .state) f ≡ (isData f && w .state .talker .role .listener)
   unfolding addsBytes
-  stores = go (isData f) (w .state .role .listener) refl
+  stores = go (isData f) (w .state .talker .role .listener) refl
     where
-      idle : w .state .role .listener ≡ true → isActive (w .state .role) ≡ false
-      idle l = lt-leb 2 (w .state .role .talker) (omega (arith, role-fits w F .apart l))
+      idle : w .state .talker .role .listener ≡ true → isActive (w .state .talker .role) ≡ false
+      idle l = lt-leb 2 (w .state .talker .role .phase) (omega (arith, role-fits w F .apart l))
 
-      go : (d l : Bool) → w .state .role .listener ≡ l → ((d && not (isActive (w .state .role))) && l) ≡ (d && l)
+      go : (d l : Bool) → w .state .talker .role .listener ≡ l → ((d && not (isActive (w .state .talker .role))) && l) ≡ (d && l)
       go true true e = λ i. not (idle e i) && true
-      go true false e = and-false (not (isActive (w .state .role)))
+      go true false e = and-false (not (isActive (w .state .talker .role)))
       go false l e = refl
 
   -- a frame that passes is not sent, and no other is a data frame
@@ -90,7 +90,7 @@ module _ (w : World) (F : Fits w) (f : ℕ) (B : busy (w .state) f ≡ false) wh
   other-sent t n false x = no-data n (x .answer refl)
 
   by-kind : (o : Outcome) → Kind (w .state) (w .rx) f o →
-      FrameShaped w f (cond (isData f && w .state .role .listener) (addedBytes (w .state) (w .tx) f) (w .tx)) o
+      FrameShaped w f (cond (isData f && w .state .talker .role .listener) (addedBytes (w .state) (w .tx) f) (w .tx)) o
   unfolding sendStatus ended talking cleared obeyed addedState addedBytes status.afterStatus status.afterStatusBack said
   by-kind o (kinds.isSent m) = rw (m .adds) (send-shape w f F m)
   by-kind o (kinds.isStatus m) = rw (m .adds) (marked w f _ _ _ _ _ _ _ _ m refl isStill)

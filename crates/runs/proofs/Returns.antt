@@ -14,7 +14,7 @@ use Rattle.machine.specs.Machine.{Obeys, finally}
 use Rattle.frame.specs.Frame.{controlOf, dataOf, made, isData, stripped, sameApart}
 use Rattle.role.specs.declared.Role.{Role}
 use Rattle.state.specs.declared.State.{State}
-use Rattle.state.specs.declared.Under as declared-under
+use Rattle.talker.specs.declared.Under as declared-under
 use Rattle.state.specs.declared.Outcome.{Outcome}
 use Rattle.state.specs.Answers.{Said, said, frame, refused}
 use Rattle.line.specs.HoldingOff.{nextOut}
@@ -51,18 +51,18 @@ use Rattle.runs.proofs.Steps.{answer, after, end, some, Without, ours, 
 
 -- the frame under way is g but for the service bit, the talker is active, with status where k holds, and finishing is e
 record Under (k : Bool) (g : ℕ) (e : Bool) (s : State) : Type 0 where
-  talker : s .role .talker ≡ cond k 3 2
-  frame : stripped (s .under .frame) ≡ g
-  finishing : k ≡ false → s .under .finishing ≡ e
+  talker : s .talker .role .phase ≡ cond k 3 2
+  frame : stripped (s .talker .under .frame) ≡ g
+  finishing : k ≡ false → s .talker .under .finishing ≡ e
 
 module _ (k : Bool) (g : ℕ) (e : Bool) where
   -- nothing of it changes
   moved : {x : Bool} (s t : State) → Untouched s t → Under k g x s → Under k g x t
   moved s t v u =
       record {
-        talker = ap (λ (r : Role). r .talker) (v .role) ∙ u .talker;
-        frame = ap (λ (y : declared-under.Under). stripped (y .frame)) (v .under) ∙ u .frame;
-        finishing = λ h. ap (λ (y : declared-under.Under). y .finishing) (v .under) ∙ u .finishing h;
+        talker = ap (λ (r : Role). r .talker) (v .talker .role) ∙ u .talker;
+        frame = ap (λ (y : declared-under.Under). stripped (y .frame)) (v .talker .under) ∙ u .frame;
+        finishing = λ h. ap (λ (y : declared-under.Under). y .finishing) (v .talker .under) ∙ u .finishing h;
       }
 
   -- nothing of it changes, and no ready 66 was taken
@@ -72,15 +72,15 @@ module _ (k : Bool) (g : ℕ) (e : Bool) where
       record { talker = m .talker; frame = m .frame; finishing = λ h. m .finishing h ∙ sym (or-false e) ∙ (λ i. e || sym n i) }
 
   both : (s t v : State) → Untouched s t → Untouched t v → Untouched s v
-  both s t v p q = record { role = q .role ∙ p .role; under = q .under ∙ p .under }
+  both s t v p q = record { role = q .talker .role ∙ p .talker .role; under = q .talker .under ∙ p .talker .under }
 
   -- the talker is no mere addressed one
-  not-addressed : (s : State) → Under k g e s → eqb (s .role .talker) 1 ≡ true → ⊥
+  not-addressed : (s : State) → Under k g e s → eqb (s .talker .role .phase) 1 ≡ true → ⊥
   not-addressed s u h = go k (u .talker)
     where
-      go : (k : Bool) → s .role .talker ≡ cond k 3 2 → ⊥
-      go true t = omega (arith, eqb-true (s .role .talker) 1 h)
-      go false t = omega (arith, eqb-true (s .role .talker) 1 h)
+      go : (k : Bool) → s .talker .role .phase ≡ cond k 3 2 → ⊥
+      go true t = omega (arith, eqb-true (s .talker .role .phase) 1 h)
+      go false t = omega (arith, eqb-true (s .talker .role .phase) 1 h)
 
   module _ (w : World) (f : ℕ) (u : Under k g e (w .state)) (D : isData f ≡ false) (C : eqb (controlOf f) 4 ≡ false) where
     -- a ready frame other than 66
@@ -101,7 +101,7 @@ module _ (k : Bool) (g : ℕ) (e : Bool) where
         record {
           talker = u .talker;
           frame = u .frame;
-          finishing = λ h. u .finishing h ∙ sym (or-false e) ∙ (λ i. e || sym (unlike (address-high (w .state .role) (dataOf f) 66 (omega arith) a)) i);
+          finishing = λ h. u .finishing h ∙ sym (or-false e) ∙ (λ i. e || sym (unlike (address-high (w .state .talker .role) (dataOf f) 66 (omega arith) a)) i);
         }
     frame-on o (isSendAsked r a x) = absurd (not-addressed (w .state) u (and-right (eqb (dataOf f) 96) _ x))
     frame-on o (isTold r a x y) = absurd (not-addressed (w .state) u (and-right (eqb (dataOf f) 97) _ y))
@@ -115,7 +115,7 @@ module _ (k : Bool) (g : ℕ) (e : Bool) where
     frame-on o (isReady r a x y z) = record { talker = u .talker; frame = u .frame; finishing = λ h. u .finishing h ∙ go h (eqb (dataOf f) 66) refl }
       where
         go : k ≡ false → (t : Bool) → eqb (dataOf f) 66 ≡ t → e ≡ (e || eqb f (made 5 66))
-        go h true q = absurd (true≢false (sym (λ i. q i && eq-eqb (w .state .role .talker) 2 (u .talker ∙ (λ j. cond (h j) 3 2)) i) ∙ z))
+        go h true q = absurd (true≢false (sym (λ i. q i && eq-eqb (w .state .talker .role .phase) 2 (u .talker ∙ (λ j. cond (h j) 3 2)) i) ∙ z))
         go h false q = sym (or-false e) ∙ (λ i. e || sym (unlike (eqb-false (dataOf f) 66 q)) i)
     frame-on o (isIdentified r) =
         record {
@@ -269,19 +269,19 @@ run-on k g e (c ∷ cs) w n u =
 -- ---- the return
 
 module _ (k : Bool) (g : ℕ) (e : Bool) (w : World) (u : Under k g e (w .state)) (r : ℕ) (D : isData r ≡ true) where
-  active : isActive (w .state .role) ≡ true
-  active = le-leb 2 (w .state .role .talker) (go k (u .talker))
+  active : isActive (w .state .talker .role) ≡ true
+  active = le-leb 2 (w .state .talker .role .phase) (go k (u .talker))
     where
-      go : (k : Bool) → w .state .role .talker ≡ cond k 3 2 → 2 ≤ w .state .role .talker
+      go : (k : Bool) → w .state .talker .role .phase ≡ cond k 3 2 → 2 ≤ w .state .talker .role .phase
       go true t = omega arith
       go false t = omega arith
 
   -- it is the same frame by what was sent and by what is under way
-  apart : sameApart r g ≡ sameApart r (w .state .under .frame)
+  apart : sameApart r g ≡ sameApart r (w .state .talker .under .frame)
   unfolding sameApart
-  apart = ap (λ (x : ℕ). eqb (stripped r) x) (ap stripped (sym (u .frame)) ∙ stripped-twice (w .state .under .frame))
+  apart = ap (λ (x : ℕ). eqb (stripped r) x) (ap stripped (sym (u .frame)) ∙ stripped-twice (w .state .talker .under .frame))
 
-  of-status : eqb (w .state .role .talker) 3 ≡ k
+  of-status : eqb (w .state .talker .role .phase) 3 ≡ k
   of-status = ap (λ (t : ℕ). eqb t 3) (u .talker) ∙ go k
     where
       go : (k : Bool) → eqb (cond k 3 2) 3 ≡ k
@@ -293,9 +293,9 @@ module _ (k : Bool) (g : ℕ) (e : Bool) (w : World) (u : Under k g e (w .state)
   unfolding isSend equalReturn
   sends m n =
       let x = neither k e n in
-      let two : w .state .role .talker ≡ 2 = u .talker ∙ (λ i. cond (x .0 i) 3 2) in
+      let two : w .state .talker .role .phase ≡ 2 = u .talker ∙ (λ i. cond (x .0 i) 3 2) in
       (λ i. isAsked 96 (w .state) r ||
-      (((D i && active i) && (sym apart ∙ m) i) && (eq-eqb (w .state .role .talker) 2 two i && not ((u .finishing (x .0) ∙ x .1) i))))
+      (((D i && active i) && (sym apart ∙ m) i) && (eq-eqb (w .state .talker .role .phase) 2 two i && not ((u .finishing (x .0) ∙ x .1) i))))
       ∙ or-true (isAsked 96 (w .state) r)
 
   abbrev Ends : Said → Type 0

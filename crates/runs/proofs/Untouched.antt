@@ -14,8 +14,8 @@ use Rattle.line.specs.HoldingOff.{isGoOrStop, flowed, lostState, storedWith, li
 
 -- the role and the frame under way
 pub record Untouched (s t : State) : Type 0 where
-  pub role : t .role ≡ s .role
-  pub under : t .under ≡ s .under
+  pub role : t .talker .role ≡ s .talker .role
+  pub under : t .talker .under ≡ s .talker .under
 
 -- with requests settled or not
 pub settled-untouched : (s : State) (t : Bool) (u : State) → Untouched u (cond t u (settled s u))

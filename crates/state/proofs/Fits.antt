@@ -1,16 +1,16 @@
 -- What a state that fits gives to the functions of the bridge. Assumes nothing.
-use Prim.Native.Nat.{ℕ, _≤_, _<_}
+use Prim.Native.Nat.{ℕ, _≤_}
 use native.Mathlib.Omega.{arith}
 use mathlib.Core.Path.{_≡_, sym, _∙_}
 use mathlib.Core.List.{List}
 use mathlib.Core.Bool.{Bool, true, false, _&&_, not}
-use lib.Dec.{eqb, leb, ltb}
+use lib.Dec.{eqb, leb}
 use lib.ListN.{length}
-use borrow.Author.Tests.{eqb-true, leb-true, ltb-true, not-true, not-false}
+use borrow.Author.Tests.{eqb-true, leb-true, not-true, not-false}
 use Rattle.cases.proofs.Cases.{and-left, and-right}
 use Rattle.store.specs.Ring as store-ring
 use Rattle.store.proofs.Laws.{fit-true}
-use Rattle.role.specs.Fit as role-fit
+use Rattle.talker.specs.Fit as talker-fit
 use Rattle.registers.specs.Fit.{registersFit}
 use Rattle.state.specs.declared.State.{State}
 use Rattle.state.specs.Sizes.{sizesObeyed, fits, RxFits, TxFits}
@@ -21,8 +21,7 @@ pub record Tests (s : State) (rx tx : ℕ) : Type 0 where
   pub txSize : s .sizes .tx ≡ tx
   pub sizes : sizesObeyed (s .sizes .margin) rx tx ≡ true
   pub regs : registersFit (s .regs) ≡ true
-  pub role : role-fit.fitTest (s .role) ≡ true
-  pub frame : s .under .frame < 1024
+  pub talker : talker-fit.fitTest (s .talker) ≡ true
   pub rxRing : store-ring.fitTest rx (s .rx) ≡ true
   pub txRing : store-ring.fitTest tx (s .tx) ≡ true
 
@@ -33,13 +32,11 @@ tests s rx tx e =
     let b = eqb (s .sizes .tx) tx in
     let c = sizesObeyed (s .sizes .margin) rx tx in
     let d = registersFit (s .regs) in
-    let r = role-fit.fitTest (s .role) in
-    let f = ltb (s .under .frame) 1024 in
+    let r = talker-fit.fitTest (s .talker) in
     let g = store-ring.fitTest rx (s .rx) in
     let h = store-ring.fitTest tx (s .tx) in
-    let e₇ : (((((a && b) && c) && d) && r) && f) && g ≡ true = and-left _ h e in
-    let e₆ : ((((a && b) && c) && d) && r) && f ≡ true = and-left _ g e₇ in
-    let e₅ : (((a && b) && c) && d) && r ≡ true = and-left _ f e₆ in
+    let e₆ : ((((a && b) && c) && d) && r) && g ≡ true = and-left _ h e in
+    let e₅ : (((a && b) && c) && d) && r ≡ true = and-left _ g e₆ in
     let e₄ : ((a && b) && c) && d ≡ true = and-left _ r e₅ in
     let e₃ : (a && b) && c ≡ true = and-left _ d e₄ in
     let e₂ : a && b ≡ true = and-left _ c e₃ in
@@ -48,10 +45,9 @@ tests s rx tx e =
       txSize = eqb-true (s .sizes .tx) tx (and-right a b e₂);
       sizes = and-right (a && b) c e₃;
       regs = and-right ((a && b) && c) d e₄;
-      role = and-right (((a && b) && c) && d) r e₅;
-      frame = ltb-true (s .under .frame) 1024 (and-right ((((a && b) && c) && d) && r) f e₆);
-      rxRing = and-right (((((a && b) && c) && d) && r) && f) g e₇;
-      txRing = and-right ((((((a && b) && c) && d) && r) && f) && g) h e;
+      talker = and-right (((a && b) && c) && d) r e₅;
+      rxRing = and-right ((((a && b) && c) && d) && r) g e₆;
+      txRing = and-right (((((a && b) && c) && d) && r) && g) h e;
     }
 
 -- the margin of sizes that are obeyed

@@ -2,30 +2,32 @@
 use Prim.Native.Nat.{ℕ}
 use mathlib.Core.Path.{_≡_}
 use mathlib.Core.Bool.{Bool, false, _&&_, _||_}
-use lib.Dec.{eqb, ltb}
+use lib.Dec.{eqb}
 use Rattle.registers.specs.declared.Registers.{Registers}
 use Rattle.registers.specs.Table.{startRegisters}
 use Rattle.registers.specs.Fit.{registersFit}
 use Rattle.registers.specs.Meanings.{requestsShow, overrunEnabled, transmitEmptyEnabled, transmitNotFullEnabled, receiveNotEmptyEnabled, receiveFullEnabled, breakEnabled, keyEnabled}
-use Rattle.role.specs.declared.Role.{Role}
-use Rattle.role.specs.Parts.{startRole}
-use Rattle.role.specs.Fit as role-fit
+use Rattle.role.specs.declared.remote.Remote.{Remote}
+use Rattle.role.specs.Remote.{startRemote}
+use Rattle.talker.specs.declared.Talker.{Talker}
+use Rattle.talker.specs.Parts.{startTalker}
+use Rattle.talker.specs.Fit as talker-fit
 use Rattle.store.specs.declared.Ring.{Ring}
 use Rattle.store.specs.Ring as store-ring
 use Rattle.status.specs.declared.Conditions.{Conditions}
 use Rattle.status.specs.declared.Events.{Events}
 use Rattle.status.specs.Status.{statusByte, both, begins, acknowledged}
 use Rattle.state.specs.declared.State.{State}
-use Rattle.state.specs.State.{noEvents, notesWith, noFrame}
+use Rattle.state.specs.State.{noEvents, notesWith}
 use Rattle.state.specs.Sizes.{sizesObeyed, startState, fits}
 use Rattle.state.specs.Status.{conditions, enabledBy, asking, withRequest, settled, shows, statusOf, afterStatus, afterStatusBack}
 
-pub start-met : (m a b : ℕ) (g : Registers) (r : Role) (x y : Ring) (p q : Events) → g ≡ startRegisters → r ≡ startRole → x ≡ store-ring.emptyRing → y ≡ store-ring.emptyRing → p ≡ noEvents → q ≡ noEvents →
+pub start-met : (m a b : ℕ) (g : Registers) (t : Talker) (r : Remote) (x y : Ring) (p q : Events) → g ≡ startRegisters → t ≡ startTalker → r ≡ startRemote → x ≡ store-ring.emptyRing → y ≡ store-ring.emptyRing → p ≡ noEvents → q ≡ noEvents →
     record {
       sizes = record { rx = a; tx = b; margin = m };
       regs = g;
-      role = r;
-      under = noFrame;
+      talker = t;
+      remote = r;
       rx = x;
       tx = y;
       line = record { holding = false; forbidden = false; stopped = false };
@@ -33,10 +35,10 @@ pub start-met : (m a b : ℕ) (g : Registers) (r : Role) (x y : Ring) (p q : Eve
       counts = record { stored = 0; lost = 0; sent = 0 };
     } ≡ startState m a b
 unfolding startState
-start-met m a b g r x y p q eg er ex ey ep eq = rw (eg, er, ex, ey, ep, eq)
+start-met m a b g t r x y p q eg et er ex ey ep eq = rw (eg, et, er, ex, ey, ep, eq)
 
-pub fits-met : (s : State) (a b : ℕ) (z g r x y : Bool) → z ≡ sizesObeyed (s .sizes .margin) a b → g ≡ registersFit (s .regs) → r ≡ role-fit.fitTest (s .role) → x ≡ store-ring.fitTest a (s .rx) → y ≡ store-ring.fitTest b (s .tx) →
-    (((((((eqb (s .sizes .rx) a && eqb (s .sizes .tx) b) && z) && g) && r) && ltb (s .under .frame) 1024) && x) && y) ≡ fits s a b
+pub fits-met : (s : State) (a b : ℕ) (z g r x y : Bool) → z ≡ sizesObeyed (s .sizes .margin) a b → g ≡ registersFit (s .regs) → r ≡ talker-fit.fitTest (s .talker) → x ≡ store-ring.fitTest a (s .rx) → y ≡ store-ring.fitTest b (s .tx) →
+    ((((((eqb (s .sizes .rx) a && eqb (s .sizes .tx) b) && z) && g) && r) && x) && y) ≡ fits s a b
 unfolding fits
 fits-met s a b z g r x y ez eg er ex ey = rw (ez, eg, er, ex, ey)
 

@@ -7,11 +7,12 @@ use mathlib.Core.Bool.{Bool, false, _&&_}
 use lib.Dec.{eqb, leb, ltb}
 use Rattle.registers.specs.Table.{startRegisters}
 use Rattle.registers.specs.Fit.{registersFit}
-use Rattle.role.specs.Parts.{startRole}
-use Rattle.role.specs.Fit as role-fit
+use Rattle.role.specs.Remote.{startRemote}
+use Rattle.talker.specs.Parts.{startTalker}
+use Rattle.talker.specs.Fit as talker-fit
 use Rattle.store.specs.Ring as store-ring
 use Rattle.state.specs.declared.State.{State}
-use Rattle.state.specs.State.{noEvents, noFrame}
+use Rattle.state.specs.State.{noEvents}
 
 -- "Margin m is 1 to 1,024. The receive store has 2m+2 to 32,768 bytes, the transmit store 3 to 32,768."
 unfoldable pub sizesObeyed : ℕ → ℕ → ℕ → Bool
@@ -23,8 +24,8 @@ startState m rx tx =
     record {
       sizes = record { rx = rx; tx = tx; margin = m };
       regs = startRegisters;
-      role = startRole;
-      under = noFrame;
+      talker = startTalker;
+      remote = startRemote;
       rx = store-ring.emptyRing;
       tx = store-ring.emptyRing;
       line = record { holding = false; forbidden = false; stopped = false };
@@ -33,12 +34,12 @@ startState m rx tx =
     }
 
 -- "A state fits if its recorded lengths are those of the stores and obey the sizes above with its margin, every field is in its range,
--- go and stop differ, and it is not talker and listener at once": the registers, the role, the frame under way (a data frame) and both
+-- go and stop differ, and it is not talker and listener at once": the registers, the talker and both
 -- rings have ranges of their own, and every value of the other fields is in range
 unfoldable pub fits : State → ℕ → ℕ → Bool
 fits s rx tx =
-    ((((((eqb (s .sizes .rx) rx && eqb (s .sizes .tx) tx) && sizesObeyed (s .sizes .margin) rx tx) && registersFit (s .regs))
-    && role-fit.fitTest (s .role)) && ltb (s .under .frame) 1024) && store-ring.fitTest rx (s .rx)) && store-ring.fitTest tx (s .tx)
+    (((((eqb (s .sizes .rx) rx && eqb (s .sizes .tx) tx) && sizesObeyed (s .sizes .margin) rx tx) && registersFit (s .regs))
+    && talker-fit.fitTest (s .talker)) && store-ring.fitTest rx (s .rx)) && store-ring.fitTest tx (s .tx)
 
 -- what fitting says of the receive side, and of the transmit side
 pub record RxFits (s : State) (rx : List ℕ) : Type 0 where

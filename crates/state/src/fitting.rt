@@ -7,7 +7,6 @@ use crate::Line;
 use crate::Notes;
 use crate::Sizes;
 use crate::State;
-use crate::Under;
 use status::Events;
 
 // Whether the margin and the lengths obey the sizes.
@@ -43,11 +42,8 @@ pub fn start(m: usize, rx: usize, tx: usize) -> State
             margin: m,
         },
         regs: registers::start(),
-        role: role::start(),
-        under: Under {
-            frame: 0,
-            finishing: false,
-        },
+        talker: talker::start(),
+        remote: role::remote::start(),
         rx: store::emptied(),
         tx: store::emptied(),
         line: Line {
@@ -76,8 +72,7 @@ pub fn state_fits(s: State, rx: usize, tx: usize) -> bool
         & (s.sizes.tx == tx)
         & sizes_obeyed(s.sizes.margin, rx, tx)
         & registers::registers_fit(s.regs)
-        & role::role_fits(s.role)
-        & (s.under.frame < 1024)
+        & talker::talker_fits(s.talker)
         & store::ring_fits(rx, s.rx)
         & store::ring_fits(tx, s.tx)
 }

@@ -55,5 +55,4 @@ module _ (t : Talker) (fit : Fit t) where
   talking-fit phase f h p k = record { role = role-laws.fit-phase (t .role) phase h p (fit .role); frame = k }
 
   pub ended-fit : 1 ≤ t .role .phase → Fit (endedTalker t)
-  unfolding endedTalker
   ended-fit h = talking-fit 1 0 h (omega arith) (omega arith)

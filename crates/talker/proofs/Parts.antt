@@ -16,7 +16,7 @@ use Rattle.talker.specs.declared.Return.the-variants.{Damaged, StatusBac
 use Rattle.talker.specs.Parts.{noFrame, startTalker, withRole, withUnder}
 use Rattle.talker.specs.Commands.{forgotten, obeyedTalker}
 use Rattle.talker.specs.ReadyFrames.{assignedTalker}
-use Rattle.talker.specs.Sending.{talking, endedTalker}
+use Rattle.talker.specs.Sending.{talking}
 use Rattle.talker.specs.Returns.{returnOf}
 use Rattle.talker.specs.Fit.{fitTest}
 
@@ -42,10 +42,6 @@ assigned-met t d r e = rw e
 pub talking-met : (t : Talker) (phase f : ℕ) (r : Role) → r ≡ withPhase (t .role) phase → record { role = r; under = record { frame = f; finishing = false } } ≡ talking t phase f
 unfolding talking
 talking-met t phase f r e = rw e
-
-pub ended-met : (t q : Talker) → q ≡ talking t 1 0 → q ≡ endedTalker t
-unfolding endedTalker
-ended-met t q e = e
 
 -- ---- returns
 

@@ -9,5 +9,5 @@ unfoldable pub talking : Talker → ℕ → ℕ → Talker
 talking t phase f = record { role = withPhase (t .role) phase; under = record { frame = f; finishing = false } }
 
 -- Frames, returns, after 5,64 or 5,65: addressed, and nothing under way
-unfoldable pub endedTalker : Talker → Talker
+abbrev pub endedTalker : Talker → Talker
 endedTalker t = talking t addressed 0

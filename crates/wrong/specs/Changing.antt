@@ -52,8 +52,8 @@ withSizes s x =
     record {
       sizes = x;
       regs = s .regs;
-      role = s .role;
-      under = s .under;
+      role = s .talker .role;
+      under = s .talker .under;
       rx = s .rx;
       tx = s .tx;
       line = s .line;

@@ -14,11 +14,11 @@ use Rattle.wrong.specs.Seeing.{Sight, afterSight, insteadAt}
 
 -- a data frame taken while ours is under way
 abbrev pub isReturn : World → ℕ → Bool
-isReturn w f = isData f && isActive (w .state .role)
+isReturn w f = isData f && isActive (w .state .talker .role)
 
 -- one that is not the very frame under way, its service bit and all
 abbrev pub notTheVery : Sight
-notTheVery c w a = onFrame (λ f. isReturn w f && not (eqb f (w .state .under .frame))) false c
+notTheVery c w a = onFrame (λ f. isReturn w f && not (eqb f (w .state .talker .under .frame))) false c
 
 -- Slips we have seen, the third: a return to which another device has added its service bit is damage to it
 abbrev pub comparesService : Call → World → Did
@@ -34,7 +34,7 @@ damageGives64 = answering (λ c w a. cond (onFrame (λ f. isReturn w f && not (e
 
 -- ready 66 taken while active with data
 abbrev pub asksToFinish : Sight
-asksToFinish c w a = onFrame (λ f. eqb f (made 5 66) && eqb (w .state .role .talker) activeData) false c
+asksToFinish c w a = onFrame (λ f. eqb f (made 5 66) && eqb (w .state .talker .role .phase) activeData) false c
 
 -- finishes at once at ready 66, and does not wait for the frame under way
 abbrev pub finishesAtOnce : Call → World → Did
@@ -42,4 +42,4 @@ finishesAtOnce = afterSight asksToFinish (λ before after. talking after address
 
 -- takes no notice of ready 66, and never finishes
 abbrev pub neverFinishes : Call → World → Did
-neverFinishes = afterSight asksToFinish (λ before after. withUnder after (before .under))
+neverFinishes = afterSight asksToFinish (λ before after. withUnder after (before .talker .under))

@@ -13,7 +13,7 @@ use Rattle.wrong.specs.Changing.{afterwards, isCommand}
 
 -- ours, with the role changed by the role before and after the call
 abbrev turning : (Call → Role → Role → Role) → Call → World → Did
-turning change = afterwards (λ c w s. withRole s (change c (w .state .role) (s .role)))
+turning change = afterwards (λ c w s. withRole s (change c (w .state .talker .role) (s .talker .role)))
 
 -- takes no notice of the command d
 abbrev pub ignoring : ℕ → Call → World → Did

@@ -28,7 +28,7 @@ createKeepsCounts = afterwards (λ c w s. cond (isCreate c) (withCounts s (w .st
 
 -- starts at address 0, as if one had been given
 abbrev pub startsAssigned : Call → World → Did
-startsAssigned = afterwards (λ c w s. cond (restarts c done) (withRole s (withAddress (s .role) 0)) s)
+startsAssigned = afterwards (λ c w s. cond (restarts c done) (withRole s (withAddress (s .talker .role) 0)) s)
 
 -- reset makes the margin larger by one
 abbrev pub resetWidens : Call → World → Did

@@ -13,10 +13,10 @@ use Rattle.wrong.specs.Seeing.{Sight, afterSight, insteadAt, only, alway
 
 -- a data frame comes back while status is under way, and one that is equal to it
 abbrev pub statusReturns : Sight
-statusReturns c w a = onFrame (λ f. isData f && eqb (w .state .role .talker) activeStatus) false c
+statusReturns c w a = onFrame (λ f. isData f && eqb (w .state .talker .role .phase) activeStatus) false c
 
 abbrev pub statusReturnsEqual : Sight
-statusReturnsEqual c w a = onFrame (λ f. equalReturn (w .state) f && eqb (w .state .role .talker) activeStatus) false c
+statusReturnsEqual c w a = onFrame (λ f. equalReturn (w .state) f && eqb (w .state .talker .role .phase) activeStatus) false c
 
 -- Slips we have seen, the first: forgets it as soon as status is sent
 abbrev pub forgetful : Event → Call → World → Did

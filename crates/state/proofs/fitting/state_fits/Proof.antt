@@ -5,7 +5,7 @@ use Rattle.state.proofs.fitting.state_fits.Tie as tie
 
 returns : tie.Need-returns
 returns c =
-    fits-met _ _ _ _ _ _ _ _ (c .before .before .before .before .before .sizes-obeyed .ensures) (c .before .before .before .before .registers-fit .ensures) (c .before .before .before .role-fits .ensures) (c .before .ring-fits .ensures) (c .ring-fits2 .ensures)
+    fits-met _ _ _ _ _ _ _ _ (c .before .before .before .before .sizes-obeyed .ensures) (c .before .before .before .registers-fit .ensures) (c .before .before .talker-fits .ensures) (c .before .ring-fits .ensures) (c .ring-fits2 .ensures)
 
 pub state-fits-spec : {M : Type 1} → statement M
 state-fits-spec =
