@@ -12,7 +12,7 @@ use Rattle.cases.proofs.Cases.{by-cond}
 use Rattle.machine.specs.Machine.{Obeys}
 use Rattle.frame.specs.Frame.{isData}
 use Rattle.role.specs.Parts.{isActive}
-use Rattle.role.proofs.FitLaws as role-laws
+use Rattle.talker.proofs.FitLaws as talker-laws
 use Rattle.store.specs.declared.Ring.{Ring}
 use Rattle.store.specs.Ring.{full, emptyRing, putBytes, putsRing, putsBytes}
 use Rattle.store.proofs.Laws.{put-full}
@@ -157,7 +157,7 @@ stores-same w e f = go (isData f) (w .state .talker .role .listener) refl
   where
     idle : w .state .talker .role .listener ≡ true → isActive (w .state .talker .role) ≡ false
     idle l = lt-leb 2 (w .state .talker .role .phase)
-        (omega (arith, role-laws.fit-true (w .state .talker .role) (tests (w .state) (length (w .rx)) (length (w .tx)) e .talker .role) .apart l))
+        (omega (arith, talker-laws.fit-true (w .state .talker) (tests (w .state) (length (w .rx)) (length (w .tx)) e .talker) .role .apart l))
 
     go : (d l : Bool) → w .state .talker .role .listener ≡ l → ((d && not (isActive (w .state .talker .role))) && l) ≡ (d && l)
     go true true e = λ i. not (idle e i) && true

@@ -17,8 +17,9 @@ use Rattle.state.specs.declared.Outcome.{Outcome}
 use Rattle.state.specs.Status.{afterStatus, afterStatusBack}
 use Rattle.line.specs.HoldingOff.{resumed}
 use Rattle.loops.specs.LoopToLine.{adds, addedState}
-use Rattle.loops.specs.Sending.{ruleOf, talking, ended, removedState, sendState, sendFrom, sendStatus}
-use Rattle.loops.specs.Frames.{isClear, orderIn, cleared, obeyed, finishing, frameTaken, deviceClear, addsBytes}
+use Rattle.talker.specs.Sending.{talking}
+use Rattle.loops.specs.Sending.{ruleOf, ended, removedState, sendState, sendFrom, sendStatus}
+use Rattle.loops.specs.Frames.{isClear, orderIn, cleared, obeyed, frameTaken, deviceClear, addsBytes}
 use Rattle.loops.proofs.Clears.{clear-order}
 use Rattle.laws.specs.Places.{nextPlace}
 use Rattle.laws.proofs.OneStore.{left}
@@ -75,7 +76,7 @@ module _ (rx : List ℕ) (s : State) (fit : Fit rx (s .rx)) where
     ready-kind t r k = other (rw (r .four)) (rw (r .isdata)) k
 
     way-kind : (o : Outcome) → Way s rx f o → K (o .state)
-    unfolding sendStatus ended talking afterStatus afterStatusBack addedState cleared obeyed finishing addsBytes deviceClear
+    unfolding sendStatus ended talking afterStatus afterStatusBack addedState cleared obeyed addsBytes deviceClear
     way-kind o (isNext r m k e) = return-kind _ r send-still
     way-kind o (isBack r m k) = return-kind _ r (record { place = refl; ring = refl })
     way-kind o (isLast r m k e) = return-kind _ r (record { place = refl; ring = refl })

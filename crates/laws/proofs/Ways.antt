@@ -9,15 +9,18 @@ use Rattle.cases.proofs.Cases.{by-cond}
 use Rattle.frame.specs.Frame.{controlOf, dataOf, made, isData, sameApart}
 use Rattle.role.specs.declared.Ready.{Ready}
 use Rattle.role.specs.Parts.{isActive}
-use Rattle.role.specs.ReadyFrames.{givesAddress, readyOf, assignedRole}
+use Rattle.role.specs.ReadyFrames.{givesAddress, readyOf}
+use Rattle.talker.specs.declared.Return.{Return}
+use Rattle.talker.specs.ReadyFrames.{assignedTalker, finishingTalker}
+use Rattle.talker.specs.Returns.{returnOf}
 use Rattle.state.specs.declared.State.{State}
 use Rattle.state.specs.declared.Outcome.{Outcome}
-use Rattle.state.specs.State.{withRole}
+use Rattle.state.specs.State.{withTalker}
 use Rattle.state.specs.Status.{serviced, afterStatusBack}
 use Rattle.loops.specs.LoopToLine.{addedState}
 use Rattle.loops.specs.Sending.{sendFrom, sendStatus, ended}
 use Rattle.loops.specs.Frames.{passed, isClear, orderIn, obeyed, cleared, commandState, command}
-use Rattle.loops.specs.Frames.{finishing, readied, ready, returned, dataPassed, identify, frameTaken}
+use Rattle.loops.specs.Frames.{readied, ready, judged, returned, dataPassed, identify, frameTaken}
 
 -- a data frame that is a return, one that is not, a command, a ready frame, and any other
 pub record Returning (s : State) (f : ℕ) : Type 0 where
@@ -57,12 +60,12 @@ pub data Way (s : State) (rx : List ℕ) (f : ℕ) : Outcome → Type 0 where
   isObeyed : Commanding f → isClear (orderIn s f) ≡ false → Way s rx f (passed (obeyed s (orderIn s f)) f)
   -- ready frames: an address, send data, send status, finish, and any other
   isAssigned : Readying f → givesAddress (s .talker .role) (dataOf f) ≡ true →
-      Way s rx f (record { state = withRole s (assignedRole (s .talker .role) (dataOf f)); answer = passed s (made 5 (dataOf f + 1)) .answer })
+      Way s rx f (record { state = withTalker s (assignedTalker (s .talker) (dataOf f)); answer = passed s (made 5 (dataOf f + 1)) .answer })
   isSendAsked : Readying f → givesAddress (s .talker .role) (dataOf f) ≡ false → (eqb (dataOf f) 96 && eqb (s .talker .role .phase) 1) ≡ true → Way s rx f (sendFrom s rx)
   isTold : Readying f → givesAddress (s .talker .role) (dataOf f) ≡ false → (eqb (dataOf f) 96 && eqb (s .talker .role .phase) 1) ≡ false →
       (eqb (dataOf f) 97 && eqb (s .talker .role .phase) 1) ≡ true → Way s rx f (sendStatus s)
   isFinishing : Readying f → givesAddress (s .talker .role) (dataOf f) ≡ false → (eqb (dataOf f) 96 && eqb (s .talker .role .phase) 1) ≡ false →
-      (eqb (dataOf f) 97 && eqb (s .talker .role .phase) 1) ≡ false → (eqb (dataOf f) 66 && eqb (s .talker .role .phase) 2) ≡ true → Way s rx f (passed (finishing s) f)
+      (eqb (dataOf f) 97 && eqb (s .talker .role .phase) 1) ≡ false → (eqb (dataOf f) 66 && eqb (s .talker .role .phase) 2) ≡ true → Way s rx f (passed (withTalker s (finishingTalker (s .talker))) f)
   isReady : Readying f → givesAddress (s .talker .role) (dataOf f) ≡ false → (eqb (dataOf f) 96 && eqb (s .talker .role .phase) 1) ≡ false →
       (eqb (dataOf f) 97 && eqb (s .talker .role .phase) 1) ≡ false → (eqb (dataOf f) 66 && eqb (s .talker .role .phase) 2) ≡ false → Way s rx f (passed s f)
   isIdentified : Identifying f → Way s rx f (passed s (serviced s f))
@@ -72,12 +75,15 @@ module _ (s : State) (rx : List ℕ) (f : ℕ) where
   W = Way s rx f
 
   return-way : Returning s f → W (returned s rx f)
-  unfolding returned
+  unfolding returned judged returnOf
   return-way r =
-      by-cond W (sameApart f (s .talker .under .frame)) _ _
-      (λ m. by-cond W (eqb (s .talker .role .phase) 3) _ _ (λ k. isBack r m k)
-      (λ k. by-cond W (s .talker .under .finishing) _ _ (λ e. isLast r m k e) (λ e. isNext r m k e)))
+      by-cond J (sameApart f (s .talker .under .frame)) _ _
+      (λ m. by-cond J (eqb (s .talker .role .phase) 3) _ _ (λ k. isBack r m k)
+      (λ k. by-cond J (s .talker .under .finishing) _ _ (λ e. isLast r m k e) (λ e. isNext r m k e)))
       (λ m. isDamaged r m)
+    where
+      J : Return → Type 0
+      J k = W (judged s rx k)
 
   ready-way : Readying f → W (ready s rx f)
   unfolding ready readied readyOf

@@ -25,8 +25,9 @@ use Rattle.state.specs.Status.{serviced, afterStatusBack}
 use Rattle.state.proofs.Fits.{tests}
 use Rattle.line.specs.HoldingOff.{resumed}
 use Rattle.loops.specs.LoopToLine.{addedState}
-use Rattle.loops.specs.Sending.{ruleOf, removedState, sendState, sendFrom, sendStatus, talking, ended}
-use Rattle.loops.specs.Frames.{passed, isClear, orderIn, obeyed, cleared, finishing, frameTaken, deviceClear}
+use Rattle.talker.specs.Sending.{talking}
+use Rattle.loops.specs.Sending.{ruleOf, removedState, sendState, sendFrom, sendStatus, ended}
+use Rattle.loops.specs.Frames.{passed, isClear, orderIn, obeyed, cleared, frameTaken, deviceClear}
 use Rattle.bridge.specs.Calls.{World}
 use Rattle.loops.proofs.Clears.{clear-order}
 use Rattle.laws.specs.Observers.{dataFrame, equalReturn, isSend, asksStatus, passesOn}
@@ -146,7 +147,7 @@ module _ (s : State) (f : ℕ) where
     two r k = eq-eqb (s .talker .role .phase) 2 (omega (arith, leb-true 2 (s .talker .role .phase) (r .active), R .phase, eqb-false (s .talker .role .phase) 3 k))
 
     frame-kind : (rx : List ℕ) (o : Outcome) → ways.Way s rx f o → Kind s rx f o
-    unfolding ended obeyed finishing
+    unfolding ended obeyed
     frame-kind rx o (ways.isNext r m k e) = isSent (return-marks r true true false m (two r k) e)
     frame-kind rx o (ways.isBack r m k) =
         isBack (return-marks r true false _ m (ne-eqb (s .talker .role .phase) 2 (λ h. omega (arith, eqb-true (s .talker .role .phase) 3 k))) refl) (r .isdata)

@@ -21,7 +21,8 @@ use Rattle.state.specs.Status as status
 use Rattle.state.proofs.Fits.{tx-room}
 use Rattle.line.specs.HoldingOff.{resumed}
 use Rattle.loops.specs.LoopToLine.{adds, busy, addedState, addedBytes}
-use Rattle.loops.specs.Sending.{ruleOf, removedState, sendState, sendFrom, sendStatus, talking, ended}
+use Rattle.talker.specs.Sending.{talking}
+use Rattle.loops.specs.Sending.{ruleOf, removedState, sendState, sendFrom, sendStatus, ended}
 use Rattle.loops.specs.Frames.{obeyed, cleared, frameTaken, deviceClear, addsBytes, frameBytes}
 use Rattle.bridge.specs.Calls.{on, loopFrame, World, outcome, settledBy, rxAfter, txAfter}
 use Rattle.bridge.specs.Calls as calls

@@ -23,7 +23,8 @@ use Rattle.state.specs.Status.{settled, asking, enabledBy, conditions, breakSta
 use Rattle.state.specs.Status as state-status
 use Rattle.line.specs.HoldingOff.{isGoOrStop, flowed, lostState, storedWith, lineState, setAfresh, afterWrite, nextOut, goneState}
 use Rattle.loops.specs.LoopToLine.{addedState}
-use Rattle.loops.specs.Sending.{sendFrom, sendStatus, talking, ended}
+use Rattle.talker.specs.Sending.{talking}
+use Rattle.loops.specs.Sending.{sendFrom, sendStatus, ended}
 use Rattle.loops.specs.Frames.{passed, cleared, frameTaken, deviceClear}
 use Rattle.bridge.specs.Calls.{Call, on, create, reset, write, lineByte, lineBreak, key, nextLineByte}
 use Rattle.bridge.specs.Calls.{loopFrame, show, World, Did, checks, outcome, settledBy, refusedOr, step}

@@ -18,7 +18,7 @@ use Rattle.talker.specs.declared.Under as declared-under
 use Rattle.state.specs.declared.Outcome.{Outcome}
 use Rattle.state.specs.Answers.{Said, said, frame, refused}
 use Rattle.line.specs.HoldingOff.{nextOut}
-use Rattle.loops.specs.Frames.{finishing, frameTaken, deviceClear}
+use Rattle.loops.specs.Frames.{frameTaken, deviceClear}
 use Rattle.bridge.specs.Calls.{reset, write, lineByte, lineBreak, key, nextLineByte, loopFrame, Call, create}
 use Rattle.bridge.specs.Calls.{show, on, World, Did, checks, outcome, settledBy, notRefused, step}
 use Rattle.laws.specs.Observers.{taken, isAsked, equalReturn, isSend, dataFrame, asksStatus, passesOn, sent, statusSent, restarts}
@@ -29,7 +29,8 @@ use Rattle.machine.proofs.Course.{neither}
 use Rattle.store.specs.Bytes.{Bytes}
 use Rattle.reading.specs.Reading.{Sent, none, one}
 use Rattle.sending.specs.Sending.{givenOf, sendHeld}
-use Rattle.loops.specs.Sending.{ruleOf, talking, ended, removedState, sendState, sendFrom, sendStatus}
+use Rattle.talker.specs.Sending.{talking}
+use Rattle.loops.specs.Sending.{ruleOf, ended, removedState, sendState, sendFrom, sendStatus}
 use Rattle.runs.proofs.Bytes.{held-all, sent-plain}
 use Rattle.runs.proofs.Sends.{seen-plain}
 use Rattle.runs.proofs.Answered.{status-frame}
@@ -88,7 +89,6 @@ module _ (k : Bool) (g : ℕ) (e : Bool) where
     unlike h = ne-eqb f (made 5 66) (λ q. h (omega arith))
 
     frame-on : (o : Outcome) → Way (w .state) (w .rx) f o → Under k g (e || eqb f (made 5 66)) (o .state)
-    unfolding finishing
     frame-on o (isNext r m t x) = absurd (true≢false (sym (r .isdata) ∙ D))
     frame-on o (isBack r m t) = absurd (true≢false (sym (r .isdata) ∙ D))
     frame-on o (isLast r m t x) = absurd (true≢false (sym (r .isdata) ∙ D))

@@ -21,8 +21,9 @@ use Rattle.state.specs.Answers.{Said, said, refused}
 use Rattle.state.specs.Status.{afterStatus, afterStatusBack}
 use Rattle.line.specs.HoldingOff.{resumed, nextOut}
 use Rattle.loops.specs.LoopToLine.{addedState}
-use Rattle.loops.specs.Sending.{ruleOf, talking, ended, removedState, sendState, sendFrom, sendStatus}
-use Rattle.loops.specs.Frames.{orderIn, obeyed, cleared, finishing, deviceClear, frameTaken}
+use Rattle.talker.specs.Sending.{talking}
+use Rattle.loops.specs.Sending.{ruleOf, ended, removedState, sendState, sendFrom, sendStatus}
+use Rattle.loops.specs.Frames.{orderIn, obeyed, cleared, deviceClear, frameTaken}
 use Rattle.bridge.specs.Calls.{reset, write, lineByte, lineBreak, key, nextLineByte, loopFrame, Call, create}
 use Rattle.bridge.specs.Calls.{show, on, World, Did, checks, outcome, settledBy, notRefused}
 use Rattle.laws.specs.Observers.{any, taken, dataFrame, onFrame, restarts}
@@ -137,7 +138,7 @@ module _ (w : World) (B : Bytes (heldToSend w)) (F : Fits w) (f : ℕ) where
   obeyed-role = obeyed-right (w .state .talker .role) (role-fits w F .range) (dataOf f)
 
   role-way : (o : Outcome) → Way (w .state) (w .rx) f o → Right o
-  unfolding sendStatus ended talking afterStatus afterStatusBack addedState cleared finishing said
+  unfolding sendStatus ended talking afterStatus afterStatusBack addedState cleared said
   role-way o (isNext q m k e) = returned-role q _ _ send-role
   role-way o (isBack q m k) = returned-role q _ _ refl
   role-way o (isLast q m k e) = returned-role q _ _ refl

@@ -30,8 +30,9 @@ use Rattle.state.specs.Status.{settled, breakState, keyState}
 use Rattle.state.specs.Status as status
 use Rattle.line.specs.HoldingOff.{isGoOrStop, flowed, lostState, storedWith, lineState, resumed, setAfresh, afterWrite, nextOut, goneState}
 use Rattle.loops.specs.LoopToLine.{addedState}
-use Rattle.loops.specs.Sending.{ruleOf, removedState, sendState, sendFrom, sendStatus, talking, ended}
-use Rattle.loops.specs.Frames.{isClear, orderIn, obeyed, finishing, frameTaken, deviceClear}
+use Rattle.talker.specs.Sending.{talking}
+use Rattle.loops.specs.Sending.{ruleOf, removedState, sendState, sendFrom, sendStatus, ended}
+use Rattle.loops.specs.Frames.{isClear, orderIn, obeyed, frameTaken, deviceClear}
 use Rattle.bridge.specs.Calls.{Call, on, create, reset, write, lineByte, lineBreak, key, nextLineByte}
 use Rattle.bridge.specs.Calls.{loopFrame, show, World, Did, outcome, settledBy, refusedOr, step}
 use Rattle.bridge.specs.Calls as calls
@@ -180,7 +181,7 @@ module _ (w : World) (f : ℕ) where
   ready-kind o r n = on-kind o (r .isdata) (r .four) (λ i. r .five i && n i)
 
   frame-way : (o : Outcome) → ways.Way (w .state) (w .rx) f o → FrameKind o
-  unfolding ended talking finishing obeyed addedState sendStatus status.afterStatus status.afterStatusBack statusSent asksStatus
+  unfolding ended talking obeyed addedState sendStatus status.afterStatus status.afterStatusBack statusSent asksStatus
   frame-way o (ways.isNext r m k e) = send-kind
   frame-way o (ways.isBack r m k) =
       returns k (back-kind r m) refl (still-noted (w .state .notes .seen) (w .state .notes .again) (dataOf (w .state .talker .under .frame)))

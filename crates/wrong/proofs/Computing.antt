@@ -19,7 +19,8 @@ use Rattle.state.specs.Sizes.{sizesObeyed, startState, fits}
 use Rattle.state.specs.Status as status
 use Rattle.line.specs.HoldingOff as line
 use Rattle.loops.specs.LoopToLine.{adds, busy, addedState, addedBytes}
-use Rattle.loops.specs.Sending.{talking, ended, ruleOf, removedState, sendState, sendFrom, sendStatus}
+use Rattle.talker.specs.Sending.{talking}
+use Rattle.loops.specs.Sending.{ended, ruleOf, removedState, sendState, sendFrom, sendStatus}
 use Rattle.loops.specs.Frames as frames
 use Rattle.bridge.specs.Calls as calls
 use Rattle.laws.specs.Observers as see

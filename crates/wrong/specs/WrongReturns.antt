@@ -6,7 +6,7 @@ use Rattle.frame.specs.Frame.{made, isData}
 use Rattle.role.specs.Parts.{addressed, activeData, isActive}
 use Rattle.state.specs.Answers.{frame}
 use Rattle.state.specs.State.{withUnder, noFrame}
-use Rattle.loops.specs.Sending.{talking}
+use Rattle.talker.specs.Sending.{talking}
 use Rattle.bridge.specs.Calls.{Call, World, world, Did}
 use Rattle.laws.specs.Observers.{any, onFrame, equalReturn, sent}
 use Rattle.wrong.specs.Changing.{answering}
