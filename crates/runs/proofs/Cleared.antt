@@ -29,8 +29,9 @@ use Rattle.state.specs.Status as status
 use Rattle.line.specs.HoldingOff.{isGoOrStop, flowed, lostState, storedWith, storedState, lineState, setAfresh, afterWrite, nextOut, goneState}
 use Rattle.loops.specs.LoopToLine.{addedState}
 use Rattle.talker.specs.Sending.{talking}
+use Rattle.talker.specs.Returns.{returnOf}
 use Rattle.loops.specs.Sending.{sendStatus, ended}
-use Rattle.loops.specs.Frames.{cleared, returned, frameTaken, deviceClear}
+use Rattle.loops.specs.Frames.{cleared, judged, returned, frameTaken, deviceClear}
 use Rattle.bridge.specs.Calls.{Call, on, create, reset, write, lineByte, lineBreak, key, nextLineByte}
 use Rattle.bridge.specs.Calls.{loopFrame, show, World, Did, checks, outcome, settledBy, refusedOr, step}
 use Rattle.bridge.specs.Calls as calls
@@ -289,7 +290,7 @@ module _ (e : Event) (g : ℕ) where
 -- it comes back
 returned-clear : (e : Event) (s : State) (rx : List ℕ) (f : ℕ) → eqb (s .talker .role .phase) 3 ≡ true → isData f ≡ true → sameApart f (s .talker .under .frame) ≡ true →
     noted e (acknowledged (s .notes .seen) (s .notes .again) (dataOf (s .talker .under .frame))) ≡ false → Clear e (frameTaken s rx f .state)
-unfolding frameTaken returned ended talking status.afterStatusBack
+unfolding frameTaken returned judged returnOf ended talking status.afterStatusBack
 returned-clear e s rx f T D m q =
     let a : isActive (s .talker .role) ≡ true = le-leb 2 (s .talker .role .phase) (omega (arith, eqb-true (s .talker .role .phase) 3 T)) in
     rw (D, a, m, T) q

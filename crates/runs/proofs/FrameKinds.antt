@@ -11,15 +11,16 @@ use Rattle.cases.proofs.Cases.{and-left, and-right, cond-false}
 use Rattle.frame.specs.Frame.{controlOf, dataOf, made, isData, sameApart}
 use Rattle.role.specs.declared.Role.{Role}
 use Rattle.role.specs.Parts.{isActive}
-use Rattle.role.specs.ReadyFrames.{givesAddress, assignedRole}
+use Rattle.role.specs.ReadyFrames.{givesAddress}
 use Rattle.role.specs.Fit as role-fit
-use Rattle.role.proofs.FitLaws as role-laws
+use Rattle.talker.specs.ReadyFrames.{assignedTalker, finishingTalker}
+use Rattle.talker.proofs.FitLaws as talker-laws
 use Rattle.reading.specs.Reading.{Sent, none, one}
 use Rattle.sending.specs.Sending.{givenOf, sendHeld}
 use Rattle.state.specs.declared.State.{State}
 use Rattle.state.specs.declared.Outcome.{Outcome}
 use Rattle.state.specs.declared.Answer.the-variants.{Frame}
-use Rattle.state.specs.State.{withRole}
+use Rattle.state.specs.State.{withTalker}
 use Rattle.state.specs.Answers.{said}
 use Rattle.state.specs.Status.{serviced, afterStatusBack}
 use Rattle.state.proofs.Fits.{tests}
@@ -163,14 +164,14 @@ module _ (s : State) (f : ℕ) where
         isOther (obeyed s (orderIn s f)) f false (order-marks r false c)
         (record { heart = refl; line = refl; notes = refl; answer = λ _. r .isdata; way = λ n. absurd (false≢true (sym n ∙ (λ i. r .isdata i || r .four i))) })
     frame-kind rx o (ways.isAssigned r a) =
-        isOther (withRole s (assignedRole (s .talker .role) (dataOf f))) (made 5 (dataOf f + 1)) false
+        isOther (withTalker s (assignedTalker (s .talker) (dataOf f))) (made 5 (dataOf f + 1)) false
         (ready-marks r false false (not-asked 96 (address-high (s .talker .role) (dataOf f) 96 (omega arith) a))
         (not-asked 97 (address-high (s .talker .role) (dataOf f) 97 (omega arith) a)))
         (record { heart = refl; line = refl; notes = refl; answer = λ _. le-ltb (controlOf (made 5 (dataOf f + 1))) 4 (omega arith); way = λ _. (refl, refl) })
     frame-kind rx o (ways.isSendAsked r a x) = isSent (ready-marks r true false x (not-asked 97 (λ h. omega (arith, eqb-true (dataOf f) 96 (and-left _ _ x)))))
     frame-kind rx o (ways.isTold r a x y) = isStatus (ready-marks r false true x y)
     frame-kind rx o (ways.isFinishing r a x y z) =
-        isOther (finishing s) f false (ready-marks r false false x y)
+        isOther (withTalker s (finishingTalker (s .talker))) f false (ready-marks r false false x y)
         (record { heart = refl; line = refl; notes = refl; answer = λ _. r .isdata; way = λ _. (refl, refl) })
     frame-kind rx o (ways.isReady r a x y z) = isOther s f false (ready-marks r false false x y) (kept false f (λ _. r .isdata))
     frame-kind rx o (ways.isIdentified r) =
@@ -194,7 +195,7 @@ send-alone s f e = go (isData f) (isActive (s .talker .role)) refl refl
         λ i. m .passes i || m .status i
 
 pub role-fits : (w : World) → Fits w → role-fit.Fit (w .state .talker .role)
-role-fits w F = role-laws.fit-true (w .state .talker .role) (tests (w .state) (length (w .rx)) (length (w .tx)) F .role)
+role-fits w F = talker-laws.fit-true (w .state .talker) (tests (w .state) (length (w .rx)) (length (w .tx)) F .talker) .role
 
 pub kind-of : (f : ℕ) (w : World) → Fits w → Kind (w .state) (w .rx) f (frameTaken (w .state) (w .rx) f)
 kind-of f w F = frame-kind (w .state) f (role-fits w F) (w .rx) _ (ways.way (w .state) (w .rx) f)

@@ -12,9 +12,8 @@ use Rattle.machine.specs.Machine as machine
 use Rattle.machine.specs.Course as course
 use Rattle.machine.specs.Machine.{Obeys, finally}
 use Rattle.frame.specs.Frame.{controlOf, dataOf, made, isData, stripped, sameApart}
-use Rattle.role.specs.declared.Role.{Role}
+use Rattle.talker.specs.declared.Talker.{Talker}
 use Rattle.state.specs.declared.State.{State}
-use Rattle.talker.specs.declared.Under as declared-under
 use Rattle.state.specs.declared.Outcome.{Outcome}
 use Rattle.state.specs.Answers.{Said, said, frame, refused}
 use Rattle.line.specs.HoldingOff.{nextOut}
@@ -47,7 +46,7 @@ use Rattle.runs.proofs.FrameKinds.{Kind, no-data, kind-of, address-high
 use Rattle.runs.proofs.FrameKinds as kinds
 use Rattle.laws.proofs.Ways.{Way, isNext, isBack, isLast, isDamaged, isStored, isPassed, isCleared}
 use Rattle.laws.proofs.Ways.{isObeyed, isAssigned, isSendAsked, isTold, isFinishing, isReady, isIdentified, way}
-use Rattle.runs.proofs.Untouched.{Untouched, settled-untouched, break-untouched, key-untouched, line-untouched, gone-untouched, write-untouched}
+use Rattle.runs.proofs.Untouched.{Untouched, both-untouched, settled-untouched, break-untouched, key-untouched, line-untouched, gone-untouched, write-untouched}
 use Rattle.runs.proofs.Steps.{answer, after, end, some, Without, ours, at-call, at-left}
 
 -- the frame under way is g but for the service bit, the talker is active, with status where k holds, and finishing is e
@@ -61,9 +60,9 @@ module _ (k : Bool) (g : ℕ) (e : Bool) where
   moved : {x : Bool} (s t : State) → Untouched s t → Under k g x s → Under k g x t
   moved s t v u =
       record {
-        talker = ap (λ (r : Role). r .talker) (v .talker .role) ∙ u .talker;
-        frame = ap (λ (y : declared-under.Under). stripped (y .frame)) (v .talker .under) ∙ u .frame;
-        finishing = λ h. ap (λ (y : declared-under.Under). y .finishing) (v .talker .under) ∙ u .finishing h;
+        talker = ap (λ (y : Talker). y .role .phase) (v .talker) ∙ u .talker;
+        frame = ap (λ (y : Talker). stripped (y .under .frame)) (v .talker) ∙ u .frame;
+        finishing = λ h. ap (λ (y : Talker). y .under .finishing) (v .talker) ∙ u .finishing h;
       }
 
   -- nothing of it changes, and no ready 66 was taken
@@ -71,9 +70,6 @@ module _ (k : Bool) (g : ℕ) (e : Bool) where
   same s t x v n u =
       let m = moved s t v u in
       record { talker = m .talker; frame = m .frame; finishing = λ h. m .finishing h ∙ sym (or-false e) ∙ (λ i. e || sym n i) }
-
-  both : (s t v : State) → Untouched s t → Untouched t v → Untouched s v
-  both s t v p q = record { role = q .talker .role ∙ p .talker .role; under = q .talker .under ∙ p .talker .under }
 
   -- the talker is no mere addressed one
   not-addressed : (s : State) → Under k g e s → eqb (s .talker .role .phase) 1 ≡ true → ⊥
@@ -132,14 +128,14 @@ module _ (k : Bool) (g : ℕ) (e : Bool) where
   done-on : (c : Call) (w : World) → On c w (notRefused c w)
   unfolding notRefused outcome settledBy endsWay restarts finishes said
   done-on (create m) w u n = absurd (true≢false n)
-  done-on (show side) w u n = same (w .state) (w .state) false (record { role = refl; under = refl }) refl u
+  done-on (show side) w u n = same (w .state) (w .state) false (record { talker = refl; remote = refl }) refl u
   done-on (on reset) w u n = absurd (true≢false n)
-  done-on (on (write x v)) w u n = same (w .state) _ false (both _ _ _ (write-untouched (w .state) x v) (settled-untouched (w .state) false _)) refl u
-  done-on (on (lineByte b)) w u n = same (w .state) _ false (both _ _ _ (line-untouched (w .state) b) (settled-untouched (w .state) false _)) refl u
-  done-on (on lineBreak) w u n = same (w .state) _ false (both _ _ _ (break-untouched (w .state)) (settled-untouched (w .state) false _)) refl u
-  done-on (on key) w u n = same (w .state) _ false (both _ _ _ (key-untouched (w .state)) (settled-untouched (w .state) false _)) refl u
+  done-on (on (write x v)) w u n = same (w .state) _ false (both-untouched _ _ _ (write-untouched (w .state) x v) (settled-untouched (w .state) false _)) refl u
+  done-on (on (lineByte b)) w u n = same (w .state) _ false (both-untouched _ _ _ (line-untouched (w .state) b) (settled-untouched (w .state) false _)) refl u
+  done-on (on lineBreak) w u n = same (w .state) _ false (both-untouched _ _ _ (break-untouched (w .state)) (settled-untouched (w .state) false _)) refl u
+  done-on (on key) w u n = same (w .state) _ false (both-untouched _ _ _ (key-untouched (w .state)) (settled-untouched (w .state) false _)) refl u
   done-on (on nextLineByte) w u n =
-      same (w .state) _ false (both _ _ _ (gone-untouched (w .state) (nextOut (w .state) (w .tx))) (settled-untouched (w .state) false _)) refl u
+      same (w .state) _ false (both-untouched _ _ _ (gone-untouched (w .state) (nextOut (w .state) (w .tx))) (settled-untouched (w .state) false _)) refl u
   done-on (on (loopFrame f)) w u n =
       let m = neither (isData f) (eqb (controlOf f) 4)
       ((λ i. not (sym (frame-not-refused (w .state) (w .rx) f) i) && (isData f || eqb (controlOf f) 4)) ∙ n) in
@@ -150,15 +146,15 @@ module _ (k : Bool) (g : ℕ) (e : Bool) where
 
   refused-on : (c : Call) (w : World) (n : ℕ) → On c w (record { said = refused n; world = w })
   unfolding finishes
-  refused-on (create m) w n u q = same (w .state) (w .state) false (record { role = refl; under = refl }) refl u
-  refused-on (show side) w n u q = same (w .state) (w .state) false (record { role = refl; under = refl }) refl u
-  refused-on (on reset) w n u q = same (w .state) (w .state) false (record { role = refl; under = refl }) refl u
-  refused-on (on (write a v)) w n u q = same (w .state) (w .state) false (record { role = refl; under = refl }) refl u
-  refused-on (on (lineByte b)) w n u q = same (w .state) (w .state) false (record { role = refl; under = refl }) refl u
-  refused-on (on lineBreak) w n u q = same (w .state) (w .state) false (record { role = refl; under = refl }) refl u
-  refused-on (on key) w n u q = same (w .state) (w .state) false (record { role = refl; under = refl }) refl u
-  refused-on (on nextLineByte) w n u q = same (w .state) (w .state) false (record { role = refl; under = refl }) refl u
-  refused-on (on (loopFrame f)) w n u q = same (w .state) (w .state) false (record { role = refl; under = refl }) refl u
+  refused-on (create m) w n u q = same (w .state) (w .state) false (record { talker = refl; remote = refl }) refl u
+  refused-on (show side) w n u q = same (w .state) (w .state) false (record { talker = refl; remote = refl }) refl u
+  refused-on (on reset) w n u q = same (w .state) (w .state) false (record { talker = refl; remote = refl }) refl u
+  refused-on (on (write a v)) w n u q = same (w .state) (w .state) false (record { talker = refl; remote = refl }) refl u
+  refused-on (on (lineByte b)) w n u q = same (w .state) (w .state) false (record { talker = refl; remote = refl }) refl u
+  refused-on (on lineBreak) w n u q = same (w .state) (w .state) false (record { talker = refl; remote = refl }) refl u
+  refused-on (on key) w n u q = same (w .state) (w .state) false (record { talker = refl; remote = refl }) refl u
+  refused-on (on nextLineByte) w n u q = same (w .state) (w .state) false (record { talker = refl; remote = refl }) refl u
+  refused-on (on (loopFrame f)) w n u q = same (w .state) (w .state) false (record { talker = refl; remote = refl }) refl u
 
   on-way : (c : Call) (w : World) → On c w (step c w)
   on-way c w = by-refusal (On c w) c w (λ _. done-on c w) (λ _. refused-on c w _)

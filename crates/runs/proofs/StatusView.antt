@@ -30,6 +30,7 @@ use Rattle.state.specs.Status.{settled, breakState, keyState}
 use Rattle.state.specs.Status as status
 use Rattle.line.specs.HoldingOff.{isGoOrStop, flowed, lostState, storedWith, lineState, resumed, setAfresh, afterWrite, nextOut, goneState}
 use Rattle.loops.specs.LoopToLine.{addedState}
+use Rattle.talker.specs.Commands.{obeyedTalker}
 use Rattle.talker.specs.Sending.{talking}
 use Rattle.loops.specs.Sending.{ruleOf, removedState, sendState, sendFrom, sendStatus, ended}
 use Rattle.loops.specs.Frames.{isClear, orderIn, obeyed, frameTaken, deviceClear}
@@ -123,12 +124,12 @@ still-noted x y d overrun p q = stays-true (x .overrun) (showed d 32) (y .overru
 still-noted x y d pressed p q = stays-true (x .key) (showed d 128) (y .key) p q
 
 -- a command leaves an active talker merely addressed, and no order makes one active
-merely : (r : Role) → eqb (merelyAddressed r .talker) 3 ≡ false
+merely : (r : Role) → eqb (merelyAddressed r .phase) 3 ≡ false
 unfolding merelyAddressed
-merely r = by-cond (λ (t : ℕ). eqb t 3 ≡ false) (isActive r) addressed (r .talker) (λ _. refl)
-    (λ e. ne-eqb (r .talker) 3 (λ h. omega (arith, leb-false 2 (r .talker) e)))
+merely r = by-cond (λ (t : ℕ). eqb t 3 ≡ false) (isActive r) addressed (r .phase) (λ _. refl)
+    (λ e. ne-eqb (r .phase) 3 (λ h. omega (arith, leb-false 2 (r .phase) e)))
 
-obeyed-idle : (r : Role) (o : Order) → eqb (obeyedRole r o .talker) 3 ≡ false
+obeyed-idle : (r : Role) (o : Order) → eqb (obeyedRole r o .phase) 3 ≡ false
 unfolding obeyedRole changedRole
 obeyed-idle r Unlisten = merely r
 obeyed-idle r Listen = refl
@@ -181,7 +182,7 @@ module _ (w : World) (f : ℕ) where
   ready-kind o r n = on-kind o (r .isdata) (r .four) (λ i. r .five i && n i)
 
   frame-way : (o : Outcome) → ways.Way (w .state) (w .rx) f o → FrameKind o
-  unfolding ended talking obeyed addedState sendStatus status.afterStatus status.afterStatusBack statusSent asksStatus
+  unfolding ended talking obeyed obeyedTalker addedState sendStatus status.afterStatus status.afterStatusBack statusSent asksStatus
   frame-way o (ways.isNext r m k e) = send-kind
   frame-way o (ways.isBack r m k) =
       returns k (back-kind r m) refl (still-noted (w .state .notes .seen) (w .state .notes .again) (dataOf (w .state .talker .under .frame)))

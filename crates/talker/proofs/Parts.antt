@@ -13,7 +13,7 @@ use Rattle.role.specs.ReadyFrames.{assignedRole}
 use Rattle.role.specs.Fit as role-fit
 use Rattle.talker.specs.declared.Talker.{Talker}
 use Rattle.talker.specs.declared.Return.the-variants.{Damaged, StatusBack, Finished, Next}
-use Rattle.talker.specs.Parts.{noFrame, startTalker, withRole, withUnder}
+use Rattle.talker.specs.Parts.{noFrame, startTalker}
 use Rattle.talker.specs.Commands.{forgotten, obeyedTalker}
 use Rattle.talker.specs.ReadyFrames.{assignedTalker}
 use Rattle.talker.specs.Sending.{talking}
@@ -26,17 +26,17 @@ start-met r e = rw e
 -- ---- commands
 
 module _ (t : Talker) (o : Order) (r : Role) (p : r ≡ obeyedRole (t .role) o) where
-  pub obeyed-active : 2 ≤ t .role .phase → withUnder (withRole t r) noFrame ≡ obeyedTalker t o
+  pub obeyed-active : 2 ≤ t .role .phase → record { role = r; under = noFrame } ≡ obeyedTalker t o
   unfolding obeyedTalker forgotten
   obeyed-active h = rw (p, le-leb 2 (t .role .phase) h)
 
-  pub obeyed-other : t .role .phase < 2 → withRole t r ≡ obeyedTalker t o
+  pub obeyed-other : t .role .phase < 2 → record { role = r; under = t .under } ≡ obeyedTalker t o
   unfolding obeyedTalker forgotten
   obeyed-other h = rw (p, lt-leb 2 (t .role .phase) h)
 
 -- ---- ready frames and sending
 
-pub assigned-met : (t : Talker) (d : ℕ) (r : Role) → r ≡ assignedRole (t .role) d → withRole t r ≡ assignedTalker t d
+pub assigned-met : (t : Talker) (d : ℕ) (r : Role) → r ≡ assignedRole (t .role) d → record { role = r; under = t .under } ≡ assignedTalker t d
 assigned-met t d r e = rw e
 
 pub talking-met : (t : Talker) (phase f : ℕ) (r : Role) → r ≡ withPhase (t .role) phase → record { role = r; under = record { frame = f; finishing = false } } ≡ talking t phase f

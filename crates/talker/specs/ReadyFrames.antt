@@ -3,12 +3,11 @@ use Prim.Native.Nat.{ℕ}
 use mathlib.Core.Bool.{true}
 use Rattle.role.specs.ReadyFrames.{assignedRole}
 use Rattle.talker.specs.declared.Talker.{Talker}
-use Rattle.talker.specs.Parts.{withRole, withUnder}
 
 -- Frames, ready 128+n: the address is taken from the byte d
 abbrev pub assignedTalker : Talker → ℕ → Talker
-assignedTalker t d = withRole t (assignedRole (t .role) d)
+assignedTalker t d = record { role = assignedRole (t .role) d; under = t .under }
 
 -- Frames, ready 66: the frame under way stays, and is the last
 abbrev pub finishingTalker : Talker → Talker
-finishingTalker t = withUnder t (record { frame = t .under .frame; finishing = true })
+finishingTalker t = record { role = t .role; under = record { frame = t .under .frame; finishing = true } }

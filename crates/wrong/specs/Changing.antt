@@ -4,9 +4,12 @@ use mathlib.Core.Bool.{Bool, true, false, cond, _&&_}
 use lib.Dec.{eqb}
 use Rattle.cases.specs.Refusals.{firstRefusal}
 use Rattle.frame.specs.Frame.{controlOf, dataOf}
+use Rattle.role.specs.declared.Role.{Role}
+use Rattle.talker.specs.declared.Under.{Under}
 use Rattle.state.specs.declared.State.{State}
 use Rattle.state.specs.declared.Sizes.{Sizes}
 use Rattle.state.specs.Answers.{Said, refused, isRefusal}
+use Rattle.state.specs.State.{withTalker}
 use Rattle.bridge.specs.Calls.{Call, create, show, on, World, world, Did, checks, notRefused, step}
 use Rattle.laws.specs.Observers.{onFrame}
 
@@ -52,8 +55,8 @@ withSizes s x =
     record {
       sizes = x;
       regs = s .regs;
-      role = s .talker .role;
-      under = s .talker .under;
+      talker = s .talker;
+      remote = s .remote;
       rx = s .rx;
       tx = s .tx;
       line = s .line;
@@ -64,6 +67,13 @@ withSizes s x =
 -- the state with this margin
 abbrev pub withMargin : State → ℕ → State
 withMargin s m = withSizes s (record { rx = s .sizes .rx; tx = s .sizes .tx; margin = m })
+
+-- the state with this role, and with this frame under way
+abbrev pub withRole : State → Role → State
+withRole s r = withTalker s (record { role = r; under = s .talker .under })
+
+abbrev pub withUnder : State → Under → State
+withUnder s u = withTalker s (record { role = s .talker .role; under = u })
 
 -- ---- calls
 

@@ -5,11 +5,11 @@ use lib.Dec.{eqb}
 use Rattle.frame.specs.Frame.{made, isData}
 use Rattle.role.specs.Parts.{addressed, activeData, isActive}
 use Rattle.state.specs.Answers.{frame}
-use Rattle.state.specs.State.{withUnder, noFrame}
+use Rattle.talker.specs.Parts.{noFrame}
 use Rattle.talker.specs.Sending.{talking}
 use Rattle.bridge.specs.Calls.{Call, World, world, Did}
 use Rattle.laws.specs.Observers.{any, onFrame, equalReturn, sent}
-use Rattle.wrong.specs.Changing.{answering}
+use Rattle.wrong.specs.Changing.{answering, withUnder}
 use Rattle.wrong.specs.Seeing.{Sight, afterSight, insteadAt}
 
 -- a data frame taken while ours is under way

@@ -7,10 +7,10 @@ use Rattle.registers.specs.Writing.{written}
 use Rattle.role.specs.Parts.{withAddress}
 use Rattle.state.specs.declared.State.{State}
 use Rattle.state.specs.Answers.{done}
-use Rattle.state.specs.State.{withRegisters, withRole, withCounts}
+use Rattle.state.specs.State.{withRegisters, withCounts}
 use Rattle.bridge.specs.Calls.{reset, Call, World, Did}
 use Rattle.laws.specs.Observers.{onOne, onWrite, restarts, clears}
-use Rattle.wrong.specs.Changing.{afterwards, withMargin, isCreate}
+use Rattle.wrong.specs.Changing.{afterwards, withMargin, isCreate, withRole}
 
 -- ours, where a reset leaves another state
 abbrev resetting : (World → State → State) → Call → World → Did

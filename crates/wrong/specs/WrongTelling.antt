@@ -4,11 +4,11 @@ use mathlib.Core.Bool.{false, _&&_, _||_}
 use lib.Dec.{eqb}
 use Rattle.frame.specs.Frame.{made, isData}
 use Rattle.role.specs.Parts.{activeStatus}
-use Rattle.state.specs.State.{withUnder}
 use Rattle.state.specs.Answers.{done}
 use Rattle.bridge.specs.Calls.{Call, World, Did}
 use Rattle.laws.specs.Events.{Event, noted}
 use Rattle.laws.specs.Observers.{any, onFrame, equalReturn, lost}
+use Rattle.wrong.specs.Changing.{withUnder}
 use Rattle.wrong.specs.Seeing.{Sight, afterSight, insteadAt, only, always, statusAsked, withNoted}
 
 -- a data frame comes back while status is under way, and one that is equal to it
