@@ -29,7 +29,7 @@ create-keeps-counts-falls law = true≢false (ap (λ (k : Counts). eqb (k .store
 
 pub starts-assigned-falls : Breaks startsAssigned StartsSo
 unfolding computes
-starts-assigned-falls law = false≢true (ap isUnassigned (law (on reset) fresh are-bytes refl .talker .role))
+starts-assigned-falls law = false≢true (ap isUnassigned (law (on reset) fresh are-bytes refl .role))
 
 pub reset-widens-falls : Breaks resetWidens MarginRecorded
 unfolding computes
