@@ -12,7 +12,7 @@ use Rattle.cases.proofs.Cases.{by-cond}
 use Rattle.machine.specs.Machine.{Obeys}
 use Rattle.frame.specs.Frame.{isData}
 use Rattle.role.specs.Parts.{isActive}
-use Rattle.role.proofs.FitLaws as role-laws
+use Rattle.talker.proofs.FitLaws as talker-laws
 use Rattle.store.specs.declared.Ring.{Ring}
 use Rattle.store.specs.Ring.{full, emptyRing, putBytes, putsRing, putsBytes}
 use Rattle.store.proofs.Laws.{put-full}
@@ -92,7 +92,7 @@ module _ (w : World) (e : Fits w) where
 
   -- ---- a frame
 
-  room : (n : ℕ) → isData n ≡ true → w .state .role .listener ≡ true → busy (w .state) n ≡ false →
+  room : (n : ℕ) → isData n ≡ true → w .state .talker .role .listener ≡ true → busy (w .state) n ≡ false →
       w .state .tx .len + length (adds (w .state .regs) n) ≤ length (w .tx)
   unfolding busy
   room n d l b =
@@ -151,17 +151,17 @@ refused-places (on nextLineByte) w n = same w
 refused-places (on (loopFrame f)) w n = same w
 
 -- a listener is no active talker
-stores-same : (w : World) → Fits w → (f : ℕ) → addsBytes (w .state) f ≡ (isData f && w .state .role .listener)
+stores-same : (w : World) → Fits w → (f : ℕ) → addsBytes (w .state) f ≡ (isData f && w .state .talker .role .listener)
 unfolding addsBytes
-stores-same w e f = go (isData f) (w .state .role .listener) refl
+stores-same w e f = go (isData f) (w .state .talker .role .listener) refl
   where
-    idle : w .state .role .listener ≡ true → isActive (w .state .role) ≡ false
-    idle l = lt-leb 2 (w .state .role .talker)
-        (omega (arith, role-laws.fit-true (w .state .role) (tests (w .state) (length (w .rx)) (length (w .tx)) e .role) .apart l))
+    idle : w .state .talker .role .listener ≡ true → isActive (w .state .talker .role) ≡ false
+    idle l = lt-leb 2 (w .state .talker .role .phase)
+        (omega (arith, talker-laws.fit-true (w .state .talker) (tests (w .state) (length (w .rx)) (length (w .tx)) e .talker) .role .apart l))
 
-    go : (d l : Bool) → w .state .role .listener ≡ l → ((d && not (isActive (w .state .role))) && l) ≡ (d && l)
+    go : (d l : Bool) → w .state .talker .role .listener ≡ l → ((d && not (isActive (w .state .talker .role))) && l) ≡ (d && l)
     go true true e = λ i. not (idle e i) && true
-    go true false e = and-false (not (isActive (w .state .role)))
+    go true false e = and-false (not (isActive (w .state .talker .role)))
     go false l e = refl
 
 done-places : (c : Call) (w : World) → firstRefusal (checks c w) ≡ 0 → PlacesOf c w (notRefused c w)

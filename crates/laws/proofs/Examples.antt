@@ -9,6 +9,7 @@ use Rattle.registers.specs.Fit.{values, allInRange, registersFit}
 use Rattle.registers.specs.Writing.{written}
 use Rattle.role.specs.ReadyFrames.{readyOf}
 use Rattle.store.specs.Ring.{fitTest}
+use Rattle.talker.specs.Fit as talker-fit
 use Rattle.answers.specs.Answers.{said}
 use Rattle.state.specs.Sizes.{sizesObeyed, startState, fits}
 use Rattle.state.specs.Status.{conditions, enabledBy, asking, settled, shows, serviced}
@@ -18,5 +19,5 @@ use Rattle.loops.specs.Frames.{readied, ready, frameTaken, deviceClear, frameBy
 use Rattle.bridge.specs.Calls.{checksOn, checks, outcome, settledBy, rxAfter, txAfter, notRefused, refusedOr, step}
 
 pub examples : AllAsThePaperSays
-unfolding given table inCuts byCuts cut ruleOf written registers-table.table registers-table.rowIn registers-table.carriedOf registers-table.startOf registers-table.startRegisters tooLarge bitNotCarried inRange values allInRange registersFit readyOf fitTest said sizesObeyed startState fits conditions enabledBy asking settled shows serviced adds busy readied ready frameTaken deviceClear frameBytes addsBytes checksOn checks outcome settledBy rxAfter txAfter notRefused refusedOr step
+unfolding given table inCuts byCuts cut ruleOf written registers-table.table registers-table.rowIn registers-table.carriedOf registers-table.startOf registers-table.startRegisters tooLarge bitNotCarried inRange values allInRange registersFit readyOf talker-fit.fitTest fitTest said sizesObeyed startState fits conditions enabledBy asking settled shows serviced adds busy readied ready frameTaken deviceClear frameBytes addsBytes checksOn checks outcome settledBy rxAfter txAfter notRefused refusedOr step
 examples = refl

@@ -20,12 +20,13 @@ use Rattle.store.proofs.Several.{puts-cap, puts-fit, puts-size}
 use Rattle.sending.specs.declared.Given.{Given}
 use Rattle.sending.specs.declared.Given.the-variants.{Nothing, One}
 use Rattle.sending.specs.Sending.{givenOf, sendHeld, sentRing}
+use Rattle.talker.specs.Sending.{talking}
 use Rattle.state.specs.declared.State.{State}
 use Rattle.state.specs.declared.Outcome.{Outcome}
 use Rattle.state.specs.declared.Out.{Out}
 use Rattle.state.specs.declared.Out.the-variants as out
 use Rattle.answers.specs.Answers.{done}
-use Rattle.state.specs.State.{withRegisters, withRx, withTx}
+use Rattle.state.specs.State.{withRegisters, withTalker, withRx, withTx}
 use Rattle.state.specs.Sizes.{sizesObeyed, fits}
 use Rattle.state.specs.Status.{settled, conditions, shows, statusOf, afterStatus, afterStatusBack, breakState, keyState}
 use Rattle.state.proofs.Fits.{Tests, tests, rx-fits, tx-fits}
@@ -33,8 +34,8 @@ use Rattle.line.specs.HoldingOff.{isGoOrStop, flowed, storedWith, storedState, 
 use Rattle.line.specs.HoldingOff.{lineBytes, resumed, setAfresh, afterWrite, nextOut, goneState}
 use Rattle.line.proofs.Parts.{gone-some}
 use Rattle.loops.specs.LoopToLine.{adds, addedState, addedBytes}
-use Rattle.loops.specs.Sending.{ruleOf, talking, ended, removedState, sendState, sendFrom, sendStatus}
-use Rattle.loops.specs.Frames.{orderIn, finishing, frameTaken, deviceClear, addsBytes, frameBytes}
+use Rattle.loops.specs.Sending.{ruleOf, ended, removedState, sendState, sendFrom, sendStatus}
+use Rattle.loops.specs.Frames.{orderIn, frameTaken, deviceClear, addsBytes, frameBytes}
 use Rattle.bridge.specs.Calls.{OnState, reset, write, lineByte, lineBreak, key, nextLineByte, loopFrame, Call, create, show, on}
 use Rattle.bridge.specs.Calls.{ofFrame, World, Did, outcome, settledBy, rxAfter, txAfter, notRefused, checks, step}
 use Rattle.laws.specs.Bridges.{ByteOn, ByteCall, bridge}
@@ -46,7 +47,7 @@ use Rattle.laws.proofs.Ways.{isNext, isBack, isLast, isDamaged, isStore
 use Rattle.laws.proofs.Ways.{isObeyed, isAssigned, isSendAsked, isTold, isFinishing, isReady, isIdentified}
 use Rattle.laws.proofs.OneStore.{more-fits}
 use Rattle.laws.proofs.Small.{put-bytes, given-small, status-small}
-use Rattle.laws.proofs.States.{tested, start-fits, with-registers, with-rx, with-tx, talking-tests, obeyed-tests, cleared-tests, assigned-tests}
+use Rattle.laws.proofs.States.{tested, start-fits, with-registers, with-rx, with-tx, talking-tests, obeyed-tests, cleared-tests, assigned-tests, finishing-tests}
 
 -- ---- both stores keep their lengths
 
@@ -100,14 +101,14 @@ module _ (rx tx : List ℕ) where
   settled-good s q e = e
 
   -- a talker in another phase
-  talking-good : (q : State) (phase f : ℕ) → G q → 1 ≤ q .role .talker → phase ≤ 3 → f < 1024 → G (talking q phase f)
+  talking-good : (q : State) (phase f : ℕ) → G q → 1 ≤ q .talker .role .phase → phase ≤ 3 → f < 1024 → G (withTalker q (talking (q .talker) phase f))
   talking-good q phase f e h p k = good _ (talking-tests q (length rx) (length tx) (tests q (length rx) (length tx) e) phase f h p k)
 
-  ended-good : (q : State) (d : ℕ) → G q → 1 ≤ q .role .talker → G (ended q d .state)
+  ended-good : (q : State) (d : ℕ) → G q → 1 ≤ q .talker .role .phase → G (ended q d .state)
   unfolding ended
   ended-good q d e h = talking-good q 1 0 e h (omega arith) (omega arith)
 
-  given-good : (p q : State) (d : Given) → G q → 1 ≤ q .role .talker → ((g : ℕ) → d ≡ One g → g < 1024) → G (sendState p q d .state)
+  given-good : (p q : State) (d : Given) → G q → 1 ≤ q .talker .role .phase → ((g : ℕ) → d ≡ One g → g < 1024) → G (sendState p q d .state)
   unfolding sendState
   given-good p q Nothing e h k = ended-good q 64 e h
   given-good p q (One g) e h k = unfold fits in talking-good q 2 g e h (omega arith) (k g refl)
@@ -161,29 +162,29 @@ module _ (rx tx : List ℕ) where
         unfold fits resumed in
         (fits-with-rx (sentRing (ruleOf (s .regs)) rx (s .rx)) (store-laws.drop-fit rx (s .rx) _ (rx-fits s rx tx e .ring) (omega arith)))
 
-    send-good : Bytes rx → 1 ≤ s .role .talker → G (sendFrom s rx .state)
+    send-good : Bytes rx → 1 ≤ s .talker .role .phase → G (sendFrom s rx .state)
     unfolding sendFrom
     send-good b h =
         given-good s (removedState s rx) (givenOf (sendHeld (ruleOf (s .regs)) rx (s .rx))) removed-good (unfold removedState resumed in h)
         (λ g k. given-small (ruleOf (s .regs)) rx (s .rx) g (rx-fits s rx tx e .ring) b k)
 
-    status-good : 1 ≤ s .role .talker → G (sendStatus s .state)
-    unfolding sendStatus statusOf
+    status-good : 1 ≤ s .talker .role .phase → G (sendStatus s .state)
+    unfolding sendStatus statusOf afterStatus
     status-good h =
         talking-good (afterStatus s) 3 (made 0 (statusOf s)) (unfold fits afterStatus in e) (unfold afterStatus in h) (omega arith)
         (omega (arith, status-small (conditions s) (shows s)))
 
     -- an active talker, and one that is asked to send
-    active : (f : ℕ) → Returning s f → 1 ≤ s .role .talker
-    active f r = omega (arith, leb-true 2 (s .role .talker) (r .active))
+    active : (f : ℕ) → Returning s f → 1 ≤ s .talker .role .phase
+    active f r = omega (arith, leb-true 2 (s .talker .role .phase) (r .active))
 
-    asked : (d : Bool) → (d && eqb (s .role .talker) 1) ≡ true → 1 ≤ s .role .talker
-    asked d x = omega (arith, eqb-true (s .role .talker) 1 (and-right d (eqb (s .role .talker) 1) x))
+    asked : (d : Bool) → (d && eqb (s .talker .role .phase) 1) ≡ true → 1 ≤ s .talker .role .phase
+    asked d x = omega (arith, eqb-true (s .talker .role .phase) 1 (and-right d (eqb (s .talker .role .phase) 1) x))
 
     way-good : Bytes rx → (f : ℕ) (o : Outcome) → Way s rx f o → G (o .state)
     way-good b f o (isNext r m k n) = send-good b (active f r)
     way-good b f o (isBack r m k) =
-        ended-good (afterStatusBack s (dataOf (s .under .frame))) 64 (unfold fits afterStatusBack in e) (unfold afterStatusBack in active f r)
+        ended-good (afterStatusBack s (dataOf (s .talker .under .frame))) 64 (unfold fits afterStatusBack in e) (unfold afterStatusBack in active f r)
     way-good b f o (isLast r m k n) = ended-good s 64 e (active f r)
     way-good b f o (isDamaged r m) = ended-good s 65 e (active f r)
     way-good b f o (isStored r l) = left-good f
@@ -193,7 +194,7 @@ module _ (rx tx : List ℕ) where
     way-good b f o (isAssigned r a) = good _ (assigned-tests s (length rx) (length tx) t (dataOf f))
     way-good b f o (isSendAsked r a x) = send-good b (asked (eqb (dataOf f) 96) x)
     way-good b f o (isTold r a x y) = status-good (asked (eqb (dataOf f) 97) y)
-    way-good b f o (isFinishing r a x y z) = unfold fits finishing in e
+    way-good b f o (isFinishing r a x y z) = good _ (finishing-tests s (length rx) (length tx) t)
     way-good b f o (isReady r a x y z) = e
     way-good b f o (isIdentified r) = e
 

@@ -17,8 +17,9 @@ use Rattle.state.specs.declared.Outcome.{Outcome}
 use Rattle.state.specs.Status.{afterStatus, afterStatusBack}
 use Rattle.line.specs.HoldingOff.{resumed}
 use Rattle.loops.specs.LoopToLine.{adds, addedState}
-use Rattle.loops.specs.Sending.{ruleOf, talking, ended, removedState, sendState, sendFrom, sendStatus}
-use Rattle.loops.specs.Frames.{isClear, orderIn, cleared, obeyed, finishing, frameTaken, deviceClear, addsBytes}
+use Rattle.talker.specs.Sending.{talking}
+use Rattle.loops.specs.Sending.{ruleOf, ended, removedState, sendState, sendFrom, sendStatus}
+use Rattle.loops.specs.Frames.{isClear, orderIn, cleared, obeyed, frameTaken, deviceClear, addsBytes}
 use Rattle.loops.proofs.Clears.{clear-order}
 use Rattle.laws.specs.Places.{nextPlace}
 use Rattle.laws.proofs.OneStore.{left}
@@ -34,7 +35,7 @@ pub record Still (n : ℕ) (s t : State) : Type 0 where
 -- the three kinds of a frame f in the state s, with the state after it; n is the length of the receive store
 pub data Kind (n : ℕ) (s : State) (f : ℕ) (t : State) : Type 0 where
   clears : deviceClear s f ≡ true → addsBytes s f ≡ false → t .rx ≡ emptyRing (s .rx .cap) → t .tx ≡ emptyRing (s .tx .cap) → Kind n s f t
-  stores : deviceClear s f ≡ false → addsBytes s f ≡ true → isData f ≡ true → s .role .listener ≡ true →
+  stores : deviceClear s f ≡ false → addsBytes s f ≡ true → isData f ≡ true → s .talker .role .listener ≡ true →
       t .rx ≡ s .rx → t .tx ≡ putsRing (s .tx) (adds (s .regs) f) → Kind n s f t
   other : deviceClear s f ≡ false → addsBytes s f ≡ false → Still n s t → Kind n s f t
 
@@ -64,7 +65,7 @@ module _ (rx : List ℕ) (s : State) (fit : Fit rx (s .rx)) where
 
     clear-same : eqb (controlOf f) 4 ≡ true → deviceClear s f ≡ isClear (orderIn s f)
     unfolding deviceClear
-    clear-same e = λ i. e i && sym (clear-order (s .role) (dataOf f)) i
+    clear-same e = λ i. e i && sym (clear-order (s .talker .role) (dataOf f)) i
 
     return-kind : (t : State) → Returning s f → S t → K t
     unfolding addsBytes
@@ -75,7 +76,7 @@ module _ (rx : List ℕ) (s : State) (fit : Fit rx (s .rx)) where
     ready-kind t r k = other (rw (r .four)) (rw (r .isdata)) k
 
     way-kind : (o : Outcome) → Way s rx f o → K (o .state)
-    unfolding sendStatus ended talking afterStatus afterStatusBack addedState cleared obeyed finishing addsBytes deviceClear
+    unfolding sendStatus ended talking afterStatus afterStatusBack addedState cleared obeyed addsBytes deviceClear
     way-kind o (isNext r m k e) = return-kind _ r send-still
     way-kind o (isBack r m k) = return-kind _ r (record { place = refl; ring = refl })
     way-kind o (isLast r m k e) = return-kind _ r (record { place = refl; ring = refl })

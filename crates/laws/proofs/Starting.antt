@@ -58,7 +58,7 @@ starts-so c w _ e = subst Started (sym (restarted c w e)) start-right
     start-right : Started (start-world w (marginOf c w))
     start-right =
         unfold startState registers-table.startRegisters registers-table.startOf registers-table.rowIn registers-table.table in
-        record { rx = refl; tx = refl; registers = refl; role = refl; held = refl; line = refl; seen = refl; request = refl; counts = refl }
+        record { rx = refl; tx = refl; registers = refl; role = refl; remote = refl; held = refl; line = refl; seen = refl; request = refl; counts = refl }
 
 pub margin-recorded : Obeys (bridge step) MarginRecorded
 margin-recorded c w _ e = ap (λ (v : World). v .state .margin) (restarted c w e) ∙ (unfold startState in refl)

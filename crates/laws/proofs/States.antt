@@ -4,36 +4,31 @@ use native.Mathlib.Omega.{arith}
 use mathlib.Core.Path.{_≡_, refl, sym, _∙_}
 use mathlib.Core.Bool.{true}
 use borrow.Author.Tests.{eq-eqb, lt-ltb, le-leb}
-use Rattle.cases.proofs.Cases.{by-cond}
 use Rattle.registers.specs.declared.Registers.{Registers}
 use Rattle.registers.specs.Fit.{registersFit}
 use Rattle.registers.proofs.Fits.{fit-start}
-use Rattle.role.specs.declared.Role.{Role}
 use Rattle.role.specs.declared.Order.{Order}
-use Rattle.role.specs.Parts.{isActive, withTalker}
-use Rattle.role.specs.Fit as role-fit
-use Rattle.role.specs.ReadyFrames.{assignedRole}
-use Rattle.role.proofs.FitLaws as role-laws
-use Rattle.role.proofs.CommandLaws.{obeyed-fit}
-use Rattle.role.proofs.ReadyLaws.{assigned-fit}
+use Rattle.talker.specs.declared.Talker.{Talker}
+use Rattle.talker.specs.Parts.{startTalker}
+use Rattle.talker.specs.ReadyFrames.{assignedTalker, finishingTalker}
+use Rattle.talker.specs.Sending.{talking}
+use Rattle.talker.specs.Fit as talker-fit
+use Rattle.talker.proofs.FitLaws as talker-laws
 use Rattle.store.specs.declared.Ring.{Ring}
 use Rattle.store.specs.Ring as store-ring
 use Rattle.store.specs.Ring.{emptyRing}
 use Rattle.store.proofs.Laws.{fit-cap}
 use Rattle.state.specs.declared.State.{State}
-use Rattle.state.specs.declared.Under.{Under}
-use Rattle.state.specs.State.{withRegisters, withRole, withUnder, withRx, withTx, noFrame}
+use Rattle.state.specs.State.{withRegisters, withTalker, withRx, withTx}
 use Rattle.state.specs.Sizes.{sizesObeyed, startState, fits}
 use Rattle.state.proofs.Fits.{Obeyed, sizes-hold, Tests}
 use Rattle.state.proofs.Parts.{fits-met}
-use Rattle.loops.specs.Sending.{talking}
-use Rattle.loops.specs.Frames.{forgotten, cleared, obeyed}
+use Rattle.loops.specs.Frames.{cleared, obeyed}
 
 -- the tests of a state make it fit
 pub tested : (s : State) (a b : ℕ) → Tests s a b → fits s a b ≡ true
 tested s a b t =
-    sym (fits-met s a b _ _ _ _ _ refl refl refl refl refl)
-    ∙ rw (t .rxRing, t .txRing, t .sizes, t .regs, t .role, lt-ltb (s .under .frame) 1024 (t .frame))
+    sym (fits-met s a b _ _ _ _ _ refl refl refl refl refl) ∙ rw (t .rxRing, t .txRing, t .sizes, t .regs, t .talker)
 
 -- an empty ring fits
 empty-test : (a n : ℕ) → n ≡ a → 0 < a → a ≤ 32768 → store-ring.fitTest a (emptyRing n) ≡ true
@@ -48,8 +43,7 @@ start-fits m a b e =
     (record {
       sizes = e;
       regs = fit-start;
-      role = refl;
-      frame = omega arith;
+      talker = talker-laws.fit-test startTalker talker-laws.fit-start;
       rxRing = empty-test a a refl (omega (arith, r .rxLeast)) (r .rxMost);
       txRing = empty-test b b refl (omega (arith, r .txLeast)) (r .txMost);
     })
@@ -57,55 +51,32 @@ start-fits m a b e =
 module _ (s : State) (a b : ℕ) (t : Tests s a b) where
   pub with-registers : (g : Registers) → registersFit g ≡ true → Tests (withRegisters s g) a b
   with-registers g e =
-      record { sizes = t .sizes; regs = e; role = t .role; frame = t .frame; rxRing = t .rxRing; txRing = t .txRing }
+      record { sizes = t .sizes; regs = e; talker = t .talker; rxRing = t .rxRing; txRing = t .txRing }
 
-  pub with-role : (r : Role) → role-fit.Fit r → Tests (withRole s r) a b
-  with-role r e =
-      record {
-        sizes = t .sizes;
-        regs = t .regs;
-        role = role-laws.fit-test r e;
-        frame = t .frame;
-        rxRing =
-            t .rxRing;
-        txRing = t .txRing;
-      }
-
-  pub with-under : (u : Under) → u .frame < 1024 → Tests (withUnder s u) a b
-  with-under u h =
-      record { sizes = t .sizes; regs = t .regs; role = t .role; frame = h; rxRing = t .rxRing; txRing = t .txRing }
+  pub with-talker : (q : Talker) → talker-fit.Fit q → Tests (withTalker s q) a b
+  with-talker q e = record { sizes = t .sizes; regs = t .regs; talker = talker-laws.fit-test q e; rxRing = t .rxRing; txRing = t .txRing }
 
   pub with-rx : (r : Ring) → store-ring.fitTest a r ≡ true → Tests (withRx s r) a b
   with-rx r e =
-      record { sizes = t .sizes; regs = t .regs; role = t .role; frame = t .frame; rxRing = e; txRing = t .txRing }
+      record { sizes = t .sizes; regs = t .regs; talker = t .talker; rxRing = e; txRing = t .txRing }
 
   pub with-tx : (r : Ring) → store-ring.fitTest b r ≡ true → Tests (withTx s r) a b
   with-tx r e =
-      record { sizes = t .sizes; regs = t .regs; role = t .role; frame = t .frame; rxRing = t .rxRing; txRing = e }
+      record { sizes = t .sizes; regs = t .regs; talker = t .talker; rxRing = t .rxRing; txRing = e }
 
-  role-fits : role-fit.Fit (s .role)
-  role-fits = role-laws.fit-true (s .role) (t .role)
+  talker-fits : talker-fit.Fit (s .talker)
+  talker-fits = talker-laws.fit-true (s .talker) (t .talker)
 
-  pub talking-tests : (phase f : ℕ) → 1 ≤ s .role .talker → phase ≤ 3 → f < 1024 → Tests (talking s phase f) a b
-  unfolding talking
-  talking-tests phase f h p k =
-      record {
-        sizes = t .sizes;
-        regs = t .regs;
-        role = role-laws.fit-test (withTalker (s .role) phase) (role-laws.fit-talker (s .role) phase h p role-fits);
-        frame = k;
-        rxRing = t .rxRing;
-        txRing = t .txRing;
-      }
+  pub talking-tests : (phase f : ℕ) → 1 ≤ s .talker .role .phase → phase ≤ 3 → f < 1024 → Tests (withTalker s (talking (s .talker) phase f)) a b
+  talking-tests phase f h p k = with-talker (talking (s .talker) phase f) (talker-laws.talking-fit (s .talker) talker-fits phase f h p k)
 
   pub obeyed-tests : (o : Order) → Tests (obeyed s o) a b
-  unfolding obeyed forgotten
+  unfolding obeyed
   obeyed-tests o =
       record {
         sizes = t .sizes;
         regs = t .regs;
-        role = role-laws.fit-test _ (obeyed-fit (s .role) o role-fits);
-        frame = by-cond (λ (u : Under). u .frame < 1024) (isActive (s .role)) noFrame (s .under) (λ _. omega arith) (λ _. t .frame);
+        talker = talker-laws.fit-test _ (talker-laws.obeyed-fit (s .talker) talker-fits o);
         rxRing = t .rxRing;
         txRing = t .txRing;
       }
@@ -117,11 +88,13 @@ module _ (s : State) (a b : ℕ) (t : Tests s a b) where
       record {
         sizes = t .sizes;
         regs = t .regs;
-        role = t .role;
-        frame = t .frame;
+        talker = t .talker;
         rxRing = empty-test a (s .rx .cap) (fit-cap a (s .rx) (t .rxRing)) (omega (arith, r .rxLeast)) (r .rxMost);
         txRing = empty-test b (s .tx .cap) (fit-cap b (s .tx) (t .txRing)) (omega (arith, r .txLeast)) (r .txMost);
       }
 
-  pub assigned-tests : (d : ℕ) → Tests (withRole s (assignedRole (s .role) d)) a b
-  assigned-tests d = with-role (assignedRole (s .role) d) (assigned-fit (s .role) d role-fits)
+  pub assigned-tests : (d : ℕ) → Tests (withTalker s (assignedTalker (s .talker) d)) a b
+  assigned-tests d = with-talker (assignedTalker (s .talker) d) (talker-laws.assigned-fit (s .talker) talker-fits d)
+
+  pub finishing-tests : Tests (withTalker s (finishingTalker (s .talker))) a b
+  finishing-tests = with-talker (finishingTalker (s .talker)) (talker-laws.finishing-fit (s .talker) talker-fits)

@@ -9,24 +9,27 @@ use Rattle.cases.proofs.Cases.{by-cond}
 use Rattle.frame.specs.Frame.{controlOf, dataOf, made, isData, sameApart}
 use Rattle.role.specs.declared.Ready.{Ready}
 use Rattle.role.specs.Parts.{isActive}
-use Rattle.role.specs.ReadyFrames.{givesAddress, readyOf, assignedRole}
+use Rattle.role.specs.ReadyFrames.{givesAddress, readyOf}
+use Rattle.talker.specs.declared.Return.{Return}
+use Rattle.talker.specs.ReadyFrames.{assignedTalker, finishingTalker}
+use Rattle.talker.specs.Returns.{returnOf}
 use Rattle.state.specs.declared.State.{State}
 use Rattle.state.specs.declared.Outcome.{Outcome}
-use Rattle.state.specs.State.{withRole}
+use Rattle.state.specs.State.{withTalker}
 use Rattle.state.specs.Status.{serviced, afterStatusBack}
 use Rattle.loops.specs.LoopToLine.{addedState}
 use Rattle.loops.specs.Sending.{sendFrom, sendStatus, ended}
 use Rattle.loops.specs.Frames.{passed, isClear, orderIn, obeyed, cleared, commandState, command}
-use Rattle.loops.specs.Frames.{finishing, readied, ready, returned, dataPassed, identify, frameTaken}
+use Rattle.loops.specs.Frames.{readied, ready, judged, returned, dataPassed, identify, frameTaken}
 
 -- a data frame that is a return, one that is not, a command, a ready frame, and any other
 pub record Returning (s : State) (f : ℕ) : Type 0 where
   pub isdata : isData f ≡ true
-  pub active : isActive (s .role) ≡ true
+  pub active : isActive (s .talker .role) ≡ true
 
 pub record Arriving (s : State) (f : ℕ) : Type 0 where
   pub isdata : isData f ≡ true
-  pub idle : isActive (s .role) ≡ false
+  pub idle : isActive (s .talker .role) ≡ false
 
 pub record Commanding (f : ℕ) : Type 0 where
   pub isdata : isData f ≡ false
@@ -44,27 +47,27 @@ pub record Identifying (f : ℕ) : Type 0 where
 
 pub data Way (s : State) (rx : List ℕ) (f : ℕ) : Outcome → Type 0 where
   -- returns: the next frame, the status byte back, the last frame of all, damage
-  isNext : Returning s f → sameApart f (s .under .frame) ≡ true → eqb (s .role .talker) 3 ≡ false → s .under .finishing ≡ false → Way s rx f (sendFrom s rx)
-  isBack : Returning s f → sameApart f (s .under .frame) ≡ true → eqb (s .role .talker) 3 ≡ true →
-      Way s rx f (ended (afterStatusBack s (dataOf (s .under .frame))) 64)
-  isLast : Returning s f → sameApart f (s .under .frame) ≡ true → eqb (s .role .talker) 3 ≡ false → s .under .finishing ≡ true → Way s rx f (ended s 64)
-  isDamaged : Returning s f → sameApart f (s .under .frame) ≡ false → Way s rx f (ended s 65)
+  isNext : Returning s f → sameApart f (s .talker .under .frame) ≡ true → eqb (s .talker .role .phase) 3 ≡ false → s .talker .under .finishing ≡ false → Way s rx f (sendFrom s rx)
+  isBack : Returning s f → sameApart f (s .talker .under .frame) ≡ true → eqb (s .talker .role .phase) 3 ≡ true →
+      Way s rx f (ended (afterStatusBack s (dataOf (s .talker .under .frame))) 64)
+  isLast : Returning s f → sameApart f (s .talker .under .frame) ≡ true → eqb (s .talker .role .phase) 3 ≡ false → s .talker .under .finishing ≡ true → Way s rx f (ended s 64)
+  isDamaged : Returning s f → sameApart f (s .talker .under .frame) ≡ false → Way s rx f (ended s 65)
   -- other data frames: stored by a listener, or only passed
-  isStored : Arriving s f → s .role .listener ≡ true → Way s rx f (passed (addedState s f) (serviced s f))
-  isPassed : Arriving s f → s .role .listener ≡ false → Way s rx f (passed s (serviced s f))
+  isStored : Arriving s f → s .talker .role .listener ≡ true → Way s rx f (passed (addedState s f) (serviced s f))
+  isPassed : Arriving s f → s .talker .role .listener ≡ false → Way s rx f (passed s (serviced s f))
   -- commands: a device clear, and any other
   isCleared : Commanding f → isClear (orderIn s f) ≡ true → Way s rx f (passed (cleared (obeyed s (orderIn s f))) f)
   isObeyed : Commanding f → isClear (orderIn s f) ≡ false → Way s rx f (passed (obeyed s (orderIn s f)) f)
   -- ready frames: an address, send data, send status, finish, and any other
-  isAssigned : Readying f → givesAddress (s .role) (dataOf f) ≡ true →
-      Way s rx f (record { state = withRole s (assignedRole (s .role) (dataOf f)); answer = passed s (made 5 (dataOf f + 1)) .answer })
-  isSendAsked : Readying f → givesAddress (s .role) (dataOf f) ≡ false → (eqb (dataOf f) 96 && eqb (s .role .talker) 1) ≡ true → Way s rx f (sendFrom s rx)
-  isTold : Readying f → givesAddress (s .role) (dataOf f) ≡ false → (eqb (dataOf f) 96 && eqb (s .role .talker) 1) ≡ false →
-      (eqb (dataOf f) 97 && eqb (s .role .talker) 1) ≡ true → Way s rx f (sendStatus s)
-  isFinishing : Readying f → givesAddress (s .role) (dataOf f) ≡ false → (eqb (dataOf f) 96 && eqb (s .role .talker) 1) ≡ false →
-      (eqb (dataOf f) 97 && eqb (s .role .talker) 1) ≡ false → (eqb (dataOf f) 66 && eqb (s .role .talker) 2) ≡ true → Way s rx f (passed (finishing s) f)
-  isReady : Readying f → givesAddress (s .role) (dataOf f) ≡ false → (eqb (dataOf f) 96 && eqb (s .role .talker) 1) ≡ false →
-      (eqb (dataOf f) 97 && eqb (s .role .talker) 1) ≡ false → (eqb (dataOf f) 66 && eqb (s .role .talker) 2) ≡ false → Way s rx f (passed s f)
+  isAssigned : Readying f → givesAddress (s .talker .role) (dataOf f) ≡ true →
+      Way s rx f (record { state = withTalker s (assignedTalker (s .talker) (dataOf f)); answer = passed s (made 5 (dataOf f + 1)) .answer })
+  isSendAsked : Readying f → givesAddress (s .talker .role) (dataOf f) ≡ false → (eqb (dataOf f) 96 && eqb (s .talker .role .phase) 1) ≡ true → Way s rx f (sendFrom s rx)
+  isTold : Readying f → givesAddress (s .talker .role) (dataOf f) ≡ false → (eqb (dataOf f) 96 && eqb (s .talker .role .phase) 1) ≡ false →
+      (eqb (dataOf f) 97 && eqb (s .talker .role .phase) 1) ≡ true → Way s rx f (sendStatus s)
+  isFinishing : Readying f → givesAddress (s .talker .role) (dataOf f) ≡ false → (eqb (dataOf f) 96 && eqb (s .talker .role .phase) 1) ≡ false →
+      (eqb (dataOf f) 97 && eqb (s .talker .role .phase) 1) ≡ false → (eqb (dataOf f) 66 && eqb (s .talker .role .phase) 2) ≡ true → Way s rx f (passed (withTalker s (finishingTalker (s .talker))) f)
+  isReady : Readying f → givesAddress (s .talker .role) (dataOf f) ≡ false → (eqb (dataOf f) 96 && eqb (s .talker .role .phase) 1) ≡ false →
+      (eqb (dataOf f) 97 && eqb (s .talker .role .phase) 1) ≡ false → (eqb (dataOf f) 66 && eqb (s .talker .role .phase) 2) ≡ false → Way s rx f (passed s f)
   isIdentified : Identifying f → Way s rx f (passed s (serviced s f))
 
 module _ (s : State) (rx : List ℕ) (f : ℕ) where
@@ -72,20 +75,23 @@ module _ (s : State) (rx : List ℕ) (f : ℕ) where
   W = Way s rx f
 
   return-way : Returning s f → W (returned s rx f)
-  unfolding returned
+  unfolding returned judged returnOf
   return-way r =
-      by-cond W (sameApart f (s .under .frame)) _ _
-      (λ m. by-cond W (eqb (s .role .talker) 3) _ _ (λ k. isBack r m k)
-      (λ k. by-cond W (s .under .finishing) _ _ (λ e. isLast r m k e) (λ e. isNext r m k e)))
+      by-cond J (sameApart f (s .talker .under .frame)) _ _
+      (λ m. by-cond J (eqb (s .talker .role .phase) 3) _ _ (λ k. isBack r m k)
+      (λ k. by-cond J (s .talker .under .finishing) _ _ (λ e. isLast r m k e) (λ e. isNext r m k e)))
       (λ m. isDamaged r m)
+    where
+      J : Return → Type 0
+      J k = W (judged s rx k)
 
   ready-way : Readying f → W (ready s rx f)
   unfolding ready readied readyOf
   ready-way r =
-      by-cond R (givesAddress (s .role) (dataOf f)) _ _ (λ a. isAssigned r a)
-      (λ a. by-cond R (eqb (dataOf f) 96 && eqb (s .role .talker) 1) _ _ (λ x. isSendAsked r a x)
-      (λ x. by-cond R (eqb (dataOf f) 97 && eqb (s .role .talker) 1) _ _ (λ y. isTold r a x y)
-      (λ y. by-cond R (eqb (dataOf f) 66 && eqb (s .role .talker) 2) _ _ (λ z. isFinishing r a x y z) (λ z. isReady r a x y z))))
+      by-cond R (givesAddress (s .talker .role) (dataOf f)) _ _ (λ a. isAssigned r a)
+      (λ a. by-cond R (eqb (dataOf f) 96 && eqb (s .talker .role .phase) 1) _ _ (λ x. isSendAsked r a x)
+      (λ x. by-cond R (eqb (dataOf f) 97 && eqb (s .talker .role .phase) 1) _ _ (λ y. isTold r a x y)
+      (λ y. by-cond R (eqb (dataOf f) 66 && eqb (s .talker .role .phase) 2) _ _ (λ z. isFinishing r a x y z) (λ z. isReady r a x y z))))
     where
       R : Ready → Type 0
       R k = W (readied s rx f k)
@@ -95,9 +101,9 @@ module _ (s : State) (rx : List ℕ) (f : ℕ) where
   unfolding frameTaken dataPassed command commandState identify
   way =
       by-cond W (isData f) _ _
-      (λ D. by-cond W (isActive (s .role)) _ _
+      (λ D. by-cond W (isActive (s .talker .role)) _ _
       (λ A. return-way (record { isdata = D; active = A }))
-      (λ A. by-cond (λ (t : State). W (passed t (serviced s f))) (s .role .listener) _ _
+      (λ A. by-cond (λ (t : State). W (passed t (serviced s f))) (s .talker .role .listener) _ _
       (λ l. isStored (record { isdata = D; idle = A }) l) (λ l. isPassed (record { isdata = D; idle = A }) l)))
       (λ D. by-cond W (eqb (controlOf f) 4) _ _
       (λ C. by-cond (λ (t : State). W (passed t f)) (isClear (orderIn s f)) _ _

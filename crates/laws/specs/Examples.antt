@@ -42,7 +42,7 @@ taking c d = step (on (loopFrame (made c d))) (world (startState 1 4 3) (0 ∷ 0
 
 unfoldable pub given : Trial → Result
 given (held c0 c1 xs) = reads (map shownAs (frames (cut (rule c0 c1)) xs)) (leftOver (cut (rule c0 c1)) xs)
-given (taken c d) = answers (taking c d .said) (taking c d .world .state .role .address)
+given (taken c d) = answers (taking c d .said) (taking c d .world .state .talker .role .address)
 
 abbrev crlf : List ℕ → List Said → List ℕ → Example
 crlf xs fs rest = record { trial = held 13 10 xs; wanted = reads fs rest }

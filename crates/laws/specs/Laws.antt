@@ -16,7 +16,7 @@ use Rattle.laws.specs.Counts.{CountsGo, CountsSince}
 use Rattle.laws.specs.Service.{ServiceBit}
 use Rattle.laws.specs.SendRule.{SendRule, NoneRemoved, FramesSince}
 use Rattle.laws.specs.Returns.{ReturnsJudged}
-use Rattle.laws.specs.Roles.{RoleGoes}
+use Rattle.laws.specs.Roles.{RoleGoes, RemoteGoes}
 use Rattle.laws.specs.Passing.{FramesPass}
 use Rattle.laws.specs.Registers.{RegistersGo}
 use Rattle.laws.specs.Requests.{RequestsGo}
@@ -36,5 +36,5 @@ laws =
     ∷ NotInvented broken ∷ NotInvented overrun ∷ NotInvented pressed
     ∷ NotAtStart broken ∷ NotAtStart overrun ∷ NotAtStart pressed
     ∷ LineKept ∷ LineSince ∷ LastKept ∷ LastSince ∷ OwnGiven ∷ NextGiven ∷ ForbiddenGoes ∷ HoldingGoes
-    ∷ CountsGo ∷ CountsSince ∷ ServiceBit ∷ RequestsGo
+    ∷ CountsGo ∷ CountsSince ∷ ServiceBit ∷ RequestsGo ∷ RemoteGoes
     ∷ []

@@ -70,17 +70,17 @@ onOne d seen nothing = onState (λ c. cond (is d c) seen nothing) nothing
 
 -- Frames, ready 96 and ready 97: asked of an addressed talker that is not active
 abbrev pub isAsked : ℕ → State → ℕ → Bool
-isAsked d s f = eqb (controlOf f) 5 && (eqb (dataOf f) d && eqb (s .role .talker) addressed)
+isAsked d s f = eqb (controlOf f) 5 && (eqb (dataOf f) d && eqb (s .talker .role .phase) addressed)
 
 -- Frames, returns: a data frame taken while ours is under way, equal to it but for the service bit
 unfoldable pub equalReturn : State → ℕ → Bool
-equalReturn s f = (isData f && isActive (s .role)) && sameApart f (s .under .frame)
+equalReturn s f = (isData f && isActive (s .talker .role)) && sameApart f (s .talker .under .frame)
 
 -- The reading rule, a send: the answer to ready 96, or to an equal return unless finishing or of status
 unfoldable pub isSend : State → ℕ → Bool
 isSend s f =
     isAsked 96 s f
-    || (equalReturn s f && (eqb (s .role .talker) activeData && not (s .under .finishing)))
+    || (equalReturn s f && (eqb (s .talker .role .phase) activeData && not (s .talker .under .finishing)))
 
 -- Frames, ready 97: the status byte is asked for
 unfoldable pub asksStatus : State → ℕ → Bool
@@ -88,7 +88,7 @@ asksStatus s f = isAsked 97 s f
 
 -- Frames, other data frames pass, those that are no return; and so do identify frames
 unfoldable pub passesOn : State → ℕ → Bool
-passesOn s f = (isData f && not (isActive (s .role))) || ltb 5 (controlOf f)
+passesOn s f = (isData f && not (isActive (s .talker .role))) || ltb 5 (controlOf f)
 
 -- ---- line bytes in
 
@@ -125,7 +125,7 @@ addsFor w f = cond (isEnd f && bit 2 (w .state .regs .r10)) (dataOf f ∷ w .sta
 
 -- the line bytes that a frame added
 unfoldable pub added : Call → World → Said → List ℕ
-added c w a = onFrame (λ f. cond (taken a && (isData f && w .state .role .listener)) (addsFor w f) []) [] c
+added c w a = onFrame (λ f. cond (taken a && (isData f && w .state .talker .role .listener)) (addsFor w f) []) [] c
 
 -- Holding the line off, last: the character that is owed, C05 where the line is held off, else C04
 abbrev pub ownCharacter : World → ℕ

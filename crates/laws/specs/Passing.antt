@@ -22,9 +22,9 @@ pub record PassedOn (f : ℕ) (s : Saw) : Type 0 where
   -- Frames, last: a data frame that is no return and an identify frame pass, with the service bit if a request showed before the call
   pub passes : passesOn (s .before .state) f ≡ true → s .answer ≡ asFrame (cond (shows (s .before)) (withService f) f)
   -- Frames, ready 128+n to an unassigned device is answered by 128+n+1
-  pub address : controlOf f ≡ 5 → assigns (s .before .state .role) (dataOf f) ≡ true → s .answer ≡ frame 5 (dataOf f + 1)
+  pub address : controlOf f ≡ 5 → assigns (s .before .state .talker .role) (dataOf f) ≡ true → s .answer ≡ frame 5 (dataOf f + 1)
   -- Frames, other ready frames pass
-  pub ready : controlOf f ≡ 5 → assigns (s .before .state .role) (dataOf f) ≡ false →
+  pub ready : controlOf f ≡ 5 → assigns (s .before .state .talker .role) (dataOf f) ≡ false →
       (isAsked 96 (s .before .state) f || isAsked 97 (s .before .state) f) ≡ false → s .answer ≡ asFrame f
 
 abbrev pub FramesPass : Law

@@ -1,4 +1,4 @@
--- How the role goes, over every call: by the frame, the role before it and the answer. Each part of the role by itself.
+-- How the role and the remote flags go, over every call: by the frame, the role before it and the answer. Each part by itself.
 use Prim.Native.Nat.{ℕ, _+_, _-_}
 use mathlib.Core.Path.{_≡_}
 use mathlib.Core.Bool.{Bool, false, cond, _&&_, _||_, not}
@@ -7,6 +7,8 @@ use Rattle.machine.specs.Course.{of}
 use Rattle.machine.specs.Machine.{ofCalls}
 use Rattle.frame.specs.Frame.{controlOf, dataOf, isData}
 use Rattle.role.specs.declared.Role.{Role}
+use Rattle.role.specs.declared.remote.Remote.{Remote}
+use Rattle.state.specs.declared.State.{State}
 use Rattle.answers.specs.Answers.{Said}
 use Rattle.laws.specs.Bridges.{Law}
 use Rattle.laws.specs.Observers.{any, taken, dataFrame, startsAnew, onFrame}
@@ -28,24 +30,27 @@ untalks r d = (leb 64 d && ltb d 96) && not (talks r d)
 abbrev pub listenerBy : Role → ℕ → Bool
 listenerBy r d = cond ((eqb d 63 || eqb d 144) || talks r d) false (listens r d || r .listener)
 
--- the talker: 0 none, 1 addressed, 2 active with data, 3 active with status; an active one first becomes addressed
-abbrev pub talkerBy : Role → ℕ → ℕ
-talkerBy r d = cond ((listens r d || untalks r d) || eqb d 144) 0 (cond (talks r d || leb 2 (r .talker)) 1 (r .talker))
+-- the talker's phase: 0 none, 1 addressed, 2 active with data, 3 active with status; an active one first becomes addressed
+abbrev pub phaseBy : Role → ℕ → ℕ
+phaseBy r d = cond ((listens r d || untalks r d) || eqb d 144) 0 (cond (talks r d || leb 2 (r .phase)) 1 (r .phase))
 
 -- Frames, commands, 154
 abbrev pub addressBy : Role → ℕ → ℕ
 addressBy r d = cond (eqb d 154) 31 (r .address)
 
 -- Frames, commands, 146 and 147
-abbrev pub enabledBy : Role → ℕ → Bool
-enabledBy r d = cond (eqb d 147) false (eqb d 146 || r .enabled)
+abbrev pub enabledBy : Remote → ℕ → Bool
+enabledBy m d = cond (eqb d 147) false (eqb d 146 || m .enabled)
 
 -- Frames, commands: 147 ends remote, 1 to a listener is local, and a listen address makes remote where that is enabled
-abbrev pub remoteBy : Role → ℕ → Bool
-remoteBy r d = cond (eqb d 147 || (eqb d 1 && r .listener)) false (cond (listens r d) (r .remote || r .enabled) (r .remote))
+abbrev pub remoteBy : Role → Remote → ℕ → Bool
+remoteBy r m d = cond (eqb d 147 || (eqb d 1 && r .listener)) false (cond (listens r d) (m .remote || m .enabled) (m .remote))
 
 unfoldable pub commanded : Role → ℕ → Role
-commanded r d = record { address = addressBy r d; talker = talkerBy r d; listener = listenerBy r d; enabled = enabledBy r d; remote = remoteBy r d }
+commanded r d = record { address = addressBy r d; phase = phaseBy r d; listener = listenerBy r d }
+
+unfoldable pub commandedRemote : Role → Remote → ℕ → Remote
+commandedRemote r m d = record { enabled = enabledBy m d; remote = remoteBy r m d }
 
 -- ---- ready frames, by the data byte and whether a data frame was answered
 
@@ -55,16 +60,14 @@ assigns r d = (leb 128 d && ltb d 159) && eqb (r .address) 31
 
 -- Frames, ready 96 and 97, to an addressed talker
 abbrev pub asked : Role → ℕ → ℕ → Bool
-asked r d n = eqb d n && eqb (r .talker) 1
+asked r d n = eqb d n && eqb (r .phase) 1
 
 unfoldable pub readied : Role → ℕ → Bool → Role
 readied r d sent =
     record {
       address = cond (assigns r d) (d - 128) (r .address);
-      talker = cond (asked r d 96) (cond sent 2 1) (cond (asked r d 97) 3 (r .talker));
+      phase = cond (asked r d 96) (cond sent 2 1) (cond (asked r d 97) 3 (r .phase));
       listener = r .listener;
-      enabled = r .enabled;
-      remote = r .remote;
     }
 
 -- ---- a data frame: a return leaves an active talker active where the next frame is sent, else addressed
@@ -73,10 +76,8 @@ unfoldable pub returnedTo : Role → Bool → Role
 returnedTo r sent =
     record {
       address = r .address;
-      talker = cond (leb 2 (r .talker)) (cond sent 2 1) (r .talker);
+      phase = cond (leb 2 (r .phase)) (cond sent 2 1) (r .phase);
       listener = r .listener;
-      enabled = r .enabled;
-      remote = r .remote;
     }
 
 -- ---- every call
@@ -89,10 +90,20 @@ byFrame f r a =
     (cond (eqb (controlOf f) 5) (readied r (dataOf f) (any (dataFrame a)))
     r))
 
--- no other call changes the role, but a create or reset, which begin it
-abbrev pub RoleGoes : Law
-RoleGoes =
+-- the remote flags after a frame that is not refused: commands alone change them
+unfoldable pub remoteByFrame : ℕ → Role → Remote → Remote
+remoteByFrame f r m = cond (eqb (controlOf f) 4) (commandedRemote r m (dataOf f)) m
+
+-- a part of the state that frames change so: no other call changes it, but a create or reset, which begin it
+abbrev goes : {X : Type 0} → (State → X) → (ℕ → State → Said → X) → Law
+goes part change =
     ofCalls
     (λ s. of startsAnew s ≡ false →
-    s .after .state .role ≡
-    onFrame (λ f. cond (taken (s .answer)) (byFrame f (s .before .state .role) (s .answer)) (s .before .state .role)) (s .before .state .role) (s .call))
+    part (s .after .state) ≡
+    onFrame (λ f. cond (taken (s .answer)) (change f (s .before .state) (s .answer)) (part (s .before .state))) (part (s .before .state)) (s .call))
+
+abbrev pub RoleGoes : Law
+RoleGoes = goes (λ s. s .talker .role) (λ f s a. byFrame f (s .talker .role) a)
+
+abbrev pub RemoteGoes : Law
+RemoteGoes = goes (λ s. s .remote) (λ f s a. remoteByFrame f (s .talker .role) (s .remote))

@@ -25,7 +25,8 @@ pub record Started (w : World) : Type 0 where
   -- Registers, start
   pub registers : registerValues (w .state .regs) ≡ 0 ∷ 0 ∷ 0 ∷ 0 ∷ 8 ∷ 13 ∷ 10 ∷ 13 ∷ 10 ∷ 17 ∷ 19 ∷ []
   -- Frames, start: address 31, unassigned, and no talker, listener or remote
-  pub role : w .state .role ≡ record { address = 31; talker = 0; listener = false; enabled = false; remote = false }
+  pub role : w .state .talker .role ≡ record { address = 31; phase = 0; listener = false }
+  pub remote : w .state .remote ≡ record { enabled = false; remote = false }
   -- nothing is held
   pub held : w .state .rx .len ∷ w .state .tx .len ∷ [] ≡ 0 ∷ 0 ∷ []
   -- the line is not held off, our sending is permitted, and go is the last that we sent

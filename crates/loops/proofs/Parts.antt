@@ -6,24 +6,28 @@ use mathlib.Core.List.{List, [], _∷_}
 use mathlib.Core.Bool.{Bool, true, false, _&&_}
 use lib.Dec.{ltb}
 use lib.ListN.{length}
-use borrow.Author.Tests.{eq-eqb, ne-eqb, le-leb, lt-leb}
-use Rattle.cases.proofs.Cases.{cond-true, cond-false}
-use Rattle.frame.specs.Frame.{made, dataOf, isData, isEnd, sameApart}
+use Rattle.frame.specs.Frame.{made, dataOf, isData, isEnd}
 use Rattle.registers.specs.declared.Registers.{Registers}
 use Rattle.registers.specs.Meanings.{endInserted, endDetected}
 use Rattle.reading.specs.declared.Rule.{Rule}
-use Rattle.role.specs.declared.Role.{Role}
+use Rattle.role.specs.declared.remote.Remote.{Remote}
 use Rattle.role.specs.declared.Order.{Order}
 use Rattle.role.specs.declared.Ready.{Ready}
 use Rattle.role.specs.declared.Ready.the-variants.{Pass, Address, Data, Status, Finish}
-use Rattle.role.specs.Parts.{withTalker}
 use Rattle.store.specs.declared.Ring.{Ring}
 use Rattle.store.specs.Ring.{emptyRing, room}
 use Rattle.status.specs.declared.Events.{Events}
 use Rattle.role.specs.Orders.{orderOf}
-use Rattle.role.specs.Commands.{obeyedRole}
-use Rattle.role.specs.ReadyFrames.{readyOf, assignedRole}
+use Rattle.role.specs.Remote.{obeyedRemote}
+use Rattle.role.specs.ReadyFrames.{readyOf}
 use Rattle.role.proofs.ReadyLaws.{Told, told}
+use Rattle.talker.specs.declared.Talker.{Talker}
+use Rattle.talker.specs.declared.Return.{Return}
+use Rattle.talker.specs.declared.Return.the-variants.{Damaged, StatusBack, Finished, Next}
+use Rattle.talker.specs.Commands.{obeyedTalker}
+use Rattle.talker.specs.ReadyFrames.{assignedTalker, finishingTalker}
+use Rattle.talker.specs.Sending.{talking, endedTalker}
+use Rattle.talker.specs.Returns.{returnOf}
 use Rattle.sending.specs.declared.Given.{Given}
 use Rattle.sending.specs.declared.Given.the-variants.{Nothing, One}
 use Rattle.sending.specs.declared.Sending.{Sending}
@@ -31,13 +35,13 @@ use Rattle.sending.specs.Sending.{Sends}
 use Rattle.state.specs.declared.State.{State}
 use Rattle.state.specs.declared.Outcome.{Outcome}
 use Rattle.answers.specs.declared.Answer.the-variants.{Frame}
-use Rattle.state.specs.State.{withRole, withUnder, withRx, withTx, withLine, withCounts, noFrame, noEvents, notesWith}
+use Rattle.state.specs.State.{withTalker, withRemote, withRx, withTx, withLine, withCounts, noEvents, notesWith}
 use Rattle.state.specs.Counts.{counted}
 use Rattle.loops.specs.LoopToLine.{adds, busy}
 use Rattle.line.specs.HoldingOff.{resumed}
 use Rattle.state.specs.Status.{settled, serviced, statusOf, afterStatus, afterStatusBack}
-use Rattle.loops.specs.Sending.{talking, ended, ruleOf, removedState, sendState, sendFrom, sendStatus}
-use Rattle.loops.specs.Frames.{isClear, forgotten, cleared, obeyed, commandSettled, finishing, readied, ready, returned, outcomeSettled}
+use Rattle.loops.specs.Sending.{ended, ruleOf, removedState, sendState, sendFrom, sendStatus}
+use Rattle.loops.specs.Frames.{isClear, cleared, obeyed, commandSettled, readied, ready, judged, returned, outcomeSettled}
 
 -- ---- what a frame adds
 
@@ -52,16 +56,11 @@ module _ (g : Registers) (f : ℕ) (a b : Bool) (p : a ≡ isEnd f) (q : b ≡ e
 
 -- ---- commands
 
-module _ (s : State) (o : Order) (r : Role) (p : r ≡ obeyedRole (s .role) o) where
-  pub obey-active : 2 ≤ s .role .talker → withUnder (withRole s r) noFrame ≡ obeyed s o
-  unfolding obeyed forgotten
-  obey-active h = rw (p, le-leb 2 (s .role .talker) h)
+pub obey-met : (s : State) (o : Order) (t : Talker) (m : Remote) → t ≡ obeyedTalker (s .talker) o → m ≡ obeyedRemote (s .remote) o → withRemote (withTalker s t) m ≡ obeyed s o
+unfolding obeyed
+obey-met s o t m p q = rw (p, q)
 
-  pub obey-other : s .role .talker < 2 → withRole s r ≡ obeyed s o
-  unfolding obeyed forgotten
-  obey-other h = rw (p, lt-leb 2 (s .role .talker) h)
-
-module _ (s : State) (f d : ℕ) (o : Order) (t : State) (b : Bool) (hd : d ≡ dataOf f) (ho : o ≡ orderOf 31 (s .role) d) (ht : t ≡ obeyed s o) (hb : b ≡ isClear o) where
+module _ (s : State) (f d : ℕ) (o : Order) (t : State) (b : Bool) (hd : d ≡ dataOf f) (ho : o ≡ orderOf 31 (s .talker .role) d) (ht : t ≡ obeyed s o) (hb : b ≡ isClear o) where
   pub command-clears : (u : State) → b ≡ true → u ≡ cleared t → record { state = u; answer = Frame f } ≡ commandSettled s f
   unfolding commandSettled
   command-clears u e q = rw (q, ht, ← hd, ← ho, ← hb, e)
@@ -76,9 +75,9 @@ pub send-nothing : (before after : State) (g : Given) (o : Outcome) → g ≡ No
 unfolding sendState
 send-nothing before after g o e q = rw e q
 
-pub send-frame : (before after : State) (g : Given) (f n out : ℕ) (t : State) → g ≡ One f → t ≡ talking after 2 f → n ≡ counted (after .counts .sent) → out ≡ serviced before f →
-    record { state = withCounts t (record { stored = t .counts .stored; lost = t .counts .lost; sent = n }); answer = Frame out } ≡ sendState before after g
-unfolding sendState talking
+pub send-frame : (before after : State) (g : Given) (f n out : ℕ) (t : Talker) → g ≡ One f → t ≡ talking (after .talker) 2 f → n ≡ counted (after .counts .sent) → out ≡ serviced before f →
+    record { state = withCounts (withTalker after t) (record { stored = after .counts .stored; lost = after .counts .lost; sent = n }); answer = Frame out } ≡ sendState before after g
+unfolding sendState
 send-frame before after g f n out t e p q r = rw (e, p, q, r)
 
 pub send-met : (s : State) (rx : List ℕ) (rule : Rule) (o : Sending) (u : State) (r : Outcome) → rule ≡ ruleOf (s .regs) → Sends rule rx (s .rx) o → u ≡ resumed (withRx s (o .ring)) →
@@ -88,14 +87,14 @@ send-met s rx rule o u r e d p q = rw (q, p, d .ring, d .given, e)
 
 -- ---- ready frames
 
-module _ (s : State) (rx : List ℕ) (f d : ℕ) (k : Ready) (hd : d ≡ dataOf f) (hk : k ≡ readyOf (s .role) d) where
+module _ (s : State) (rx : List ℕ) (f d : ℕ) (k : Ready) (hd : d ≡ dataOf f) (hk : k ≡ readyOf (s .talker .role) d) where
   by-ready : (o : Outcome) (j : Ready) → k ≡ j → o ≡ readied s rx f j → o ≡ ready s rx f
   unfolding ready
-  by-ready o j e q = q ∙ ap (readied s rx f) (sym e ∙ hk ∙ ap (readyOf (s .role)) hd)
+  by-ready o j e q = q ∙ ap (readied s rx f) (sym e ∙ hk ∙ ap (readyOf (s .talker .role)) hd)
 
-  pub ready-address : (r : Role) (x : ℕ) → k ≡ Address → r ≡ assignedRole (s .role) d → x ≡ made 5 (d + 1) → record { state = withRole s r; answer = Frame x } ≡ ready s rx f
+  pub ready-address : (t : Talker) (x : ℕ) → k ≡ Address → t ≡ assignedTalker (s .talker) d → x ≡ made 5 (d + 1) → record { state = withTalker s t; answer = Frame x } ≡ ready s rx f
   unfolding readied
-  ready-address r x e p q = by-ready _ Address e (rw (p, q, hd))
+  ready-address t x e p q = by-ready _ Address e (rw (p, q, hd))
 
   pub ready-data : (o : Outcome) → k ≡ Data → o ≡ sendFrom s rx → o ≡ ready s rx f
   unfolding readied
@@ -105,9 +104,9 @@ module _ (s : State) (rx : List ℕ) (f d : ℕ) (k : Ready) (hd : d ≡ dataOf 
   unfolding readied
   ready-status o e q = by-ready o Status e q
 
-  pub ready-finish : (t : State) → k ≡ Finish → t ≡ finishing s → record { state = t; answer = Frame f } ≡ ready s rx f
+  pub ready-finish : (t : Talker) → k ≡ Finish → t ≡ finishingTalker (s .talker) → record { state = withTalker s t; answer = Frame f } ≡ ready s rx f
   unfolding readied
-  ready-finish t e q = by-ready (record { state = t; answer = Frame f }) Finish e (rw q)
+  ready-finish t e q = by-ready (record { state = withTalker s t; answer = Frame f }) Finish e (rw q)
 
   pub ready-pass : k ≡ Pass → record { state = s; answer = Frame f } ≡ ready s rx f
   unfolding readied
@@ -115,32 +114,34 @@ module _ (s : State) (rx : List ℕ) (f d : ℕ) (k : Ready) (hd : d ≡ dataOf 
 
   -- the next address fits in a byte
   pub address-next : k ≡ Address → d + 1 < 256
-  address-next e = let g = subst (Told (s .role) d) (sym hk ∙ e) (told (s .role) d) in omega (arith, g .byte, g .small)
+  address-next e = let g = subst (Told (s .talker .role) d) (sym hk ∙ e) (told (s .talker .role) d) in omega (arith, g .byte, g .small)
 
 -- ---- returns
 
-module _ (s : State) (rx : List ℕ) (f : ℕ) (o : Outcome) where
-  pub back-damaged : sameApart f (s .under .frame) ≡ false → o ≡ ended s 65 → o ≡ returned s rx f
+module _ (s : State) (rx : List ℕ) (f : ℕ) (k : Return) (o : Outcome) (hk : k ≡ returnOf (s .talker) f) where
+  by-return : (j : Return) → k ≡ j → o ≡ judged s rx j → o ≡ returned s rx f
   unfolding returned
-  back-damaged e q = rw e q
+  by-return j e q = q ∙ ap (judged s rx) (sym e ∙ hk)
 
-  module _ (e : sameApart f (s .under .frame) ≡ true) where
-    pub back-status : (d : ℕ) (t : State) → s .role .talker ≡ 3 → d ≡ dataOf (s .under .frame) → t ≡ afterStatusBack s d → o ≡ ended t 64 → o ≡ returned s rx f
-    unfolding returned
-    back-status d t h p q r = rw (e, eq-eqb (s .role .talker) 3 h) (r ∙ ap (λ (x : State). ended x 64) (q ∙ ap (afterStatusBack s) p))
+  pub back-damaged : k ≡ Damaged → o ≡ ended s 65 → o ≡ returned s rx f
+  unfolding judged
+  back-damaged e q = by-return Damaged e q
 
-    module _ (h : s .role .talker ≡ 3 → ⊥) where
-      pub back-finishing : s .under .finishing ≡ true → o ≡ ended s 64 → o ≡ returned s rx f
-      unfolding returned
-      back-finishing k q = rw (e, ne-eqb (s .role .talker) 3 h) (q ∙ sym (cond-true (s .under .finishing) (ended s 64) (sendFrom s rx) k))
+  pub back-status : (d : ℕ) (t : State) → k ≡ StatusBack → d ≡ dataOf (s .talker .under .frame) → t ≡ afterStatusBack s d → o ≡ ended t 64 → o ≡ returned s rx f
+  unfolding judged
+  back-status d t e p q r = by-return StatusBack e (r ∙ ap (λ (x : State). ended x 64) (q ∙ ap (afterStatusBack s) p))
 
-      pub back-next : s .under .finishing ≡ false → o ≡ sendFrom s rx → o ≡ returned s rx f
-      unfolding returned
-      back-next k q = rw (e, ne-eqb (s .role .talker) 3 h) (q ∙ sym (cond-false (s .under .finishing) (ended s 64) (sendFrom s rx) k))
+  pub back-finished : k ≡ Finished → o ≡ ended s 64 → o ≡ returned s rx f
+  unfolding judged
+  back-finished e q = by-return Finished e q
+
+  pub back-next : k ≡ Next → o ≡ sendFrom s rx → o ≡ returned s rx f
+  unfolding judged
+  back-next e q = by-return Next e q
 
 -- ---- the smaller parts
 
-pub busy-met : (s : State) (f n left : ℕ) (d : Bool) → left ≡ room (s .tx) → d ≡ isData f → n ≡ length (adds (s .regs) f) → ((s .role .listener && d) && ltb left n) ≡ busy s f
+pub busy-met : (s : State) (f n left : ℕ) (d : Bool) → left ≡ room (s .tx) → d ≡ isData f → n ≡ length (adds (s .regs) f) → ((s .talker .role .listener && d) && ltb left n) ≡ busy s f
 unfolding busy
 busy-met s f n left d l p q = rw (l, p, q)
 
@@ -152,11 +153,7 @@ clear-met s t x y quiet p q r e = rw (e, p, q, r)
 pub settle-met : (s : State) (o : Outcome) (t : State) → t ≡ settled s (o .state) → record { state = t; answer = o .answer } ≡ outcomeSettled s o
 settle-met s o t p = rw p
 
-pub talking-met : (s : State) (phase f : ℕ) (r : Role) → r ≡ withTalker (s .role) phase → withUnder (withRole s r) (record { frame = f; finishing = false }) ≡ talking s phase f
-unfolding talking
-talking-met s phase f r p = rw p
-
-pub ended-met : (s t : State) (d x : ℕ) → t ≡ talking s 1 0 → x ≡ made 5 d → record { state = t; answer = Frame x } ≡ ended s d
+pub ended-met : (s : State) (t : Talker) (d x : ℕ) → t ≡ endedTalker (s .talker) → x ≡ made 5 d → record { state = withTalker s t; answer = Frame x } ≡ ended s d
 unfolding ended
 ended-met s t d x p q = rw (p, q)
 
@@ -164,6 +161,6 @@ pub rule-met : (g : Registers) (on : Bool) → on ≡ endDetected g → record {
 unfolding ruleOf
 rule-met g on p = rw p
 
-pub status-met : (s t u : State) (b x out : ℕ) → b ≡ statusOf s → x ≡ made 0 b → out ≡ serviced s x → t ≡ afterStatus s → u ≡ talking t 3 x → record { state = u; answer = Frame out } ≡ sendStatus s
+pub status-met : (s t : State) (u : Talker) (b x out : ℕ) → b ≡ statusOf s → x ≡ made 0 b → out ≡ serviced s x → t ≡ afterStatus s → u ≡ talking (s .talker) 3 x → record { state = withTalker t u; answer = Frame out } ≡ sendStatus s
 unfolding sendStatus
 status-met s t u b x out p q r e z = rw (z, e, r, q, p)

@@ -32,23 +32,23 @@ left-met s tx f tx′ o l e p =
     }
 
 module _ (s : State) (tx : List ℕ) (f x : ℕ) (q : x ≡ serviced s f) where
-  pub passed-left : (tx′ : List ℕ) (t : State) → s .role .listener ≡ true → Added s tx f tx′ t → Passed s tx f tx′ (record { state = t; answer = Frame x })
+  pub passed-left : (tx′ : List ℕ) (t : State) → s .talker .role .listener ≡ true → Added s tx f tx′ t → Passed s tx f tx′ (record { state = t; answer = Frame x })
   unfolding dataPassed
   passed-left tx′ t h l =
-      let e : t ≡ cond (s .role .listener) (addedState s f) s = l .state ∙ sym (cond-true (s .role .listener) (addedState s f) s h) in
+      let e : t ≡ cond (s .talker .role .listener) (addedState s f) s = l .state ∙ sym (cond-true (s .talker .role .listener) (addedState s f) s h) in
       record {
         outcome = λ i. record { state = e i; answer = Frame (q i) };
-        bytes = l .bytes ∙ sym (cond-true (s .role .listener) (addedBytes s tx f) tx h);
+        bytes = l .bytes ∙ sym (cond-true (s .talker .role .listener) (addedBytes s tx f) tx h);
         size = l .size;
       }
 
-  pub passed-by : s .role .listener ≡ false → Passed s tx f tx (record { state = s; answer = Frame x })
+  pub passed-by : s .talker .role .listener ≡ false → Passed s tx f tx (record { state = s; answer = Frame x })
   unfolding dataPassed
   passed-by h =
-      let e : s ≡ cond (s .role .listener) (addedState s f) s = sym (cond-false (s .role .listener) (addedState s f) s h) in
+      let e : s ≡ cond (s .talker .role .listener) (addedState s f) s = sym (cond-false (s .talker .role .listener) (addedState s f) s h) in
       record {
         outcome = λ i. record { state = e i; answer = Frame (q i) };
-        bytes = sym (cond-false (s .role .listener) (addedBytes s tx f) tx h);
+        bytes = sym (cond-false (s .talker .role .listener) (addedBytes s tx f) tx h);
         size = refl;
       }
 
@@ -57,22 +57,22 @@ module _ (s : State) (rx tx : List ℕ) (f : ℕ) (o : Outcome) where
   no-command : isData f ≡ true → eqb (controlOf f) 4 ≡ false
   no-command e = ne-eqb (controlOf f) 4 (λ h. omega (arith, ltb-true (controlOf f) 4 e))
 
-  pub taken-back : (p : Outcome) → isData f ≡ true → 2 ≤ s .role .talker → p ≡ returned s rx f → o ≡ outcomeSettled s p → Framed s rx tx f tx o
+  pub taken-back : (p : Outcome) → isData f ≡ true → 2 ≤ s .talker .role .phase → p ≡ returned s rx f → o ≡ outcomeSettled s p → Framed s rx tx f tx o
   unfolding frameSettled frameTaken deviceClear frameBytes addsBytes
   taken-back p e h a b =
-      let r = le-leb 2 (s .role .talker) h in
+      let r = le-leb 2 (s .talker .role .phase) h in
       record { outcome = rw (b, a, e, no-command e, r); bytes = rw (e, r); size = refl }
 
-  pub taken-passed : (p : Outcome) (tx′ : List ℕ) → isData f ≡ true → s .role .talker < 2 → Passed s tx f tx′ p → o ≡ outcomeSettled s p → Framed s rx tx f tx′ o
+  pub taken-passed : (p : Outcome) (tx′ : List ℕ) → isData f ≡ true → s .talker .role .phase < 2 → Passed s tx f tx′ p → o ≡ outcomeSettled s p → Framed s rx tx f tx′ o
   unfolding frameSettled frameTaken deviceClear frameBytes addsBytes
   taken-passed p tx′ e h a b =
-      let r = lt-leb 2 (s .role .talker) h in
+      let r = lt-leb 2 (s .talker .role .phase) h in
       record { outcome = rw (b, a .outcome, e, no-command e, r); bytes = rw (e, r) (a .bytes); size = a .size }
 
   module _ (e : isData f ≡ false) where
     pub taken-command : controlOf f ≡ 4 → o ≡ commandSettled s f → Framed s rx tx f tx o
     unfolding frameSettled frameTaken deviceClear frameBytes addsBytes command commandSettled commandState
-    taken-command h q = record { outcome = rw (q, e, eq-eqb (controlOf f) 4 h) (by-clear _ _ (clear-order (s .role) (dataOf f))); bytes = rw e; size = refl }
+    taken-command h q = record { outcome = rw (q, e, eq-eqb (controlOf f) 4 h) (by-clear _ _ (clear-order (s .talker .role) (dataOf f))); bytes = rw e; size = refl }
       where
         t : State
         t = obeyed s (orderIn s f)

@@ -5,24 +5,36 @@ use mathlib.Core.List.{List}
 use lib.Dec.{eqb}
 use lib.ListN.{length}
 use mathlib.Core.Path.{_≡_}
-use Rattle.frame.specs.Frame.{controlOf, dataOf, made, isData, sameApart}
+use Rattle.frame.specs.Frame.{controlOf, dataOf, made, isData}
 use Rattle.role.specs.declared.Order.{Order}
 use Rattle.role.specs.declared.Order.the-variants.{Unlisten, Listen, Untalk, Talk, Clear, Deselect, Enable, Disable, Local, Unassign, Nothing}
 use Rattle.role.specs.declared.Ready.{Ready}
 use Rattle.role.specs.declared.Ready.the-variants.{Pass, Address, Data, Status, Finish}
-use Rattle.role.specs.Parts.{activeStatus, isActive}
+use Rattle.role.specs.Parts.{isActive}
 use Rattle.role.specs.Orders.{orderOf}
-use Rattle.role.specs.Commands.{obeyedRole}
-use Rattle.role.specs.ReadyFrames.{readyOf, assignedRole}
+use Rattle.role.specs.Remote.{obeyedRemote}
+use Rattle.role.specs.ReadyFrames.{readyOf}
+use Rattle.talker.specs.declared.Return.{Return}
+use Rattle.talker.specs.declared.Return.the-variants.{Damaged, StatusBack, Finished, Next}
+use Rattle.talker.specs.Commands.{obeyedTalker}
+use Rattle.talker.specs.ReadyFrames.{assignedTalker, finishingTalker}
+use Rattle.talker.specs.Returns.{returnOf}
 use Rattle.store.specs.Ring.{emptyRing}
 use Rattle.state.specs.declared.State.{State}
-use Rattle.state.specs.declared.Under.{Under}
 use Rattle.state.specs.declared.Outcome.{Outcome}
 use Rattle.answers.specs.declared.Answer.the-variants.{Frame}
-use Rattle.state.specs.State.{withRole, withUnder, withRx, withTx, withLine, withNotes, noEvents, noFrame}
+use Rattle.state.specs.State.{withTalker, withRemote, withRx, withTx, withLine, withNotes, noEvents}
 use Rattle.loops.specs.LoopToLine.{addedState, addedBytes}
 use Rattle.state.specs.Status.{serviced, settled, afterStatusBack}
 use Rattle.loops.specs.Sending.{ended, sendFrom, sendStatus}
+
+-- Frames, control bits: what is done with a data frame, with or without a service request; a command; a ready frame; any other, which identifies
+abbrev pub byControl : ℕ → Outcome → Outcome → Outcome → Outcome → Outcome
+byControl f asData asCommand asReady asOther =
+    cond (isData f) asData
+    (cond (eqb (controlOf f) 4) asCommand
+    (cond (eqb (controlOf f) 5) asReady
+    asOther))
 
 -- the frame taken goes on, and the state is this one
 abbrev pub passed : State → ℕ → Outcome
@@ -33,10 +45,6 @@ passed s f = record { state = s; answer = Frame f }
 -- the address that an unassigned bridge answers to: 31, which makes no listener and no talker
 abbrev pub home : ℕ
 home = 31
-
--- "an active talker becomes merely addressed and forgets the frame under way (ours)"
-unfoldable pub forgotten : State → Under
-forgotten s = cond (isActive (s .role)) noFrame (s .under)
 
 -- "device clear. Both stores empty, hold-off and the other end's stop end, overrun, break, key and service request clear."
 unfoldable pub cleared : State → State
@@ -59,9 +67,9 @@ isClear Local = false
 isClear Unassign = false
 isClear Nothing = false
 
--- the role and the frame under way after an order
+-- the talker and the remote flags after an order
 unfoldable pub obeyed : State → Order → State
-obeyed s o = withUnder (withRole s (obeyedRole (s .role) o)) (forgotten s)
+obeyed s o = withRemote (withTalker s (obeyedTalker (s .talker) o)) (obeyedRemote (s .remote) o)
 
 -- the state after an order
 unfoldable pub commandState : State → Order → State
@@ -69,7 +77,7 @@ commandState s o = cond (isClear o) (cleared (obeyed s o)) (obeyed s o)
 
 -- the order that a frame is to us
 abbrev pub orderIn : State → ℕ → Order
-orderIn s f = orderOf home (s .role) (dataOf f)
+orderIn s f = orderOf home (s .talker .role) (dataOf f)
 
 -- "Commands go on unchanged."
 unfoldable pub command : State → ℕ → Outcome
@@ -85,54 +93,54 @@ commandSettled s f =
 
 -- ---- ready frames
 
--- "Ready 66 when active with data: pass it on and finish after the frame under way."
-unfoldable pub finishing : State → State
-finishing s = withUnder s (record { frame = s .under .frame; finishing = true })
-
--- "we take n and send 128+n+1"; "send the first frame, or 5,64"; "send the status byte"; "Other ready frames pass."
 unfoldable pub readied : State → List ℕ → ℕ → Ready → Outcome
-readied s rx f Address = record { state = withRole s (assignedRole (s .role) (dataOf f)); answer = Frame (made 5 (dataOf f + 1)) }
+-- Frames, ready 128+n: the address is taken, and the next one offered to the next device
+readied s rx f Address = record { state = withTalker s (assignedTalker (s .talker) (dataOf f)); answer = Frame (made 5 (dataOf f + 1)) }
+-- Frames, ready 96: the first frame, if there is one
 readied s rx f Data = sendFrom s rx
+-- Frames, ready 97: the status byte
 readied s rx f Status = sendStatus s
-readied s rx f Finish = passed (finishing s) f
+-- Frames, ready 66: the frame under way is the last
+readied s rx f Finish = passed (withTalker s (finishingTalker (s .talker))) f
+-- Frames, other ready frames
 readied s rx f Pass = passed s f
 
 unfoldable pub ready : State → List ℕ → ℕ → Outcome
-ready s rx f = readied s rx f (readyOf (s .role) (dataOf f))
+ready s rx f = readied s rx f (readyOf (s .talker .role) (dataOf f))
 
 -- ---- data and identify frames
 
--- "A data frame taken while ours is under way is its return. Compared without the service bit: equal gives the next frame, or 5,64 if
--- none, if finishing, or if it was status; unequal gives 5,65."
+unfoldable pub judged : State → List ℕ → Return → Outcome
+-- Frames, returns, unequal: damage is told to the loop
+judged s rx Damaged = ended s 65
+-- Frames, returns, equal and status: what the byte showed has been told
+judged s rx StatusBack = ended (afterStatusBack s (dataOf (s .talker .under .frame))) 64
+-- Frames, returns, equal and finishing: no more is sent
+judged s rx Finished = ended s 64
+-- Frames, returns, equal: the next frame, if there is one
+judged s rx Next = sendFrom s rx
+
+-- Frames, returns: a data frame taken while ours is under way
 unfoldable pub returned : State → List ℕ → ℕ → Outcome
-returned s rx f =
-    cond (sameApart f (s .under .frame))
-    (cond (eqb (s .role .talker) activeStatus) (ended (afterStatusBack s (dataOf (s .under .frame))) 64)
-    (cond (s .under .finishing) (ended s 64)
-    (sendFrom s rx)))
-    (ended s 65)
+returned s rx f = judged s rx (returnOf (s .talker) f)
 
 -- "Other data frames pass; a listener also stores them."
 unfoldable pub dataPassed : State → ℕ → Outcome
-dataPassed s f = passed (cond (s .role .listener) (addedState s f) s) (serviced s f)
+dataPassed s f = passed (cond (s .talker .role .listener) (addedState s f) s) (serviced s f)
 
 -- the state and the transmit store after a data frame that is no return
 pub record Passed (s : State) (tx : List ℕ) (f : ℕ) (tx′ : List ℕ) (o : Outcome) : Type 0 where
   pub outcome : o ≡ dataPassed s f
-  pub bytes : tx′ ≡ cond (s .role .listener) (addedBytes s tx f) tx
+  pub bytes : tx′ ≡ cond (s .talker .role .listener) (addedBytes s tx f) tx
   pub size : length tx′ ≡ length tx
 
 -- "identify frames, get the service bit if a request showed before the call"
 unfoldable pub identify : State → ℕ → Outcome
 identify s f = passed s (serviced s f)
 
--- "Control 0 data, 2 end byte, 1 and 3 the same with a service request; 4 command; 5 ready; 6 identify, 7 the same with a service request."
+-- a frame taken; a data frame is a return where ours is under way
 unfoldable pub frameTaken : State → List ℕ → ℕ → Outcome
-frameTaken s rx f =
-    cond (isData f) (cond (isActive (s .role)) (returned s rx f) (dataPassed s f))
-    (cond (eqb (controlOf f) 4) (command s f)
-    (cond (eqb (controlOf f) 5) (ready s rx f)
-    (identify s f)))
+frameTaken s rx f = byControl f (cond (isActive (s .talker .role)) (returned s rx f) (dataPassed s f)) (command s f) (ready s rx f) (identify s f)
 
 -- an outcome with requests settled
 abbrev pub outcomeSettled : State → Outcome → Outcome
@@ -140,7 +148,7 @@ outcomeSettled s o = record { state = settled s (o .state); answer = o .answer }
 
 -- Frames, commands: 20, or 4 to a listener, is a device clear
 unfoldable pub deviceClear : State → ℕ → Bool
-deviceClear s f = eqb (controlOf f) 4 && (eqb (dataOf f) 20 || (eqb (dataOf f) 4 && s .role .listener))
+deviceClear s f = eqb (controlOf f) 4 && (eqb (dataOf f) 20 || (eqb (dataOf f) 4 && s .talker .role .listener))
 
 -- a frame taken, with requests settled
 unfoldable pub frameSettled : State → List ℕ → ℕ → Outcome
@@ -152,7 +160,7 @@ frameSettled s rx f =
 
 -- a data frame that a listener stores
 unfoldable pub addsBytes : State → ℕ → Bool
-addsBytes s f = (isData f && not (isActive (s .role))) && s .role .listener
+addsBytes s f = (isData f && not (isActive (s .talker .role))) && s .talker .role .listener
 
 -- the bytes of the transmit store after a frame
 unfoldable pub frameBytes : State → List ℕ → ℕ → List ℕ

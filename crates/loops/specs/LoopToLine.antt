@@ -18,7 +18,7 @@ adds g f = cond (isEnd f && endInserted g) (dataOf f ∷ g .c02 ∷ g .c03 ∷ [
 
 -- "busy: we are listener, the frame is data, the transmit store lacks room for what it adds"
 unfoldable pub busy : State → ℕ → Bool
-busy s f = (s .role .listener && isData f) && ltb (room (s .tx)) (length (adds (s .regs) f))
+busy s f = (s .talker .role .listener && isData f) && ltb (room (s .tx)) (length (adds (s .regs) f))
 
 -- the transmit store with what a data frame adds: "All fit, or refusal 4", which `busy` gives
 unfoldable pub addedState : State → ℕ → State

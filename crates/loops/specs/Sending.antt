@@ -1,7 +1,6 @@
 -- "A send from the receive store", and how sending ends.
 use Prim.Native.Nat.{ℕ}
 use mathlib.Core.List.{List}
-use mathlib.Core.Bool.{false}
 use Rattle.frame.specs.Frame.{made}
 use Rattle.registers.specs.declared.Registers.{Registers}
 use Rattle.registers.specs.Meanings.{endDetected}
@@ -9,22 +8,19 @@ use Rattle.reading.specs.declared.Rule.{Rule}
 use Rattle.sending.specs.declared.Given.{Given}
 use Rattle.sending.specs.declared.Given.the-variants.{Nothing, One}
 use Rattle.sending.specs.Sending.{givenOf, sendHeld, sentRing}
-use Rattle.role.specs.Parts.{addressed, activeData, activeStatus, withTalker}
+use Rattle.role.specs.Parts.{activeData, activeStatus}
+use Rattle.talker.specs.Sending.{talking, endedTalker}
 use Rattle.state.specs.declared.State.{State}
 use Rattle.state.specs.declared.Outcome.{Outcome}
 use Rattle.answers.specs.declared.Answer.the-variants.{Frame}
-use Rattle.state.specs.State.{withRole, withUnder, withRx}
+use Rattle.state.specs.State.{withTalker, withRx}
 use Rattle.state.specs.Counts.{sentMore}
 use Rattle.line.specs.HoldingOff.{resumed}
 use Rattle.state.specs.Status.{serviced, statusOf, afterStatus}
 
--- the talker in another phase, with this frame under way
-unfoldable pub talking : State → ℕ → ℕ → State
-talking s phase f = withUnder (withRole s (withTalker (s .role) phase)) (record { frame = f; finishing = false })
-
--- "After 5,64 or 5,65 we are addressed, not active."
+-- 5,64 or 5,65, which ends our sending
 unfoldable pub ended : State → ℕ → Outcome
-ended s d = record { state = talking s addressed 0; answer = Frame (made 5 d) }
+ended s d = record { state = withTalker s (endedTalker (s .talker)); answer = Frame (made 5 d) }
 
 -- R10 bit 3, C00 and C01
 unfoldable pub ruleOf : Registers → Rule
@@ -37,11 +33,11 @@ removedState s rx = resumed (withRx s (sentRing (ruleOf (s .regs)) rx (s .rx)))
 -- "send the first frame, or 5,64 if the reading rule has none", from the state before the call and the one after the removal
 unfoldable pub sendState : State → State → Given → Outcome
 sendState before after Nothing = ended after 64
-sendState before after (One f) = record { state = sentMore (talking after activeData f); answer = Frame (serviced before f) }
+sendState before after (One f) = record { state = sentMore (withTalker after (talking (after .talker) activeData f)); answer = Frame (serviced before f) }
 
 unfoldable pub sendFrom : State → List ℕ → Outcome
 sendFrom s rx = sendState s (removedState s rx) (givenOf (sendHeld (ruleOf (s .regs)) rx (s .rx)))
 
 -- "Ready 97 likewise: send the status byte."
 unfoldable pub sendStatus : State → Outcome
-sendStatus s = record { state = talking (afterStatus s) activeStatus (made 0 (statusOf s)); answer = Frame (serviced s (made 0 (statusOf s))) }
+sendStatus s = record { state = withTalker (afterStatus s) (talking (s .talker) activeStatus (made 0 (statusOf s))); answer = Frame (serviced s (made 0 (statusOf s))) }

@@ -4,13 +4,14 @@ ghost use lib.ListN.{length};
 ghost use Rattle.store.specs.Ring.{Within};
 ghost use Rattle.state.specs.Sizes.{RxFits, TxFits};
 ghost use Rattle.loops.specs.LoopToLine.{adds, busy, Added};
-ghost use Rattle.loops.specs.Frames.{isClear, cleared, obeyed, commandSettled, finishing, ready, returned, Passed, outcomeSettled, Framed};
+ghost use Rattle.loops.specs.Frames.{isClear, cleared, obeyed, commandSettled, ready, returned, Passed, outcomeSettled, Framed};
 use answers::Answer;
 use registers::Registers;
 use role::Order;
 use role::Ready;
 use state::Outcome;
 use state::State;
+use talker::Return;
 
 pub mod talk;
 
@@ -31,7 +32,7 @@ pub fn busy(s: State, f: u16) -> bool
     ensures { λ r. ⌜ r ≡ busy s f ⌝ }
 {
     let room = store::room(s.tx);
-    (s.role.listener & frame::is_data(f)) & (room < added(s.regs, f))
+    (s.talker.role.listener & frame::is_data(f)) & (room < added(s.regs, f))
 }
 
 // A listener stores the byte and, for an end byte, what ends a line.
@@ -89,18 +90,15 @@ fn clear(s: State) -> State
     state::requests::with_notes(t, quiet, quiet, false)
 }
 
-// The role after an order; an active talker forgets the frame under way.
+// The talker and the remote flags after an order.
 fn obey(s: State, o: Order) -> State
     ensures { λ r. ⌜ r ≡ obeyed s o ⌝ }
 {
     let mut t = s;
-    let r = role::obeyed(s.role, o);
-    t.role = r;
-    if s.role.talker >= 2 {
-        t.under.frame = 0;
-        t.under.finishing = false;
-        return t;
-    }
+    let heard = talker::obeyed(s.talker, o);
+    let flags = role::remote::obeyed(s.remote, o);
+    t.talker = heard;
+    t.remote = flags;
     t
 }
 
@@ -108,7 +106,7 @@ fn obey(s: State, o: Order) -> State
 fn command(s: State, f: u16) -> Outcome
     ensures { λ r. ⌜ r ≡ commandSettled s f ⌝ }
 {
-    let o = role::order_of(31, s.role, frame::data_byte(f));
+    let o = role::order_of(31, s.talker.role, frame::data_byte(f));
     let t = obey(s, o);
     if is_clear(o) {
         return Outcome {
@@ -122,27 +120,18 @@ fn command(s: State, f: u16) -> Outcome
     }
 }
 
-// Sending ends after the frame under way.
-fn finish(s: State) -> State
-    ensures { λ r. ⌜ r ≡ finishing s ⌝ }
-{
-    let mut t = s;
-    t.under.finishing = true;
-    t
-}
-
 // A ready frame.
 fn readied(s: State, rx: &[u8], f: u16) -> Outcome
     requires { ⌜ RxFits s (now rx) ⌝ }
     ensures { λ r. ⌜ r ≡ ready s (now (rx .entry)) f ⌝ }
 {
     let d = frame::data_byte(f);
-    let asked = role::ready_of(s.role, d);
+    let asked = role::ready_of(s.talker.role, d);
     match asked {
         Ready::Address => {
             let mut t = s;
-            let r = role::assigned(s.role, d);
-            t.role = r;
+            let named = talker::assigned(s.talker, d);
+            t.talker = named;
             Outcome {
                 state: t,
                 answer: Answer::Frame(frame::make(5, d + 1)),
@@ -150,10 +139,15 @@ fn readied(s: State, rx: &[u8], f: u16) -> Outcome
         }
         Ready::Data => talk::send_from(s, rx),
         Ready::Status => talk::send_status(s),
-        Ready::Finish => Outcome {
-            state: finish(s),
-            answer: Answer::Frame(f),
-        },
+        Ready::Finish => {
+            let mut t = s;
+            let last = talker::finishing(s.talker);
+            t.talker = last;
+            Outcome {
+                state: t,
+                answer: Answer::Frame(f),
+            }
+        }
         Ready::Pass => Outcome {
             state: s,
             answer: Answer::Frame(f),
@@ -166,18 +160,16 @@ fn back(s: State, rx: &[u8], f: u16) -> Outcome
     requires { ⌜ RxFits s (now rx) ⌝ }
     ensures { λ r. ⌜ r ≡ returned s (now (rx .entry)) f ⌝ }
 {
-    let sent = s.under.frame;
-    if !frame::same_apart(f, sent) {
-        return talk::ended(s, 65);
+    let found = talker::return_of(s.talker, f);
+    match found {
+        Return::Damaged => talk::ended(s, 65),
+        Return::StatusBack => {
+            let told = state::requests::status_back(s, frame::data_byte(s.talker.under.frame));
+            talk::ended(told, 64)
+        }
+        Return::Finished => talk::ended(s, 64),
+        Return::Next => talk::send_from(s, rx),
     }
-    if s.role.talker == 3 {
-        let told = state::requests::status_back(s, frame::data_byte(sent));
-        return talk::ended(told, 64);
-    }
-    if s.under.finishing {
-        return talk::ended(s, 64);
-    }
-    talk::send_from(s, rx)
 }
 
 // An outcome with the request that the call began.
@@ -199,7 +191,7 @@ fn pass_data(s: State, tx: &mut [u8], f: u16) -> Outcome
     ensures { λ r. ⌜ Passed s (now (tx .entry)) f (now (tx .exit)) r ⌝ }
 {
     let out = state::requests::serviced(s, f);
-    if s.role.listener {
+    if s.talker.role.listener {
         let t = leave(s, tx, f);
         return Outcome {
             state: t,
@@ -219,7 +211,7 @@ pub fn frame_taken(s: State, rx: &[u8], tx: &mut [u8], f: u16) -> Outcome
     ensures { λ r. ⌜ Framed s (now (rx .entry)) (now (tx .entry)) f (now (tx .exit)) r ⌝ }
 {
     if frame::is_data(f) {
-        if s.role.talker >= 2 {
+        if s.talker.role.phase >= 2 {
             return settle(s, back(s, rx, f));
         }
         return settle(s, pass_data(s, tx, f));

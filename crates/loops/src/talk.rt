@@ -1,7 +1,7 @@
 // Sending on the loop: from the receive store, the status byte, and how sending ends.
 ghost use mathlib.Core.Path.{_≡_};
 ghost use Rattle.state.specs.Sizes.{RxFits};
-ghost use Rattle.loops.specs.Sending.{talking, ended, ruleOf, sendState, sendFrom, sendStatus};
+ghost use Rattle.loops.specs.Sending.{ended, ruleOf, sendState, sendFrom, sendStatus};
 use answers::Answer;
 use reading::Rule;
 use registers::Registers;
@@ -9,24 +9,15 @@ use sending::Given;
 use state::Outcome;
 use state::State;
 
-// The talker in another phase, with this frame under way.
-pub fn talking(s: State, phase: u8, f: u16) -> State
-    ensures { λ r. ⌜ r ≡ talking s phase f ⌝ }
-{
-    let mut t = s;
-    let r = role::with_talker(s.role, phase);
-    t.role = r;
-    t.under.frame = f;
-    t.under.finishing = false;
-    t
-}
-
 // The ready frame 5,d ends our sending.
 pub fn ended(s: State, d: u8) -> Outcome
     ensures { λ r. ⌜ r ≡ ended s d ⌝ }
 {
+    let mut t = s;
+    let addressed = talker::ended(s.talker);
+    t.talker = addressed;
     Outcome {
-        state: talking(s, 1, 0),
+        state: t,
         answer: Answer::Frame(frame::make(5, d)),
     }
 }
@@ -49,7 +40,9 @@ fn send_state(before: State, after: State, given: Given) -> Outcome
     match given {
         Given::Nothing => ended(after, 64),
         Given::One(f) => {
-            let mut t = talking(after, 2, f);
+            let mut t = after;
+            let active = talker::talking(after.talker, 2, f);
+            t.talker = active;
             let count = std::num::wrapping_add_u32(after.counts.sent, 1);
             t.counts.sent = count;
             let out = state::requests::serviced(before, f);
@@ -81,8 +74,11 @@ pub fn send_status(s: State) -> Outcome
 {
     let f = frame::make(0, state::requests::status_of(s));
     let out = state::requests::serviced(s, f);
+    let mut t = state::requests::status_sent(s);
+    let active = talker::talking(s.talker, 3, f);
+    t.talker = active;
     Outcome {
-        state: talking(state::requests::status_sent(s), 3, f),
+        state: t,
         answer: Answer::Frame(out),
     }
 }

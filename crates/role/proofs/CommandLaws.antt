@@ -16,26 +16,24 @@ use Rattle.role.specs.Fit.{Apart, Fit}
 use Rattle.role.proofs.OrderLaws.{order-63, order-95}
 
 -- a merely addressed talker is not active, an idle one stays idle, and nothing else changes
-merely-phase : (r : Role) → merelyAddressed r .talker ≤ 1
+merely-phase : (r : Role) → merelyAddressed r .phase ≤ 1
 unfolding merelyAddressed
-merely-phase r = by-cond (λ t. t ≤ 1) (leb 2 (r .talker)) 1 (r .talker) (λ e. omega arith) (λ e. omega (arith, leb-false 2 (r .talker) e))
+merely-phase r = by-cond (λ t. t ≤ 1) (leb 2 (r .phase)) 1 (r .phase) (λ e. omega arith) (λ e. omega (arith, leb-false 2 (r .phase) e))
 
 still-idle : (t : ℕ) → t ≡ 0 → cond (leb 2 t) 1 t ≡ 0
 still-idle t e = rw e
 
 merely-apart : (r : Role) → Apart r → Apart (merelyAddressed r)
 unfolding merelyAddressed
-merely-apart r a = λ l. still-idle (r .talker) (a l)
+merely-apart r a = λ l. still-idle (r .phase) (a l)
 
 pub record SameRest (r q : Role) : Type 0 where
   pub address : q .address ≡ r .address
   pub listener : q .listener ≡ r .listener
-  pub enabled : q .enabled ≡ r .enabled
-  pub remote : q .remote ≡ r .remote
 
 pub merely-rest : (r : Role) → SameRest r (merelyAddressed r)
 unfolding merelyAddressed
-merely-rest r = record { address = refl; listener = refl; enabled = refl; remote = refl }
+merely-rest r = record { address = refl; listener = refl }
 
 -- the orders one by one
 changed-range : (r : Role) (o : Order) → r .address ≤ 31 → changedRole r o .address ≤ 31
@@ -52,7 +50,7 @@ changed-range r Local h = h
 changed-range r Unassign h = omega arith
 changed-range r Nothing h = h
 
-changed-phase : (r : Role) (o : Order) → r .talker ≤ 1 → changedRole r o .talker ≤ 1
+changed-phase : (r : Role) (o : Order) → r .phase ≤ 1 → changedRole r o .phase ≤ 1
 unfolding changedRole
 changed-phase r Unlisten h = h
 changed-phase r Listen h = omega arith
@@ -81,7 +79,7 @@ changed-apart r Unassign a = a
 changed-apart r Nothing a = a
 
 -- no order leaves an active talker, or a talker that is a listener too, or a field out of its range
-pub obeyed-phase : (r : Role) (o : Order) → obeyedRole r o .talker ≤ 1
+pub obeyed-phase : (r : Role) (o : Order) → obeyedRole r o .phase ≤ 1
 unfolding obeyedRole
 obeyed-phase r o = changed-phase (merelyAddressed r) o (merely-phase r)
 
@@ -98,7 +96,7 @@ obeyed-fit r o f = record { range = obeyed-range r o (f .range); phase = omega (
 
 -- the same of every command byte, for every home address
 module _ (home : ℕ) (r : Role) (d : ℕ) where
-  pub command-phase : afterCommand home r d .talker ≤ 1
+  pub command-phase : afterCommand home r d .phase ≤ 1
   command-phase = obeyed-phase r (orderOf home r d)
 
   pub command-apart : Apart r → Apart (afterCommand home r d)
@@ -112,7 +110,7 @@ pub ends-listening : (home : ℕ) (r : Role) → afterCommand home r 63 .listene
 unfolding obeyedRole changedRole
 ends-listening home r = rw (order-63 home r)
 
-pub ends-talking : (home : ℕ) (r : Role) → afterCommand home r 95 .talker ≡ 0
+pub ends-talking : (home : ℕ) (r : Role) → afterCommand home r 95 .phase ≡ 0
 unfolding obeyedRole changedRole
 ends-talking home r = rw (order-95 home r)
 

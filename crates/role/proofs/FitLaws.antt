@@ -7,7 +7,7 @@ use mathlib.Core.Bool.{Bool, true, false, _&&_, not, false≢true, and-eq-true-i
 use lib.Dec.{leb}
 use borrow.Author.Tests.{leb-true, leb-false, le-leb, not-true}
 use Rattle.role.specs.declared.Role.{Role}
-use Rattle.role.specs.Parts.{startRole, withAddress, withTalker}
+use Rattle.role.specs.Parts.{startRole, withAddress, withPhase}
 use Rattle.role.specs.Fit.{Apart, Fit, fitTest}
 
 -- "not talker and listener at once", as a test and as a fact
@@ -21,25 +21,25 @@ apart-test t true h = rw (h refl)
 
 pub fit-true : (r : Role) → fitTest r ≡ true → Fit r
 fit-true r e =
-    let e₁ = and-eq-true-iff (leb (r .address) 31 && leb (r .talker) 3) _ .0 e in
+    let e₁ = and-eq-true-iff (leb (r .address) 31 && leb (r .phase) 3) _ .0 e in
     let e₂ = and-eq-true-iff (leb (r .address) 31) _ .0 (e₁ .0) in
-    record { range = leb-true _ _ (e₂ .0); phase = leb-true _ _ (e₂ .1); apart = apart-true (r .talker) (r .listener) (e₁ .1) }
+    record { range = leb-true _ _ (e₂ .0); phase = leb-true _ _ (e₂ .1); apart = apart-true (r .phase) (r .listener) (e₁ .1) }
 
 pub fit-test : (r : Role) → Fit r → fitTest r ≡ true
-fit-test r f = rw (le-leb _ _ (f .range), le-leb _ _ (f .phase), apart-test (r .talker) (r .listener) (f .apart))
+fit-test r f = rw (le-leb _ _ (f .range), le-leb _ _ (f .phase), apart-test (r .phase) (r .listener) (f .apart))
 
 pub fit-start : Fit startRole
 fit-start = record { range = omega arith; phase = omega arith; apart = λ l. refl }
 
 -- another phase keeps a talker no listener
-pub talker-apart : (r : Role) (t : ℕ) → 1 ≤ r .talker → Apart r → Apart (withTalker r t)
+pub talker-apart : (r : Role) (t : ℕ) → 1 ≤ r .phase → Apart r → Apart (withPhase r t)
 talker-apart r t h a = λ l. absurd (omega (arith, a l))
 
-pub fit-talker : (r : Role) (t : ℕ) → 1 ≤ r .talker → t ≤ 3 → Fit r → Fit (withTalker r t)
-fit-talker r t h g f = record { range = f .range; phase = g; apart = talker-apart r t h (f .apart) }
+pub fit-phase : (r : Role) (t : ℕ) → 1 ≤ r .phase → t ≤ 3 → Fit r → Fit (withPhase r t)
+fit-phase r t h g f = record { range = f .range; phase = g; apart = talker-apart r t h (f .apart) }
 
 -- and no talker is no talker and listener at once
-pub fit-idle : (r : Role) → Fit r → Fit (withTalker r 0)
+pub fit-idle : (r : Role) → Fit r → Fit (withPhase r 0)
 fit-idle r f = record { range = f .range; phase = omega arith; apart = λ l. refl }
 
 pub fit-address : (r : Role) (a : ℕ) → a ≤ 31 → Fit r → Fit (withAddress r a)

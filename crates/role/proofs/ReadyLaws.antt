@@ -19,7 +19,7 @@ use Rattle.role.proofs.FitLaws.{fit-address}
 -- a byte, a talker phase, and no address taken
 pub record Asked (r : Role) (d b t : ℕ) : Type 0 where
   pub byte : d ≡ b
-  pub phase : r .talker ≡ t
+  pub phase : r .phase ≡ t
   pub rest : afterReady r d ≡ r
 
 -- 128+n, n at most 30, when unassigned
@@ -37,10 +37,10 @@ Told r d Data = Asked r d 96 1
 Told r d Status = Asked r d 97 1
 Told r d Finish = Asked r d 66 2
 
-asked : (r : Role) (d b t : ℕ) → afterReady r d ≡ r → (eqb d b && eqb (r .talker) t) ≡ true → Asked r d b t
+asked : (r : Role) (d b t : ℕ) → afterReady r d ≡ r → (eqb d b && eqb (r .phase) t) ≡ true → Asked r d b t
 asked r d b t s e =
-    let k = and-eq-true-iff (eqb d b) (eqb (r .talker) t) .0 e in
-    record { byte = eqb-true d b (k .0); phase = eqb-true (r .talker) t (k .1); rest = s }
+    let k = and-eq-true-iff (eqb d b) (eqb (r .phase) t) .0 e in
+    record { byte = eqb-true d b (k .0); phase = eqb-true (r .phase) t (k .1); rest = s }
 
 given : (r : Role) (d : ℕ) → givesAddress r d ≡ true → Given r d
 unfolding afterReady
@@ -63,9 +63,9 @@ unfolding readyOf
 told r d =
     by-cond (Told r d) (givesAddress r d) _ _ (given r d) (λ e.
     let s = passed r d e in
-    by-cond (Told r d) (eqb d 96 && eqb (r .talker) 1) _ _ (asked r d 96 1 s) (λ e.
-    by-cond (Told r d) (eqb d 97 && eqb (r .talker) 1) _ _ (asked r d 97 1 s) (λ e.
-    by-cond (Told r d) (eqb d 66 && eqb (r .talker) 2) _ _ (asked r d 66 2 s) (λ e. s))))
+    by-cond (Told r d) (eqb d 96 && eqb (r .phase) 1) _ _ (asked r d 96 1 s) (λ e.
+    by-cond (Told r d) (eqb d 97 && eqb (r .phase) 1) _ _ (asked r d 97 1 s) (λ e.
+    by-cond (Told r d) (eqb d 66 && eqb (r .phase) 2) _ _ (asked r d 66 2 s) (λ e. s))))
 
 -- "we take n"
 pub address-taken : (r : Role) (n : ℕ) → r .address ≡ 31 → n ≤ 30 → afterReady r (128 + n) ≡ withAddress r n

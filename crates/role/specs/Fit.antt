@@ -8,14 +8,14 @@ use Rattle.role.specs.Parts.{unassigned, idle, activeStatus, isTalker}
 
 -- "it is not talker and listener at once"
 abbrev pub Apart : Role → Type 0
-Apart r = r .listener ≡ true → r .talker ≡ idle
+Apart r = r .listener ≡ true → r .phase ≡ idle
 
 -- "every field is in its range, .. and it is not talker and listener at once"
 pub record Fit (r : Role) : Type 0 where
   pub range : r .address ≤ unassigned
-  pub phase : r .talker ≤ activeStatus
+  pub phase : r .phase ≤ activeStatus
   pub apart : Apart r
 
 -- the same, as a test
 abbrev pub fitTest : Role → Bool
-fitTest r = (leb (r .address) unassigned && leb (r .talker) activeStatus) && not (isTalker r && r .listener)
+fitTest r = (leb (r .address) unassigned && leb (r .phase) activeStatus) && not (isTalker r && r .listener)

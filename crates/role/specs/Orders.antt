@@ -7,11 +7,11 @@ use Rattle.role.specs.declared.Order.{Order}
 use Rattle.role.specs.declared.Order.the-variants.{Unlisten, Listen, Untalk, Talk, Clear, Deselect, Enable, Disable, Local, Unassign, Nothing}
 use Rattle.role.specs.Parts.{isUnassigned}
 
--- "our address a": as assigned, and the home address of the device while unassigned
+-- Frames, commands, our address a: as assigned, and the home address of the device while unassigned
 unfoldable pub ownAddress : ℕ → Role → ℕ
 ownAddress home r = cond (isUnassigned r) home (r .address)
 
--- in "32+n", "64+n" and "128+n": n, from 0 to 31
+-- Frames, the n of 32+n, 64+n and 128+n: from 0 to 31
 abbrev pub numberOf : ℕ → ℕ
 numberOf d = d % 32
 
@@ -19,25 +19,30 @@ numberOf d = d % 32
 abbrev pub baseOf : ℕ → ℕ
 baseOf d = d - numberOf d
 
--- "32+n: n=31 ends listening; n=a makes us listener, not talker, and remote if enabled; another n does nothing."
+-- Frames, commands, 32+n: 31 is tested first, so that it is nobody's address; then ours; any other is of no concern
 unfoldable pub listenOrder : ℕ → ℕ → Order
 listenOrder a n = cond (eqb n 31) Unlisten (cond (eqb n a) Listen Nothing)
 
--- "64+n: n=a and not 31 makes us talker, not listener; any other n ends talking."
+-- Frames, commands, 64+n: our address, unless it is 31, and any other, which is somebody else's turn
 unfoldable pub talkOrder : ℕ → ℕ → Order
 talkOrder a n = cond (eqb n a && not (eqb n 31)) Talk Untalk
 
--- "20, or 4 when listener: device clear."
--- "144: neither talker nor listener. 146 enables remote; 147 ends it and remote. 1 when listener: local. 154: address 31, unassigned."
--- "All others change no more."
+-- the commands that have no address
 unfoldable pub otherOrder : Bool → ℕ → Order
 otherOrder listener d =
+    -- Frames, commands, 20 and 4: 20 is to all devices, 4 to listeners
     cond (eqb d 20 || (eqb d 4 && listener)) Clear
+    -- Frames, commands, 144: to all
     (cond (eqb d 144) Deselect
+    -- Frames, commands, 146: to all
     (cond (eqb d 146) Enable
+    -- Frames, commands, 147: to all
     (cond (eqb d 147) Disable
+    -- Frames, commands, 1: to listeners
     (cond (eqb d 1 && listener) Local
+    -- Frames, commands, 154: to all
     (cond (eqb d 154) Unassign
+    -- Frames, commands, all others
     Nothing)))))
 
 -- the order in any command

@@ -1,4 +1,4 @@
--- The parts of a role on the loop: the address, the talker phase, and the flags listener, remote enabled and remote.
+-- The parts of a role on the loop: the address, the talker phase, and whether it is listener.
 use Prim.Native.Nat.{ℕ}
 use mathlib.Core.Bool.{Bool, false}
 use lib.Dec.{eqb, leb}
@@ -26,28 +26,22 @@ isUnassigned r = eqb (r .address) unassigned
 
 -- talker in any phase
 abbrev pub isTalker : Role → Bool
-isTalker r = leb addressed (r .talker)
+isTalker r = leb addressed (r .phase)
 
 -- "an active talker"
 abbrev pub isActive : Role → Bool
-isActive r = leb activeData (r .talker)
+isActive r = leb activeData (r .phase)
 
 -- "Start: address 31, unassigned."
 abbrev pub startRole : Role
-startRole = record { address = unassigned; talker = idle; listener = false; enabled = false; remote = false }
+startRole = record { address = unassigned; phase = idle; listener = false }
 
 -- a role with one part changed
 abbrev pub withAddress : Role → ℕ → Role
-withAddress r a = record { address = a; talker = r .talker; listener = r .listener; enabled = r .enabled; remote = r .remote }
+withAddress r a = record { address = a; phase = r .phase; listener = r .listener }
 
-abbrev pub withTalker : Role → ℕ → Role
-withTalker r t = record { address = r .address; talker = t; listener = r .listener; enabled = r .enabled; remote = r .remote }
+abbrev pub withPhase : Role → ℕ → Role
+withPhase r t = record { address = r .address; phase = t; listener = r .listener }
 
 abbrev pub withListener : Role → Bool → Role
-withListener r l = record { address = r .address; talker = r .talker; listener = l; enabled = r .enabled; remote = r .remote }
-
-abbrev pub withEnabled : Role → Bool → Role
-withEnabled r e = record { address = r .address; talker = r .talker; listener = r .listener; enabled = e; remote = r .remote }
-
-abbrev pub withRemote : Role → Bool → Role
-withRemote r m = record { address = r .address; talker = r .talker; listener = r .listener; enabled = r .enabled; remote = m }
+withListener r l = record { address = r .address; phase = r .phase; listener = l }

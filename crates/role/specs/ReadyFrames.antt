@@ -17,9 +17,9 @@ givesAddress r d = (eqb (baseOf d) 128 && leb (numberOf d) 30) && isUnassigned r
 unfoldable pub readyOf : Role → ℕ → Ready
 readyOf r d =
     cond (givesAddress r d) Address
-    (cond (eqb d 96 && eqb (r .talker) addressed) Data
-    (cond (eqb d 97 && eqb (r .talker) addressed) Status
-    (cond (eqb d 66 && eqb (r .talker) activeData) Finish
+    (cond (eqb d 96 && eqb (r .phase) addressed) Data
+    (cond (eqb d 97 && eqb (r .phase) addressed) Status
+    (cond (eqb d 66 && eqb (r .phase) activeData) Finish
     Pass)))
 
 -- "we take n"

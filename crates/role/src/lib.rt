@@ -1,18 +1,18 @@
 // What commands and ready frames do to a device's role on the loop; stores and registers are not known here.
 ghost use mathlib.Core.Path.{_≡_};
-ghost use Rattle.role.specs.Parts.{startRole, withTalker};
+ghost use Rattle.role.specs.Parts.{startRole, withPhase};
 ghost use Rattle.role.specs.Orders.{ownAddress, listenOrder, talkOrder, otherOrder, orderOf};
 ghost use Rattle.role.specs.Commands.{merelyAddressed, changedRole, obeyedRole};
 ghost use Rattle.role.specs.ReadyFrames.{readyOf, assignedRole};
 ghost use Rattle.role.specs.Fit.{fitTest};
 
-// address: 0 to 30 as assigned, 31 while unassigned. talker: 0 idle, 1 addressed, 2 active with data, 3 active with status.
+pub mod remote;
+
+// address: 0 to 30 as assigned, 31 while unassigned. phase, of the talker: 0 idle, 1 addressed, 2 active with data, 3 active with status.
 pub struct Role {
     pub address: u8,
-    pub talker: u8,
+    pub phase: u8,
     pub listener: bool,
-    pub enabled: bool,
-    pub remote: bool,
 }
 
 // What a command asks of a device.
@@ -45,19 +45,17 @@ pub fn start() -> Role
 {
     Role {
         address: 31,
-        talker: 0,
+        phase: 0,
         listener: false,
-        enabled: false,
-        remote: false,
     }
 }
 
 // The role with another talker phase.
-pub fn with_talker(r: Role, phase: u8) -> Role
-    ensures { λ q. ⌜ q ≡ withTalker r phase ⌝ }
+pub fn with_phase(r: Role, phase: u8) -> Role
+    ensures { λ q. ⌜ q ≡ withPhase r phase ⌝ }
 {
     let mut q = r;
-    q.talker = phase;
+    q.phase = phase;
     q
 }
 
@@ -134,8 +132,8 @@ pub fn merely_addressed(r: Role) -> Role
     ensures { λ q. ⌜ q ≡ merelyAddressed r ⌝ }
 {
     let mut q = r;
-    if 2 <= r.talker {
-        q.talker = 1;
+    if 2 <= r.phase {
+        q.phase = 1;
     }
     q
 }
@@ -149,25 +147,21 @@ fn changed(r: Role, o: Order) -> Role
         Order::Unlisten => q.listener = false,
         Order::Listen => {
             q.listener = true;
-            q.talker = 0;
-            q.remote = q.remote | q.enabled;
+            q.phase = 0;
         }
-        Order::Untalk => q.talker = 0,
+        Order::Untalk => q.phase = 0,
         Order::Talk => {
-            q.talker = 1;
+            q.phase = 1;
             q.listener = false;
         }
         Order::Clear => {}
         Order::Deselect => {
-            q.talker = 0;
+            q.phase = 0;
             q.listener = false;
         }
-        Order::Enable => q.enabled = true,
-        Order::Disable => {
-            q.enabled = false;
-            q.remote = false;
-        }
-        Order::Local => q.remote = false,
+        Order::Enable => {}
+        Order::Disable => {}
+        Order::Local => {}
         Order::Unassign => q.address = 31,
         Order::Nothing => {}
     }
@@ -189,11 +183,11 @@ pub fn ready_of(r: Role, d: u8) -> Ready
     let base = d - n;
     if (base == 128) & (n <= 30) & (r.address == 31) {
         Ready::Address
-    } else if (d == 96) & (r.talker == 1) {
+    } else if (d == 96) & (r.phase == 1) {
         Ready::Data
-    } else if (d == 97) & (r.talker == 1) {
+    } else if (d == 97) & (r.phase == 1) {
         Ready::Status
-    } else if (d == 66) & (r.talker == 2) {
+    } else if (d == 66) & (r.phase == 2) {
         Ready::Finish
     } else {
         Ready::Pass
@@ -213,5 +207,5 @@ pub fn assigned(r: Role, d: u8) -> Role
 pub fn role_fits(r: Role) -> bool
     ensures { λ b. ⌜ b ≡ fitTest r ⌝ }
 {
-    (r.address <= 31) & (r.talker <= 3) & !((1 <= r.talker) & r.listener)
+    (r.address <= 31) & (r.phase <= 3) & !((1 <= r.phase) & r.listener)
 }

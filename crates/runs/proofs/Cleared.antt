@@ -28,8 +28,10 @@ use Rattle.state.specs.Status.{settled, breakState, keyState, statusOf}
 use Rattle.state.specs.Status as status
 use Rattle.line.specs.HoldingOff.{isGoOrStop, flowed, lostState, storedWith, storedState, lineState, setAfresh, afterWrite, nextOut, goneState}
 use Rattle.loops.specs.LoopToLine.{addedState}
-use Rattle.loops.specs.Sending.{sendStatus, talking, ended}
-use Rattle.loops.specs.Frames.{cleared, returned, frameTaken, deviceClear}
+use Rattle.talker.specs.Sending.{talking}
+use Rattle.talker.specs.Returns.{returnOf}
+use Rattle.loops.specs.Sending.{sendStatus, ended}
+use Rattle.loops.specs.Frames.{cleared, judged, returned, frameTaken, deviceClear}
 use Rattle.bridge.specs.Calls.{Call, on, create, reset, write, lineByte, lineBreak, key, nextLineByte}
 use Rattle.bridge.specs.Calls.{loopFrame, show, World, Did, checks, outcome, settledBy, refusedOr, step}
 use Rattle.bridge.specs.Calls as calls
@@ -71,8 +73,8 @@ module _ (e : Event) where
 
   -- the status byte is under way as it was, and so is what is noted of e
   record On (s t : State) : Type 0 where
-    talker : t .role .talker ≡ s .role .talker
-    frame : t .under .frame ≡ s .under .frame
+    talker : t .talker .role .phase ≡ s .talker .role .phase
+    frame : t .talker .under .frame ≡ s .talker .under .frame
     seen : noted e (t .notes .seen) ≡ noted e (s .notes .seen)
     again : noted e (t .notes .again) ≡ noted e (s .notes .again)
 
@@ -80,11 +82,11 @@ module _ (e : Event) where
   record Noted (c : Call) (w : World) (a : Said) (t : State) : Type 0 where
     starts : empties c w a ≡ true → Clear t
     fresh : happens e c w a ≡ false → Clear (w .state) → Clear t
-    on : happens e c w a ≡ false → endsWay c a ≡ false → eqb (w .state .role .talker) 3 ≡ true → On (w .state) t
+    on : happens e c w a ≡ false → endsWay c a ≡ false → eqb (w .state .talker .role .phase) 3 ≡ true → On (w .state) t
 
   module _ (c : Call) (w : World) (a : Said) (t : State) where
     -- nothing is noted
-    left : empties c w a ≡ false → (Clear (w .state) → Clear t) → (endsWay c a ≡ false → eqb (w .state .role .talker) 3 ≡ true → On (w .state) t) →
+    left : empties c w a ≡ false → (Clear (w .state) → Clear t) → (endsWay c a ≡ false → eqb (w .state .talker .role .phase) 3 ≡ true → On (w .state) t) →
         Noted c w a t
     left n f o = record { starts = λ q. absurd (false≢true (sym n ∙ q)); fresh = λ _. f; on = λ _. o }
 
@@ -117,11 +119,11 @@ module _ (e : Event) where
 -- ---- loop frames
 
 -- while a status byte is under way, nothing is asked for
-busy-talking : (s : State) (f : ℕ) → eqb (s .role .talker) 3 ≡ true → (isSend s f ≡ false) × (asksStatus s f ≡ false)
+busy-talking : (s : State) (f : ℕ) → eqb (s .talker .role .phase) 3 ≡ true → (isSend s f ≡ false) × (asksStatus s f ≡ false)
 unfolding isSend asksStatus
 busy-talking s f k =
-    let one : eqb (s .role .talker) 1 ≡ false = ne-eqb (s .role .talker) 1 (λ h. omega (arith, eqb-true (s .role .talker) 3 k)) in
-    let two : eqb (s .role .talker) 2 ≡ false = ne-eqb (s .role .talker) 2 (λ h. omega (arith, eqb-true (s .role .talker) 3 k)) in (
+    let one : eqb (s .talker .role .phase) 1 ≡ false = ne-eqb (s .talker .role .phase) 1 (λ h. omega (arith, eqb-true (s .talker .role .phase) 3 k)) in
+    let two : eqb (s .talker .role .phase) 2 ≡ false = ne-eqb (s .talker .role .phase) 2 (λ h. omega (arith, eqb-true (s .talker .role .phase) 3 k)) in (
       simp (one, two, and-false (eqb (dataOf f) 96), and-false (eqb (controlOf f) 5), and-false (equalReturn s f)),
       simp (one, and-false (eqb (dataOf f) 97), and-false (eqb (controlOf f) 5)),
     )
@@ -148,7 +150,7 @@ module _ (e : Event) (w : World) (f : ℕ) where
       (λ _ k. absurd (false≢true (sym (busy-talking (w .state) f k .1) ∙ m .status)))
   frame-noted o (isBack m d) t =
       left e (on (loopFrame f)) w _ _ (no-empties _ (m .clear))
-      (never-noted (w .state .notes .seen) (w .state .notes .again) (dataOf (w .state .under .frame)) e)
+      (never-noted (w .state .notes .seen) (w .state .notes .again) (dataOf (w .state .talker .under .frame)) e)
       (λ n _. absurd (false≢true (sym n ∙ (λ i. d i || eqb (controlOf f) 4))))
   frame-noted o (isCleared m c) t = begun e (on (loopFrame f)) w _ _ ((λ i. isData f || c i) ∙ or-true (isData f)) (none-noted e)
   frame-noted o (isKept m d l) t =
@@ -263,9 +265,9 @@ told-of pressed x y d p q = (λ i. stays (x .key) (sym p i) (q i)) ∙ stays-sho
 module _ (e : Event) (g : ℕ) where
   -- the status byte g is under way, it showed what is noted of e, and that did not happen again
   record Way (s : State) : Type 0 where
-    talker : eqb (s .role .talker) 3 ≡ true
-    frame : g ≡ stripped (s .under .frame)
-    shown : noted e (s .notes .seen) ≡ showed (dataOf (s .under .frame)) (worth e)
+    talker : eqb (s .talker .role .phase) 3 ≡ true
+    frame : g ≡ stripped (s .talker .under .frame)
+    shown : noted e (s .notes .seen) ≡ showed (dataOf (s .talker .under .frame)) (worth e)
     again : noted e (s .notes .again) ≡ false
 
   way-on : (s t : State) → On e s t → Way s → Way t
@@ -286,11 +288,11 @@ module _ (e : Event) (g : ℕ) where
       run-on cs (after c w) (way-on (w .state) (after c w .state) (notes e c w .on (k .0) (m .0) (y .talker)) y) (k .1) (m .1)
 
 -- it comes back
-returned-clear : (e : Event) (s : State) (rx : List ℕ) (f : ℕ) → eqb (s .role .talker) 3 ≡ true → isData f ≡ true → sameApart f (s .under .frame) ≡ true →
-    noted e (acknowledged (s .notes .seen) (s .notes .again) (dataOf (s .under .frame))) ≡ false → Clear e (frameTaken s rx f .state)
-unfolding frameTaken returned ended talking status.afterStatusBack
+returned-clear : (e : Event) (s : State) (rx : List ℕ) (f : ℕ) → eqb (s .talker .role .phase) 3 ≡ true → isData f ≡ true → sameApart f (s .talker .under .frame) ≡ true →
+    noted e (acknowledged (s .notes .seen) (s .notes .again) (dataOf (s .talker .under .frame))) ≡ false → Clear e (frameTaken s rx f .state)
+unfolding frameTaken returned judged returnOf ended talking status.afterStatusBack
 returned-clear e s rx f T D m q =
-    let a : isActive (s .role) ≡ true = le-leb 2 (s .role .talker) (omega (arith, eqb-true (s .role .talker) 3 T)) in
+    let a : isActive (s .talker .role) ≡ true = le-leb 2 (s .talker .role .phase) (omega (arith, eqb-true (s .talker .role .phase) 3 T)) in
     rw (D, a, m, T) q
 
 back : (e : Event) (g : ℕ) (w : World) (r : ℕ) → Way e g (w .state) → statusBack (g ∷ []) (on (loopFrame r)) (answer (on (loopFrame r)) w) ≡ true →
@@ -306,9 +308,9 @@ back e g w r y =
     come q =
         let p : (isData r && sameApart r g) ≡ true = and-right (taken (said (frameTaken (w .state) (w .rx) r .answer))) _ q in
         returned-clear e (w .state) (w .rx) r (y .talker) (and-left _ _ p)
-        (stripped-same r (w .state .under .frame)
-        (same-stripped r g (and-right (isData r) _ p) ∙ ap stripped (y .frame) ∙ stripped-twice (w .state .under .frame)))
-        (told-of e (w .state .notes .seen) (w .state .notes .again) (dataOf (w .state .under .frame)) (y .shown) (y .again))
+        (stripped-same r (w .state .talker .under .frame)
+        (same-stripped r g (and-right (isData r) _ p) ∙ ap stripped (y .frame) ∙ stripped-twice (w .state .talker .under .frame)))
+        (told-of e (w .state .notes .seen) (w .state .notes .again) (dataOf (w .state .talker .under .frame)) (y .shown) (y .again))
 
 -- it is sent
 status-way : (e : Event) (g : ℕ) (s : State) → dataFrame (said (sendStatus s .answer)) ≡ g ∷ [] → Way e g (sendStatus s .state)

@@ -11,22 +11,24 @@ use Rattle.cases.proofs.Cases.{and-left, and-right, cond-false}
 use Rattle.frame.specs.Frame.{controlOf, dataOf, made, isData, sameApart}
 use Rattle.role.specs.declared.Role.{Role}
 use Rattle.role.specs.Parts.{isActive}
-use Rattle.role.specs.ReadyFrames.{givesAddress, assignedRole}
+use Rattle.role.specs.ReadyFrames.{givesAddress}
 use Rattle.role.specs.Fit as role-fit
-use Rattle.role.proofs.FitLaws as role-laws
+use Rattle.talker.specs.ReadyFrames.{assignedTalker, finishingTalker}
+use Rattle.talker.proofs.FitLaws as talker-laws
 use Rattle.reading.specs.Reading.{Sent, none, one}
 use Rattle.sending.specs.Sending.{givenOf, sendHeld}
 use Rattle.state.specs.declared.State.{State}
 use Rattle.state.specs.declared.Outcome.{Outcome}
 use Rattle.answers.specs.declared.Answer.the-variants.{Frame}
-use Rattle.state.specs.State.{withRole}
+use Rattle.state.specs.State.{withTalker}
 use Rattle.answers.specs.Answers.{said}
 use Rattle.state.specs.Status.{serviced, afterStatusBack}
 use Rattle.state.proofs.Fits.{tests}
 use Rattle.line.specs.HoldingOff.{resumed}
 use Rattle.loops.specs.LoopToLine.{addedState}
-use Rattle.loops.specs.Sending.{ruleOf, removedState, sendState, sendFrom, sendStatus, talking, ended}
-use Rattle.loops.specs.Frames.{passed, isClear, orderIn, obeyed, cleared, finishing, frameTaken, deviceClear}
+use Rattle.talker.specs.Sending.{talking}
+use Rattle.loops.specs.Sending.{ruleOf, removedState, sendState, sendFrom, sendStatus, ended}
+use Rattle.loops.specs.Frames.{passed, isClear, orderIn, obeyed, cleared, frameTaken, deviceClear}
 use Rattle.bridge.specs.Calls.{World}
 use Rattle.loops.proofs.Clears.{clear-order}
 use Rattle.laws.specs.Observers.{dataFrame, equalReturn, isSend, asksStatus, passesOn}
@@ -40,7 +42,7 @@ pub record Marks (s : State) (f : ℕ) (x y p c l : Bool) : Type 0 where
   pub status : asksStatus s f ≡ y
   pub passes : passesOn s f ≡ p
   pub clear : deviceClear s f ≡ c
-  pub adds : (isData f && s .role .listener) ≡ l
+  pub adds : (isData f && s .talker .role .listener) ≡ l
 
 -- the state t, where x is answered: the stores, the line and the notes stay; x is a data frame only where one passes, p; what is under way
 -- stays but at a data frame or command
@@ -49,16 +51,16 @@ pub record Other (s : State) (f : ℕ) (p : Bool) (t : State) (x : ℕ) : Type 0
   pub line : t .line ≡ s .line
   pub notes : t .notes ≡ s .notes
   pub answer : p ≡ false → isData x ≡ false
-  pub way : (isData f || eqb (controlOf f) 4) ≡ false → (t .role .talker ≡ s .role .talker) × (t .under .frame ≡ s .under .frame)
+  pub way : (isData f || eqb (controlOf f) 4) ≡ false → (t .talker .role .phase ≡ s .talker .role .phase) × (t .talker .under .frame ≡ s .talker .under .frame)
 
 pub data Kind (s : State) (rx : List ℕ) (f : ℕ) : Outcome → Type 0 where
   isSent : Marks s f true false false false false → Kind s rx f (sendFrom s rx)
   isStatus : Marks s f false true false false false → Kind s rx f (sendStatus s)
   -- the status byte came back
-  isBack : Marks s f false false false false false → isData f ≡ true → Kind s rx f (ended (afterStatusBack s (dataOf (s .under .frame))) 64)
+  isBack : Marks s f false false false false false → isData f ≡ true → Kind s rx f (ended (afterStatusBack s (dataOf (s .talker .under .frame))) 64)
   isCleared : Marks s f false false false true false → eqb (controlOf f) 4 ≡ true → Kind s rx f (passed (cleared (obeyed s (orderIn s f))) f)
   -- a listener stores it
-  isKept : Marks s f false false true false true → isData f ≡ true → s .role .listener ≡ true → Kind s rx f (passed (addedState s f) (serviced s f))
+  isKept : Marks s f false false true false true → isData f ≡ true → s .talker .role .listener ≡ true → Kind s rx f (passed (addedState s f) (serviced s f))
   isOther : (t : State) (x : ℕ) (p : Bool) → Marks s f false false p false false → Other s f p t x → Kind s rx f (passed t x)
 
 -- no data frame
@@ -75,11 +77,11 @@ address-high r d n h e q =
 -- what a frame is to us by its tests, and what it does
 module _ (s : State) (f : ℕ) where
   abbrev asks : ℕ → Bool
-  asks n = eqb (dataOf f) n && eqb (s .role .talker) 1
+  asks n = eqb (dataOf f) n && eqb (s .talker .role .phase) 1
 
-  data-marks : isData f ≡ true → (a l m p e : Bool) → isActive (s .role) ≡ a → s .role .listener ≡ l → sameApart f (s .under .frame) ≡ m →
-      eqb (s .role .talker) 2 ≡ p →
-      s .under .finishing ≡ e → Marks s f ((a && m) && (p && not e)) false (not a) false l
+  data-marks : isData f ≡ true → (a l m p e : Bool) → isActive (s .talker .role) ≡ a → s .talker .role .listener ≡ l → sameApart f (s .talker .under .frame) ≡ m →
+      eqb (s .talker .role .phase) 2 ≡ p →
+      s .talker .under .finishing ≡ e → Marks s f ((a && m) && (p && not e)) false (not a) false l
   unfolding isSend equalReturn asksStatus passesOn deviceClear
   data-marks D a l m p e ha hl hm hp he =
       let no-5 : eqb (controlOf f) 5 ≡ false = ne-eqb (controlOf f) 5 (λ h. omega (arith, ltb-true (controlOf f) 4 D)) in
@@ -105,7 +107,7 @@ module _ (s : State) (f : ℕ) where
   order-marks r c e =
       let four = eqb-true (controlOf f) 4 (r .four) in
       other-marks (r .isdata) false _ _ false c (ne-eqb (controlOf f) 5 (λ h. omega arith)) refl refl (le-ltb 5 (controlOf f) (omega arith))
-      ((λ i. r .four i && sym (clear-order (s .role) (dataOf f)) i) ∙ e)
+      ((λ i. r .four i && sym (clear-order (s .talker .role) (dataOf f)) i) ∙ e)
 
   ready-marks : ways.Readying f → (x y : Bool) → asks 96 ≡ x → asks 97 ≡ y → Marks s f x y false false false
   unfolding deviceClear
@@ -114,7 +116,7 @@ module _ (s : State) (f : ℕ) where
       (simp (r .four))
 
   not-asked : (n : ℕ) → (dataOf f ≡ n → ⊥) → asks n ≡ false
-  not-asked n h = λ i. ne-eqb (dataOf f) n h i && eqb (s .role .talker) 1
+  not-asked n h = λ i. ne-eqb (dataOf f) n h i && eqb (s .talker .role .phase) 1
 
   kept : (p : Bool) (x : ℕ) → (p ≡ false → isData x ≡ false) → Other s f p s x
   kept p x e = record { heart = refl; line = refl; notes = refl; answer = e; way = λ _. (refl, refl) }
@@ -132,24 +134,24 @@ module _ (s : State) (f : ℕ) where
             λ n. absurd (false≢true (sym n ∙ on));
       }
 
-  module _ (R : role-fit.Fit (s .role)) where
+  module _ (R : role-fit.Fit (s .talker .role)) where
     -- an active talker is no listener, and sends data where it does not send status
-    return-marks : ways.Returning s f → (m p e : Bool) → sameApart f (s .under .frame) ≡ m → eqb (s .role .talker) 2 ≡ p → s .under .finishing ≡ e →
+    return-marks : ways.Returning s f → (m p e : Bool) → sameApart f (s .talker .under .frame) ≡ m → eqb (s .talker .role .phase) 2 ≡ p → s .talker .under .finishing ≡ e →
         Marks s f (m && (p && not e)) false false false false
-    return-marks r m p e = data-marks (r .isdata) true false m p e (r .active) (go (s .role .listener) refl)
+    return-marks r m p e = data-marks (r .isdata) true false m p e (r .active) (go (s .talker .role .listener) refl)
       where
-        go : (t : Bool) → s .role .listener ≡ t → t ≡ false
-        go true e = absurd (omega (arith, leb-true 2 (s .role .talker) (r .active), R .apart e))
+        go : (t : Bool) → s .talker .role .listener ≡ t → t ≡ false
+        go true e = absurd (omega (arith, leb-true 2 (s .talker .role .phase) (r .active), R .apart e))
         go false e = refl
 
-    two : ways.Returning s f → eqb (s .role .talker) 3 ≡ false → eqb (s .role .talker) 2 ≡ true
-    two r k = eq-eqb (s .role .talker) 2 (omega (arith, leb-true 2 (s .role .talker) (r .active), R .phase, eqb-false (s .role .talker) 3 k))
+    two : ways.Returning s f → eqb (s .talker .role .phase) 3 ≡ false → eqb (s .talker .role .phase) 2 ≡ true
+    two r k = eq-eqb (s .talker .role .phase) 2 (omega (arith, leb-true 2 (s .talker .role .phase) (r .active), R .phase, eqb-false (s .talker .role .phase) 3 k))
 
     frame-kind : (rx : List ℕ) (o : Outcome) → ways.Way s rx f o → Kind s rx f o
-    unfolding ended obeyed finishing
+    unfolding ended obeyed
     frame-kind rx o (ways.isNext r m k e) = isSent (return-marks r true true false m (two r k) e)
     frame-kind rx o (ways.isBack r m k) =
-        isBack (return-marks r true false _ m (ne-eqb (s .role .talker) 2 (λ h. omega (arith, eqb-true (s .role .talker) 3 k))) refl) (r .isdata)
+        isBack (return-marks r true false _ m (ne-eqb (s .talker .role .phase) 2 (λ h. omega (arith, eqb-true (s .talker .role .phase) 3 k))) refl) (r .isdata)
     frame-kind rx o (ways.isLast r m k e) =
         isOther (ended s 64 .state) (made 5 64) false (return-marks r true true true m (two r k) e) (ended-other r 64 (omega arith))
     frame-kind rx o (ways.isDamaged r m) =
@@ -162,14 +164,14 @@ module _ (s : State) (f : ℕ) where
         isOther (obeyed s (orderIn s f)) f false (order-marks r false c)
         (record { heart = refl; line = refl; notes = refl; answer = λ _. r .isdata; way = λ n. absurd (false≢true (sym n ∙ (λ i. r .isdata i || r .four i))) })
     frame-kind rx o (ways.isAssigned r a) =
-        isOther (withRole s (assignedRole (s .role) (dataOf f))) (made 5 (dataOf f + 1)) false
-        (ready-marks r false false (not-asked 96 (address-high (s .role) (dataOf f) 96 (omega arith) a))
-        (not-asked 97 (address-high (s .role) (dataOf f) 97 (omega arith) a)))
+        isOther (withTalker s (assignedTalker (s .talker) (dataOf f))) (made 5 (dataOf f + 1)) false
+        (ready-marks r false false (not-asked 96 (address-high (s .talker .role) (dataOf f) 96 (omega arith) a))
+        (not-asked 97 (address-high (s .talker .role) (dataOf f) 97 (omega arith) a)))
         (record { heart = refl; line = refl; notes = refl; answer = λ _. le-ltb (controlOf (made 5 (dataOf f + 1))) 4 (omega arith); way = λ _. (refl, refl) })
     frame-kind rx o (ways.isSendAsked r a x) = isSent (ready-marks r true false x (not-asked 97 (λ h. omega (arith, eqb-true (dataOf f) 96 (and-left _ _ x)))))
     frame-kind rx o (ways.isTold r a x y) = isStatus (ready-marks r false true x y)
     frame-kind rx o (ways.isFinishing r a x y z) =
-        isOther (finishing s) f false (ready-marks r false false x y)
+        isOther (withTalker s (finishingTalker (s .talker))) f false (ready-marks r false false x y)
         (record { heart = refl; line = refl; notes = refl; answer = λ _. r .isdata; way = λ _. (refl, refl) })
     frame-kind rx o (ways.isReady r a x y z) = isOther s f false (ready-marks r false false x y) (kept false f (λ _. r .isdata))
     frame-kind rx o (ways.isIdentified r) =
@@ -179,9 +181,9 @@ module _ (s : State) (f : ℕ) where
 
 -- a send passes nothing on and is no asking for status
 pub send-alone : (s : State) (f : ℕ) → isSend s f ≡ true → (passesOn s f || asksStatus s f) ≡ false
-send-alone s f e = go (isData f) (isActive (s .role)) refl refl
+send-alone s f e = go (isData f) (isActive (s .talker .role)) refl refl
   where
-    go : (d a : Bool) → isData f ≡ d → isActive (s .role) ≡ a → (passesOn s f || asksStatus s f) ≡ false
+    go : (d a : Bool) → isData f ≡ d → isActive (s .talker .role) ≡ a → (passesOn s f || asksStatus s f) ≡ false
     go true true D A = let m = data-marks s f D true _ _ _ _ A refl refl refl refl in λ i. m .passes i || m .status i
     go true false D A = absurd (false≢true (sym (data-marks s f D false _ _ _ _ A refl refl refl refl .send) ∙ e))
     go false a D A =
@@ -192,8 +194,8 @@ send-alone s f e = go (isData f) (isActive (s .role)) refl refl
         (le-ltb 5 (controlOf f) (omega arith)) refl in
         λ i. m .passes i || m .status i
 
-pub role-fits : (w : World) → Fits w → role-fit.Fit (w .state .role)
-role-fits w F = role-laws.fit-true (w .state .role) (tests (w .state) (length (w .rx)) (length (w .tx)) F .role)
+pub role-fits : (w : World) → Fits w → role-fit.Fit (w .state .talker .role)
+role-fits w F = talker-laws.fit-true (w .state .talker) (tests (w .state) (length (w .rx)) (length (w .tx)) F .talker) .role
 
 pub kind-of : (f : ℕ) (w : World) → Fits w → Kind (w .state) (w .rx) f (frameTaken (w .state) (w .rx) f)
 kind-of f w F = frame-kind (w .state) f (role-fits w F) (w .rx) _ (ways.way (w .state) (w .rx) f)

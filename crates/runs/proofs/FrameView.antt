@@ -21,7 +21,8 @@ use Rattle.state.specs.Status as status
 use Rattle.state.proofs.Fits.{tx-fits}
 use Rattle.line.specs.HoldingOff.{resumed}
 use Rattle.loops.specs.LoopToLine.{adds, busy, addedState, addedBytes}
-use Rattle.loops.specs.Sending.{ruleOf, removedState, sendState, sendFrom, sendStatus, talking, ended}
+use Rattle.talker.specs.Sending.{talking}
+use Rattle.loops.specs.Sending.{ruleOf, removedState, sendState, sendFrom, sendStatus, ended}
 use Rattle.loops.specs.Frames.{obeyed, cleared, frameTaken, deviceClear, addsBytes, frameBytes}
 use Rattle.bridge.specs.Calls.{on, loopFrame, World, outcome, settledBy, rxAfter, txAfter}
 use Rattle.bridge.specs.Calls as calls
@@ -64,7 +65,7 @@ module _ (w : World) (f : ℕ) where
 -- ---- every frame
 
 module _ (w : World) (F : Fits w) (f : ℕ) (B : busy (w .state) f ≡ false) where
-  room : isData f ≡ true → w .state .role .listener ≡ true → w .state .tx .len + length (adds (w .state .regs) f) ≤ w .state .tx .cap
+  room : isData f ≡ true → w .state .talker .role .listener ≡ true → w .state .tx .len + length (adds (w .state .regs) f) ≤ w .state .tx .cap
   unfolding busy
   room d e =
       let r : ltb (w .state .tx .cap - w .state .tx .len) (length (adds (w .state .regs) f)) ≡ false =
@@ -72,16 +73,16 @@ module _ (w : World) (F : Fits w) (f : ℕ) (B : busy (w .state) f ≡ false) wh
       omega (arith, ltb-false (w .state .tx .cap - w .state .tx .len) (length (adds (w .state .regs) f)) r, tx-fits (w .state) (w .rx) (w .tx) F .ring .within .len)
 
   -- a listener is no active talker
-  stores : addsBytes (w .state) f ≡ (isData f && w .state .role .listener)
+  stores : addsBytes (w .state) f ≡ (isData f && w .state .talker .role .listener)
   unfolding addsBytes
-  stores = go (isData f) (w .state .role .listener) refl
+  stores = go (isData f) (w .state .talker .role .listener) refl
     where
-      idle : w .state .role .listener ≡ true → isActive (w .state .role) ≡ false
-      idle l = lt-leb 2 (w .state .role .talker) (omega (arith, role-fits w F .apart l))
+      idle : w .state .talker .role .listener ≡ true → isActive (w .state .talker .role) ≡ false
+      idle l = lt-leb 2 (w .state .talker .role .phase) (omega (arith, role-fits w F .apart l))
 
-      go : (d l : Bool) → w .state .role .listener ≡ l → ((d && not (isActive (w .state .role))) && l) ≡ (d && l)
+      go : (d l : Bool) → w .state .talker .role .listener ≡ l → ((d && not (isActive (w .state .talker .role))) && l) ≡ (d && l)
       go true true e = λ i. not (idle e i) && true
-      go true false e = and-false (not (isActive (w .state .role)))
+      go true false e = and-false (not (isActive (w .state .talker .role)))
       go false l e = refl
 
   -- a frame that passes is not sent, and no other is a data frame
@@ -90,7 +91,7 @@ module _ (w : World) (F : Fits w) (f : ℕ) (B : busy (w .state) f ≡ false) wh
   other-sent t n false x = no-data n (x .answer refl)
 
   by-kind : (o : Outcome) → Kind (w .state) (w .rx) f o →
-      FrameShaped w f (cond (isData f && w .state .role .listener) (addedBytes (w .state) (w .tx) f) (w .tx)) o
+      FrameShaped w f (cond (isData f && w .state .talker .role .listener) (addedBytes (w .state) (w .tx) f) (w .tx)) o
   unfolding sendStatus ended talking cleared obeyed addedState addedBytes status.afterStatus status.afterStatusBack said
   by-kind o (kinds.isSent m) = rw (m .adds) (send-shape w f F m)
   by-kind o (kinds.isStatus m) = rw (m .adds) (marked w f _ _ _ _ _ _ _ _ m refl isStill)

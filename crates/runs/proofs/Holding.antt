@@ -23,7 +23,8 @@ use Rattle.state.specs.Status as state-status
 use Rattle.line.specs.HoldingOff.{isGoOrStop, flowed, lostState, storedWith, storedState, lineState}
 use Rattle.line.specs.HoldingOff.{lineBytes, resumed, setAfresh, afterWrite, nextOut, goneState, outAnswer}
 use Rattle.loops.specs.LoopToLine.{addedState}
-use Rattle.loops.specs.Sending.{ruleOf, removedState, sendState, sendFrom, sendStatus, talking, ended}
+use Rattle.talker.specs.Sending.{talking}
+use Rattle.loops.specs.Sending.{ruleOf, removedState, sendState, sendFrom, sendStatus, ended}
 use Rattle.loops.specs.Frames.{cleared, frameTaken, deviceClear}
 use Rattle.bridge.specs.Calls.{Call, on, create, reset, write, lineByte, lineBreak, key, nextLineByte, loopFrame}
 use Rattle.bridge.specs.Calls.{show, World, Did, outcome, settledBy, rxAfter, txAfter, refusedOr, step}

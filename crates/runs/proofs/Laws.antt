@@ -19,7 +19,7 @@ use Rattle.runs.proofs.StatusTold.{status-told, tells-until-back}
 use Rattle.runs.proofs.Removed.{none-removed}
 use Rattle.runs.proofs.Returns.{returns-judged}
 use Rattle.runs.proofs.ElevenBits.{eleven-bits}
-use Rattle.runs.proofs.Roles.{role-goes}
+use Rattle.runs.proofs.Roles.{role-goes, remote-goes}
 use Rattle.runs.proofs.Passing.{frames-pass}
 use Rattle.runs.proofs.Settings.{registers-go, sizes-stay}
 use Rattle.runs.proofs.Alone.{broken-alone, pressed-alone}
@@ -43,4 +43,4 @@ all-obeyed =
     also not-invented broken also not-invented overrun also not-invented pressed
     also not-at-start broken also not-at-start overrun also not-at-start pressed
     also line-kept also line-since also last-kept also last-since also own-given also next-given also forbidden-goes also holding-goes
-    also counts-go also counts-since also service-bit also requests-go also tt
+    also counts-go also counts-since also service-bit also requests-go also remote-goes also tt

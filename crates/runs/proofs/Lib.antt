@@ -40,6 +40,7 @@ pub mod ElevenBits
 pub mod Removed
 pub mod Passing
 pub mod Obeying
+pub mod Remote
 pub mod Roles
 pub mod Alone
 pub mod Laws

@@ -1,4 +1,4 @@
--- A command is obeyed as the law of roles says. Assumes nothing.
+-- A command is obeyed as the laws of the role and of the remote flags say. Assumes nothing.
 use Prim.Native.Nat.{ℕ, _+_, _-_, _%_, _≤_, _<_}
 use native.Mathlib.Omega.{arith}
 use mathlib.Core.Path.{_≡_, refl, sym, _∙_}
@@ -8,11 +8,13 @@ use lib.Dec.{eqb, leb, ltb}
 use borrow.Author.Tests.{eqb-true, eqb-false, eq-eqb, ne-eqb, leb-true, le-leb, lt-leb, ltb-true, lt-ltb}
 use Rattle.cases.proofs.Cases.{by-cond, and-left, and-right, split}
 use Rattle.role.specs.declared.Role.{Role}
+use Rattle.role.specs.declared.remote.Remote.{Remote}
 use Rattle.role.specs.declared.Order.{Order}
 use Rattle.role.specs.Orders.{ownAddress, listenOrder, talkOrder, otherOrder, orderOf}
 use Rattle.role.specs.Commands.{merelyAddressed, changedRole, obeyedRole}
+use Rattle.role.specs.Remote.{obeyedRemote}
 use Rattle.role.proofs.OrderLaws.{own-31}
-use Rattle.laws.specs.Roles.{listens, talks, untalks, commanded}
+use Rattle.laws.specs.Roles.{listens, talks, untalks, commanded, commandedRemote}
 
 -- ---- commands
 
@@ -32,24 +34,27 @@ not-so : (b : Bool) → (b ≡ true → ⊥) → b ≡ false
 not-so true h = absurd (h refl)
 not-so false h = refl
 
-module _ (r : Role) where
-  -- the role by these tests
-  abbrev by : (l t u b63 b144 b154 b146 b147 loc : Bool) → Role
-  by l t u b63 b144 b154 b146 b147 loc =
+module _ (r : Role) (m : Remote) where
+  -- the role and the remote flags by these tests
+  abbrev by : (l t u b63 b144 b154 : Bool) → Role
+  by l t u b63 b144 b154 =
       record {
         address = cond b154 31 (r .address);
-        talker = cond ((l || u) || b144) 0 (cond (t || leb 2 (r .talker)) 1 (r .talker));
+        phase = cond ((l || u) || b144) 0 (cond (t || leb 2 (r .phase)) 1 (r .phase));
         listener = cond ((b63 || b144) || t) false (l || r .listener);
-        enabled = cond b147 false (b146 || r .enabled);
-        remote = cond (b147 || loc) false (cond l (r .remote || r .enabled) (r .remote));
       }
 
+  abbrev remoteBy : (l b146 b147 loc : Bool) → Remote
+  remoteBy l b146 b147 loc =
+      record { enabled = cond b147 false (b146 || m .enabled); remote = cond (b147 || loc) false (cond l (m .remote || m .enabled) (m .remote)) }
+
   by-tests : (d : ℕ) (l t u b63 b144 b154 b146 b147 loc : Bool) → Tests r d l t u b63 b144 b154 b146 b147 loc →
-      by l t u b63 b144 b154 b146 b147 loc ≡ commanded r d
-  unfolding commanded
-  by-tests d l t u b63 b144 b154 b146 b147 loc q =
-      λ i. by (sym (q .listens) i) (sym (q .talks) i) (sym (q .untalks) i) (sym (q .is63) i) (sym (q .is144) i) (sym (q .is154) i) (sym (q .is146) i)
-      (sym (q .is147) i) (sym (q .local) i)
+      (by l t u b63 b144 b154 ≡ commanded r d) × (remoteBy l b146 b147 loc ≡ commandedRemote r m d)
+  unfolding commanded commandedRemote
+  by-tests d l t u b63 b144 b154 b146 b147 loc q = (
+    λ i. by (sym (q .listens) i) (sym (q .talks) i) (sym (q .untalks) i) (sym (q .is63) i) (sym (q .is144) i) (sym (q .is154) i),
+    λ i. remoteBy (sym (q .listens) i) (sym (q .is146) i) (sym (q .is147) i) (sym (q .local) i),
+  )
 
   module _ (A : r .address ≤ 31) (d : ℕ) where
     -- a listen or talk address is none of the other bytes
@@ -93,22 +98,22 @@ module _ (r : Role) where
             ⊎-elim (λ x. omega arith) (λ x. omega arith) h)
 
     abbrev P : Order → Type 0
-    P o = changedRole (merelyAddressed r) o ≡ commanded r d
+    P o = (changedRole (merelyAddressed r) o ≡ commanded r d) × (obeyedRemote m o ≡ commandedRemote r m d)
 
     listen-right : d - d % 32 ≡ 32 → P (listenOrder (ownAddress 31 r) (d % 32))
-    unfolding changedRole merelyAddressed listenOrder
+    unfolding changedRole merelyAddressed obeyedRemote listenOrder
     listen-right e =
         by-cond P (eqb (d % 32) 31) _ _
         (λ n. let k = eqb-true (d % 32) 31 n in
         by-tests d false false false true false false false false false
         (among (omega arith) (omega arith) false false false true (not-listens (omega arith)) not-talks not-untalks (eq-eqb d 63 (omega arith))))
         (λ n. by-cond P (eqb (d % 32) (ownAddress 31 r)) _ _
-        (λ m. let k : d % 32 ≡ r .address = eqb-true (d % 32) (ownAddress 31 r) m ∙ own-31 r in let o = eqb-false (d % 32) 31 n in
+        (λ a. let k : d % 32 ≡ r .address = eqb-true (d % 32) (ownAddress 31 r) a ∙ own-31 r in let o = eqb-false (d % 32) 31 n in
         by-tests d true false false false false false false false false
         (among (omega arith) (omega arith) true false false false
         (λ i. eq-eqb d (32 + r .address) (omega arith) i && not (ne-eqb (r .address) 31 (λ h. omega arith) i)) not-talks not-untalks
         (ne-eqb d 63 (λ h. omega arith))))
-        (λ m. let k : d % 32 ≡ r .address → ⊥ = (λ h. eqb-false (d % 32) (ownAddress 31 r) m (h ∙ sym (own-31 r))) in let o = eqb-false (d % 32) 31 n in
+        (λ a. let k : d % 32 ≡ r .address → ⊥ = (λ h. eqb-false (d % 32) (ownAddress 31 r) a (h ∙ sym (own-31 r))) in let o = eqb-false (d % 32) 31 n in
         by-tests d false false false false false false false false false
         (among (omega arith) (omega arith) false false false false
         (λ i. ne-eqb d (32 + r .address) (λ h. k (omega arith)) i && not (eqb (r .address) 31)) not-talks not-untalks
@@ -127,7 +132,7 @@ module _ (r : Role) where
         not-untalks = λ i. (lt-leb 64 d (omega arith) i && ltb d 96) && not (talks r d)
 
     talk-right : d - d % 32 ≡ 64 → P (talkOrder (ownAddress 31 r) (d % 32))
-    unfolding changedRole merelyAddressed talkOrder
+    unfolding changedRole merelyAddressed obeyedRemote talkOrder
     talk-right e =
         by-cond P (eqb (d % 32) (ownAddress 31 r) && not (eqb (d % 32) 31)) _ _
         (λ h.
@@ -155,7 +160,7 @@ module _ (r : Role) where
             false≢true (sym h ∙ (λ i. m i && not (eqb (k i) 31)) ∙ and-right (eqb d (64 + r .address)) _ t))
 
     other-right : (d < 32) ⊎ (96 ≤ d) → P (otherOrder (r .listener) d)
-    unfolding changedRole merelyAddressed otherOrder
+    unfolding changedRole merelyAddressed obeyedRemote otherOrder
     other-right h =
         by-cond P (eqb d 20 || (eqb d 4 && r .listener)) _ _
         (λ e. low (clear-low e))
@@ -194,7 +199,7 @@ module _ (r : Role) where
             go true x q = let k = eqb-true d 20 x in (omega arith, λ z. omega arith)
             go false x q = let k = eqb-true d 4 (and-left _ _ q) in (omega arith, λ z. omega arith)
 
-        low : (d < 32) × (d ≡ 1 → ⊥) → merelyAddressed r ≡ commanded r d
+        low : (d < 32) × (d ≡ 1 → ⊥) → (merelyAddressed r ≡ commanded r d) × (m ≡ commandedRemote r m d)
         low x =
             let y = x .0 in
             by-tests d _ _ _ _ false false false false false
@@ -202,7 +207,7 @@ module _ (r : Role) where
             (no 147 (λ z. omega arith)) (not-local (x .1)))
 
     -- the order is obeyed as the paper's list says
-    pub obeyed-right : obeyedRole r (orderOf 31 r d) ≡ commanded r d
+    pub obeyed-right : (obeyedRole r (orderOf 31 r d) ≡ commanded r d) × (obeyedRemote m (orderOf 31 r d) ≡ commandedRemote r m d)
     unfolding obeyedRole orderOf
     obeyed-right =
         by-cond P (eqb (d - d % 32) 32) _ _ (λ e. listen-right (eqb-true (d - d % 32) 32 e))

@@ -79,7 +79,7 @@ module _ (w : World) (f : ℕ) where
           command = λ _. e;
           passes = λ h.
               absurd (false≢true
-              (sym (λ i. (r .isdata i && not (isActive (w .state .role))) ||
+              (sym (λ i. (r .isdata i && not (isActive (w .state .talker .role))) ||
               le-ltb 5 (controlOf f) (omega (arith, eqb-true (controlOf f) 4 (r .four))) i) ∙ h));
           address = λ h. absurd (omega (arith, eqb-true (controlOf f) 4 (r .four)));
           ready = λ h. absurd (omega (arith, eqb-true (controlOf f) 4 (r .four)));
@@ -96,21 +96,21 @@ module _ (w : World) (f : ℕ) where
         }
 
     -- a ready frame: an address where x holds, and else asked for where y holds
-    readies : Readying f → (givesAddress (w .state .role) (dataOf f) ≡ true → a ≡ frame 5 (dataOf f + 1)) →
-        (givesAddress (w .state .role) (dataOf f) ≡ false → (isAsked 96 (w .state) f || isAsked 97 (w .state) f) ≡ false → a ≡ asFrame f) → Right a
+    readies : Readying f → (givesAddress (w .state .talker .role) (dataOf f) ≡ true → a ≡ frame 5 (dataOf f + 1)) →
+        (givesAddress (w .state .talker .role) (dataOf f) ≡ false → (isAsked 96 (w .state) f || isAsked 97 (w .state) f) ≡ false → a ≡ asFrame f) → Right a
     unfolding passesOn
     readies r x y =
         record {
           command = λ h. absurd (true≢false (sym (eq-eqb (controlOf f) 4 h) ∙ r .four));
           passes = λ h.
               absurd (false≢true
-              (sym (λ i. (r .isdata i && not (isActive (w .state .role))) ||
+              (sym (λ i. (r .isdata i && not (isActive (w .state .talker .role))) ||
               le-ltb 5 (controlOf f) (omega (arith, eqb-true (controlOf f) 5 (r .five))) i) ∙ h));
-          address = λ _ h. x (sym (assigns-same (w .state .role) (dataOf f)) ∙ h);
-          ready = λ _ h. y (sym (assigns-same (w .state .role) (dataOf f)) ∙ h);
+          address = λ _ h. x (sym (assigns-same (w .state .talker .role) (dataOf f)) ∙ h);
+          ready = λ _ h. y (sym (assigns-same (w .state .talker .role) (dataOf f)) ∙ h);
         }
 
-  five-next : givesAddress (w .state .role) (dataOf f) ≡ true → asFrame (made 5 (dataOf f + 1)) ≡ frame 5 (dataOf f + 1)
+  five-next : givesAddress (w .state .talker .role) (dataOf f) ≡ true → asFrame (made 5 (dataOf f + 1)) ≡ frame 5 (dataOf f + 1)
   five-next h =
       let b : dataOf f - dataOf f % 32 ≡ 128 = eqb-true (dataOf f - dataOf f % 32) 128 (and-left _ _ (and-left _ _ h)) in
       let p : controlOf (made 5 (dataOf f + 1)) ≡ 5 = omega arith in
@@ -118,7 +118,7 @@ module _ (w : World) (f : ℕ) where
       λ i. frame (p i) (q i)
 
   -- it is asked for by this frame
-  asked : Readying f → (n : ℕ) → (eqb (dataOf f) n && eqb (w .state .role .talker) 1) ≡ true → isAsked n (w .state) f ≡ true
+  asked : Readying f → (n : ℕ) → (eqb (dataOf f) n && eqb (w .state .talker .role .phase) 1) ≡ true → isAsked n (w .state) f ≡ true
   asked r n x = λ i. r .five i && x i
 
   pass-way : (o : Outcome) → Way (w .state) (w .rx) f o → Right (said (o .answer))

@@ -22,7 +22,8 @@ use Rattle.state.specs.Status.{settled, breakState, keyState, afterStatus, afte
 use Rattle.state.proofs.Fits.{rx-fits}
 use Rattle.line.specs.HoldingOff.{isGoOrStop, flowed, lostState, storedState, storedWith, lineState, lineBytes, setAfresh, afterWrite, nextOut, goneState}
 use Rattle.loops.specs.LoopToLine.{addedState}
-use Rattle.loops.specs.Sending.{talking, ended, sendStatus}
+use Rattle.talker.specs.Sending.{talking}
+use Rattle.loops.specs.Sending.{ended, sendStatus}
 use Rattle.loops.specs.Frames.{deviceClear}
 use Rattle.bridge.specs.Calls.{OnState, reset, write, lineByte, lineBreak, key, nextLineByte, loopFrame, Call, create}
 use Rattle.bridge.specs.Calls.{show, on, World, Did, checks, outcome, settledBy, rxAfter, notRefused}

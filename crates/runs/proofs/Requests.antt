@@ -23,7 +23,8 @@ use Rattle.state.specs.Status.{settled, asking, enabledBy, conditions, breakSta
 use Rattle.state.specs.Status as state-status
 use Rattle.line.specs.HoldingOff.{isGoOrStop, flowed, lostState, storedWith, lineState, setAfresh, afterWrite, nextOut, goneState}
 use Rattle.loops.specs.LoopToLine.{addedState}
-use Rattle.loops.specs.Sending.{sendFrom, sendStatus, talking, ended}
+use Rattle.talker.specs.Sending.{talking}
+use Rattle.loops.specs.Sending.{sendFrom, sendStatus, ended}
 use Rattle.loops.specs.Frames.{passed, cleared, frameTaken, deviceClear}
 use Rattle.bridge.specs.Calls.{Call, on, create, reset, write, lineByte, lineBreak, key, nextLineByte}
 use Rattle.bridge.specs.Calls.{loopFrame, show, World, Did, checks, outcome, settledBy, refusedOr, step}
@@ -109,7 +110,7 @@ module _ (s : State) (rx : List ℕ) (f : ℕ) where
   request-kind o (isSent m) n = stays (sendFrom s rx) (m .status) (ap (λ (x : Notes). x .request) (send-notes s rx f))
   request-kind o (isStatus m) n =
       sym (and-false (s .notes .request)) ∙ (λ i. s .notes .request && not (any (cond (sym (m .status) i) (sym (status-frame s) i) [])))
-  request-kind o (isBack m d) n = stays (ended (state-status.afterStatusBack s (dataOf (s .under .frame))) 64) (m .status) refl
+  request-kind o (isBack m d) n = stays (ended (state-status.afterStatusBack s (dataOf (s .talker .under .frame))) 64) (m .status) refl
   request-kind o (isCleared m c) n = absurd (false≢true (sym n ∙ m .clear))
   request-kind o (isKept m d l) n = stays (passed (addedState s f) (state-status.serviced s f)) (m .status) refl
   request-kind o (isOther t k p m x) n = stays (passed t k) (m .status) (ap (λ (y : Notes). y .request) (x .notes))

@@ -24,7 +24,8 @@ use Rattle.state.specs.Sizes.{fits}
 use Rattle.state.specs.Status.{settled}
 use Rattle.state.proofs.Fits.{sizes-hold, tests, rx-fits}
 use Rattle.line.specs.HoldingOff.{resumed}
-use Rattle.loops.specs.Sending.{ruleOf, talking, ended, removedState, sendState, sendFrom}
+use Rattle.talker.specs.Sending.{talking}
+use Rattle.loops.specs.Sending.{ruleOf, ended, removedState, sendState, sendFrom}
 use Rattle.answers.specs.Refusals.{firstRefusal}
 use Rattle.cases.proofs.Cases.{and-left, and-right, cond-false}
 use Rattle.state.specs.declared.Outcome.{Outcome}

@@ -12,13 +12,12 @@ use Rattle.machine.specs.Machine as machine
 use Rattle.machine.specs.Course as course
 use Rattle.machine.specs.Machine.{Obeys, finally}
 use Rattle.frame.specs.Frame.{controlOf, dataOf, made, isData, stripped, sameApart}
-use Rattle.role.specs.declared.Role.{Role}
+use Rattle.talker.specs.declared.Talker.{Talker}
 use Rattle.state.specs.declared.State.{State}
-use Rattle.state.specs.declared.Under as declared-under
 use Rattle.state.specs.declared.Outcome.{Outcome}
 use Rattle.answers.specs.Answers.{Said, said, frame, refused}
 use Rattle.line.specs.HoldingOff.{nextOut}
-use Rattle.loops.specs.Frames.{finishing, frameTaken, deviceClear}
+use Rattle.loops.specs.Frames.{frameTaken, deviceClear}
 use Rattle.bridge.specs.Calls.{reset, write, lineByte, lineBreak, key, nextLineByte, loopFrame, Call, create}
 use Rattle.bridge.specs.Calls.{show, on, World, Did, checks, outcome, settledBy, notRefused, step}
 use Rattle.laws.specs.Observers.{taken, isAsked, equalReturn, isSend, dataFrame, asksStatus, passesOn, sent, statusSent, restarts}
@@ -29,7 +28,8 @@ use Rattle.machine.proofs.Course.{neither}
 use Rattle.store.specs.Bytes.{Bytes}
 use Rattle.reading.specs.Reading.{Sent, none, one}
 use Rattle.sending.specs.Sending.{givenOf, sendHeld}
-use Rattle.loops.specs.Sending.{ruleOf, talking, ended, removedState, sendState, sendFrom, sendStatus}
+use Rattle.talker.specs.Sending.{talking}
+use Rattle.loops.specs.Sending.{ruleOf, ended, removedState, sendState, sendFrom, sendStatus}
 use Rattle.runs.proofs.Bytes.{held-all, sent-plain}
 use Rattle.runs.proofs.Sends.{seen-plain}
 use Rattle.runs.proofs.Answered.{status-frame}
@@ -46,23 +46,23 @@ use Rattle.runs.proofs.FrameKinds.{Kind, no-data, kind-of, address-high
 use Rattle.runs.proofs.FrameKinds as kinds
 use Rattle.laws.proofs.Ways.{Way, isNext, isBack, isLast, isDamaged, isStored, isPassed, isCleared}
 use Rattle.laws.proofs.Ways.{isObeyed, isAssigned, isSendAsked, isTold, isFinishing, isReady, isIdentified, way}
-use Rattle.runs.proofs.Untouched.{Untouched, settled-untouched, break-untouched, key-untouched, line-untouched, gone-untouched, write-untouched}
+use Rattle.runs.proofs.Untouched.{Untouched, both-untouched, settled-untouched, break-untouched, key-untouched, line-untouched, gone-untouched, write-untouched}
 use Rattle.runs.proofs.Steps.{answer, after, end, some, Without, ours, at-call, at-left}
 
 -- the frame under way is g but for the service bit, the talker is active, with status where k holds, and finishing is e
 record Under (k : Bool) (g : ℕ) (e : Bool) (s : State) : Type 0 where
-  talker : s .role .talker ≡ cond k 3 2
-  frame : stripped (s .under .frame) ≡ g
-  finishing : k ≡ false → s .under .finishing ≡ e
+  talker : s .talker .role .phase ≡ cond k 3 2
+  frame : stripped (s .talker .under .frame) ≡ g
+  finishing : k ≡ false → s .talker .under .finishing ≡ e
 
 module _ (k : Bool) (g : ℕ) (e : Bool) where
   -- nothing of it changes
   moved : {x : Bool} (s t : State) → Untouched s t → Under k g x s → Under k g x t
   moved s t v u =
       record {
-        talker = ap (λ (r : Role). r .talker) (v .role) ∙ u .talker;
-        frame = ap (λ (y : declared-under.Under). stripped (y .frame)) (v .under) ∙ u .frame;
-        finishing = λ h. ap (λ (y : declared-under.Under). y .finishing) (v .under) ∙ u .finishing h;
+        talker = ap (λ (y : Talker). y .role .phase) (v .talker) ∙ u .talker;
+        frame = ap (λ (y : Talker). stripped (y .under .frame)) (v .talker) ∙ u .frame;
+        finishing = λ h. ap (λ (y : Talker). y .under .finishing) (v .talker) ∙ u .finishing h;
       }
 
   -- nothing of it changes, and no ready 66 was taken
@@ -71,16 +71,13 @@ module _ (k : Bool) (g : ℕ) (e : Bool) where
       let m = moved s t v u in
       record { talker = m .talker; frame = m .frame; finishing = λ h. m .finishing h ∙ sym (or-false e) ∙ (λ i. e || sym n i) }
 
-  both : (s t v : State) → Untouched s t → Untouched t v → Untouched s v
-  both s t v p q = record { role = q .role ∙ p .role; under = q .under ∙ p .under }
-
   -- the talker is no mere addressed one
-  not-addressed : (s : State) → Under k g e s → eqb (s .role .talker) 1 ≡ true → ⊥
+  not-addressed : (s : State) → Under k g e s → eqb (s .talker .role .phase) 1 ≡ true → ⊥
   not-addressed s u h = go k (u .talker)
     where
-      go : (k : Bool) → s .role .talker ≡ cond k 3 2 → ⊥
-      go true t = omega (arith, eqb-true (s .role .talker) 1 h)
-      go false t = omega (arith, eqb-true (s .role .talker) 1 h)
+      go : (k : Bool) → s .talker .role .phase ≡ cond k 3 2 → ⊥
+      go true t = omega (arith, eqb-true (s .talker .role .phase) 1 h)
+      go false t = omega (arith, eqb-true (s .talker .role .phase) 1 h)
 
   module _ (w : World) (f : ℕ) (u : Under k g e (w .state)) (D : isData f ≡ false) (C : eqb (controlOf f) 4 ≡ false) where
     -- a ready frame other than 66
@@ -88,7 +85,6 @@ module _ (k : Bool) (g : ℕ) (e : Bool) where
     unlike h = ne-eqb f (made 5 66) (λ q. h (omega arith))
 
     frame-on : (o : Outcome) → Way (w .state) (w .rx) f o → Under k g (e || eqb f (made 5 66)) (o .state)
-    unfolding finishing
     frame-on o (isNext r m t x) = absurd (true≢false (sym (r .isdata) ∙ D))
     frame-on o (isBack r m t) = absurd (true≢false (sym (r .isdata) ∙ D))
     frame-on o (isLast r m t x) = absurd (true≢false (sym (r .isdata) ∙ D))
@@ -101,7 +97,7 @@ module _ (k : Bool) (g : ℕ) (e : Bool) where
         record {
           talker = u .talker;
           frame = u .frame;
-          finishing = λ h. u .finishing h ∙ sym (or-false e) ∙ (λ i. e || sym (unlike (address-high (w .state .role) (dataOf f) 66 (omega arith) a)) i);
+          finishing = λ h. u .finishing h ∙ sym (or-false e) ∙ (λ i. e || sym (unlike (address-high (w .state .talker .role) (dataOf f) 66 (omega arith) a)) i);
         }
     frame-on o (isSendAsked r a x) = absurd (not-addressed (w .state) u (and-right (eqb (dataOf f) 96) _ x))
     frame-on o (isTold r a x y) = absurd (not-addressed (w .state) u (and-right (eqb (dataOf f) 97) _ y))
@@ -115,7 +111,7 @@ module _ (k : Bool) (g : ℕ) (e : Bool) where
     frame-on o (isReady r a x y z) = record { talker = u .talker; frame = u .frame; finishing = λ h. u .finishing h ∙ go h (eqb (dataOf f) 66) refl }
       where
         go : k ≡ false → (t : Bool) → eqb (dataOf f) 66 ≡ t → e ≡ (e || eqb f (made 5 66))
-        go h true q = absurd (true≢false (sym (λ i. q i && eq-eqb (w .state .role .talker) 2 (u .talker ∙ (λ j. cond (h j) 3 2)) i) ∙ z))
+        go h true q = absurd (true≢false (sym (λ i. q i && eq-eqb (w .state .talker .role .phase) 2 (u .talker ∙ (λ j. cond (h j) 3 2)) i) ∙ z))
         go h false q = sym (or-false e) ∙ (λ i. e || sym (unlike (eqb-false (dataOf f) 66 q)) i)
     frame-on o (isIdentified r) =
         record {
@@ -132,14 +128,14 @@ module _ (k : Bool) (g : ℕ) (e : Bool) where
   done-on : (c : Call) (w : World) → On c w (notRefused c w)
   unfolding notRefused outcome settledBy endsWay restarts finishes said
   done-on (create m) w u n = absurd (true≢false n)
-  done-on (show side) w u n = same (w .state) (w .state) false (record { role = refl; under = refl }) refl u
+  done-on (show side) w u n = same (w .state) (w .state) false (record { talker = refl; remote = refl }) refl u
   done-on (on reset) w u n = absurd (true≢false n)
-  done-on (on (write x v)) w u n = same (w .state) _ false (both _ _ _ (write-untouched (w .state) x v) (settled-untouched (w .state) false _)) refl u
-  done-on (on (lineByte b)) w u n = same (w .state) _ false (both _ _ _ (line-untouched (w .state) b) (settled-untouched (w .state) false _)) refl u
-  done-on (on lineBreak) w u n = same (w .state) _ false (both _ _ _ (break-untouched (w .state)) (settled-untouched (w .state) false _)) refl u
-  done-on (on key) w u n = same (w .state) _ false (both _ _ _ (key-untouched (w .state)) (settled-untouched (w .state) false _)) refl u
+  done-on (on (write x v)) w u n = same (w .state) _ false (both-untouched _ _ _ (write-untouched (w .state) x v) (settled-untouched (w .state) false _)) refl u
+  done-on (on (lineByte b)) w u n = same (w .state) _ false (both-untouched _ _ _ (line-untouched (w .state) b) (settled-untouched (w .state) false _)) refl u
+  done-on (on lineBreak) w u n = same (w .state) _ false (both-untouched _ _ _ (break-untouched (w .state)) (settled-untouched (w .state) false _)) refl u
+  done-on (on key) w u n = same (w .state) _ false (both-untouched _ _ _ (key-untouched (w .state)) (settled-untouched (w .state) false _)) refl u
   done-on (on nextLineByte) w u n =
-      same (w .state) _ false (both _ _ _ (gone-untouched (w .state) (nextOut (w .state) (w .tx))) (settled-untouched (w .state) false _)) refl u
+      same (w .state) _ false (both-untouched _ _ _ (gone-untouched (w .state) (nextOut (w .state) (w .tx))) (settled-untouched (w .state) false _)) refl u
   done-on (on (loopFrame f)) w u n =
       let m = neither (isData f) (eqb (controlOf f) 4)
       ((λ i. not (sym (frame-not-refused (w .state) (w .rx) f) i) && (isData f || eqb (controlOf f) 4)) ∙ n) in
@@ -150,15 +146,15 @@ module _ (k : Bool) (g : ℕ) (e : Bool) where
 
   refused-on : (c : Call) (w : World) (n : ℕ) → On c w (record { said = refused n; world = w })
   unfolding finishes
-  refused-on (create m) w n u q = same (w .state) (w .state) false (record { role = refl; under = refl }) refl u
-  refused-on (show side) w n u q = same (w .state) (w .state) false (record { role = refl; under = refl }) refl u
-  refused-on (on reset) w n u q = same (w .state) (w .state) false (record { role = refl; under = refl }) refl u
-  refused-on (on (write a v)) w n u q = same (w .state) (w .state) false (record { role = refl; under = refl }) refl u
-  refused-on (on (lineByte b)) w n u q = same (w .state) (w .state) false (record { role = refl; under = refl }) refl u
-  refused-on (on lineBreak) w n u q = same (w .state) (w .state) false (record { role = refl; under = refl }) refl u
-  refused-on (on key) w n u q = same (w .state) (w .state) false (record { role = refl; under = refl }) refl u
-  refused-on (on nextLineByte) w n u q = same (w .state) (w .state) false (record { role = refl; under = refl }) refl u
-  refused-on (on (loopFrame f)) w n u q = same (w .state) (w .state) false (record { role = refl; under = refl }) refl u
+  refused-on (create m) w n u q = same (w .state) (w .state) false (record { talker = refl; remote = refl }) refl u
+  refused-on (show side) w n u q = same (w .state) (w .state) false (record { talker = refl; remote = refl }) refl u
+  refused-on (on reset) w n u q = same (w .state) (w .state) false (record { talker = refl; remote = refl }) refl u
+  refused-on (on (write a v)) w n u q = same (w .state) (w .state) false (record { talker = refl; remote = refl }) refl u
+  refused-on (on (lineByte b)) w n u q = same (w .state) (w .state) false (record { talker = refl; remote = refl }) refl u
+  refused-on (on lineBreak) w n u q = same (w .state) (w .state) false (record { talker = refl; remote = refl }) refl u
+  refused-on (on key) w n u q = same (w .state) (w .state) false (record { talker = refl; remote = refl }) refl u
+  refused-on (on nextLineByte) w n u q = same (w .state) (w .state) false (record { talker = refl; remote = refl }) refl u
+  refused-on (on (loopFrame f)) w n u q = same (w .state) (w .state) false (record { talker = refl; remote = refl }) refl u
 
   on-way : (c : Call) (w : World) → On c w (step c w)
   on-way c w = by-refusal (On c w) c w (λ _. done-on c w) (λ _. refused-on c w _)
@@ -269,19 +265,19 @@ run-on k g e (c ∷ cs) w n u =
 -- ---- the return
 
 module _ (k : Bool) (g : ℕ) (e : Bool) (w : World) (u : Under k g e (w .state)) (r : ℕ) (D : isData r ≡ true) where
-  active : isActive (w .state .role) ≡ true
-  active = le-leb 2 (w .state .role .talker) (go k (u .talker))
+  active : isActive (w .state .talker .role) ≡ true
+  active = le-leb 2 (w .state .talker .role .phase) (go k (u .talker))
     where
-      go : (k : Bool) → w .state .role .talker ≡ cond k 3 2 → 2 ≤ w .state .role .talker
+      go : (k : Bool) → w .state .talker .role .phase ≡ cond k 3 2 → 2 ≤ w .state .talker .role .phase
       go true t = omega arith
       go false t = omega arith
 
   -- it is the same frame by what was sent and by what is under way
-  apart : sameApart r g ≡ sameApart r (w .state .under .frame)
+  apart : sameApart r g ≡ sameApart r (w .state .talker .under .frame)
   unfolding sameApart
-  apart = ap (λ (x : ℕ). eqb (stripped r) x) (ap stripped (sym (u .frame)) ∙ stripped-twice (w .state .under .frame))
+  apart = ap (λ (x : ℕ). eqb (stripped r) x) (ap stripped (sym (u .frame)) ∙ stripped-twice (w .state .talker .under .frame))
 
-  of-status : eqb (w .state .role .talker) 3 ≡ k
+  of-status : eqb (w .state .talker .role .phase) 3 ≡ k
   of-status = ap (λ (t : ℕ). eqb t 3) (u .talker) ∙ go k
     where
       go : (k : Bool) → eqb (cond k 3 2) 3 ≡ k
@@ -293,9 +289,9 @@ module _ (k : Bool) (g : ℕ) (e : Bool) (w : World) (u : Under k g e (w .state)
   unfolding isSend equalReturn
   sends m n =
       let x = neither k e n in
-      let two : w .state .role .talker ≡ 2 = u .talker ∙ (λ i. cond (x .0 i) 3 2) in
+      let two : w .state .talker .role .phase ≡ 2 = u .talker ∙ (λ i. cond (x .0 i) 3 2) in
       (λ i. isAsked 96 (w .state) r ||
-      (((D i && active i) && (sym apart ∙ m) i) && (eq-eqb (w .state .role .talker) 2 two i && not ((u .finishing (x .0) ∙ x .1) i))))
+      (((D i && active i) && (sym apart ∙ m) i) && (eq-eqb (w .state .talker .role .phase) 2 two i && not ((u .finishing (x .0) ∙ x .1) i))))
       ∙ or-true (isAsked 96 (w .state) r)
 
   abbrev Ends : Said → Type 0

@@ -1,4 +1,4 @@
--- How the role goes, over every call. Assumes nothing.
+-- How the role and the remote flags go, over every call. Assumes nothing.
 use Prim.Native.Nat.{ℕ, _-_, _%_}
 use native.Mathlib.Omega.{arith}
 use mathlib.Core.Path.{_≡_, refl, sym, ap, _∙_}
@@ -11,24 +11,28 @@ use Rattle.cases.proofs.Cases.{and-left}
 use Rattle.machine.specs.Machine.{Obeys}
 use Rattle.frame.specs.Frame.{controlOf, dataOf, isData}
 use Rattle.role.specs.declared.Role.{Role}
-use Rattle.role.specs.Parts.{withAddress, withTalker}
+use Rattle.role.specs.Parts.{withAddress, withPhase}
 use Rattle.role.specs.ReadyFrames.{givesAddress}
 use Rattle.store.specs.Bytes.{Bytes}
 use Rattle.reading.specs.Reading.{Sent, none, one}
 use Rattle.sending.specs.Sending.{givenOf, sendHeld}
+use Rattle.talker.specs.declared.Talker.{Talker}
+use Rattle.talker.specs.Commands.{obeyedTalker}
+use Rattle.state.specs.declared.State.{State}
 use Rattle.state.specs.declared.Outcome.{Outcome}
 use Rattle.answers.specs.Answers.{Said, said, refused}
-use Rattle.state.specs.Status.{afterStatus, afterStatusBack}
+use Rattle.state.specs.Status.{settled, afterStatus, afterStatusBack}
 use Rattle.line.specs.HoldingOff.{resumed, nextOut}
 use Rattle.loops.specs.LoopToLine.{addedState}
-use Rattle.loops.specs.Sending.{ruleOf, talking, ended, removedState, sendState, sendFrom, sendStatus}
-use Rattle.loops.specs.Frames.{orderIn, obeyed, cleared, finishing, deviceClear, frameTaken}
+use Rattle.talker.specs.Sending.{talking}
+use Rattle.loops.specs.Sending.{ruleOf, ended, removedState, sendState, sendFrom, sendStatus}
+use Rattle.loops.specs.Frames.{orderIn, obeyed, cleared, deviceClear, frameTaken}
 use Rattle.bridge.specs.Calls.{reset, write, lineByte, lineBreak, key, nextLineByte, loopFrame, Call, create}
-use Rattle.bridge.specs.Calls.{show, on, World, Did, checks, outcome, settledBy, notRefused}
+use Rattle.bridge.specs.Calls.{show, on, World, Did, checks, outcome, settledBy, notRefused, step}
 use Rattle.laws.specs.Observers.{any, taken, dataFrame, onFrame, restarts}
 use Rattle.laws.specs.Fitting.{Fits}
 use Rattle.laws.specs.Worlds.{heldToSend}
-use Rattle.laws.specs.Roles.{commanded, readied, returnedTo, byFrame, RoleGoes}
+use Rattle.laws.specs.Roles.{commanded, readied, returnedTo, byFrame, remoteByFrame, RoleGoes, RemoteGoes}
 use Rattle.laws.proofs.Answers.{frame-not-refused}
 use Rattle.laws.proofs.Refusing.{by-refusal, fitting}
 use Rattle.runs.proofs.Alike.{same-kind}
@@ -39,105 +43,102 @@ use Rattle.laws.proofs.Ways.{Way, Returning, Arriving, Commanding, Readying, Id
 use Rattle.laws.proofs.Ways.{isPassed, isCleared, isObeyed, isAssigned, isSendAsked, isTold, isFinishing, isReady, isIdentified, way}
 use Rattle.runs.proofs.Passing.{assigns-same}
 use Rattle.runs.proofs.Obeying.{obeyed-right}
-use Rattle.runs.proofs.Untouched.{settled-untouched, break-untouched, key-untouched, line-untouched, gone-untouched, write-untouched}
+use Rattle.runs.proofs.Remote.{remote-way}
+use Rattle.runs.proofs.Untouched.{Untouched, settled-untouched, break-untouched, key-untouched, line-untouched, gone-untouched, write-untouched}
 use Rattle.runs.proofs.Steps.{ours}
 
 -- ---- frames
 
 module _ (w : World) (B : Bytes (heldToSend w)) (F : Fits w) (f : ℕ) where
   abbrev r : Role
-  r = w .state .role
+  r = w .state .talker .role
 
   abbrev Right : Outcome → Type 0
-  Right o = o .state .role ≡ byFrame f (w .state .role) (said (o .answer))
+  Right o = o .state .talker .role ≡ byFrame f (w .state .talker .role) (said (o .answer))
 
   -- a send makes the talker active where it gives a frame
-  send-role : sendFrom (w .state) (w .rx) .state .role ≡ withTalker (w .state .role) (cond (any (dataFrame (said (sendFrom (w .state) (w .rx) .answer)))) 2 1)
+  send-role : sendFrom (w .state) (w .rx) .state .talker .role ≡ withPhase (w .state .talker .role) (cond (any (dataFrame (said (sendFrom (w .state) (w .rx) .answer)))) 2 1)
   unfolding sendFrom sendState ended talking removedState resumed sendHeld said
   send-role = go (sendHeld (ruleOf (w .state .regs)) (w .rx) (w .state .rx)) refl
     where
       go : (x : Sent ℕ ℕ) → sendHeld (ruleOf (w .state .regs)) (w .rx) (w .state .rx) ≡ x →
-          sendState (w .state) (removedState (w .state) (w .rx)) (givenOf x) .state .role
-          ≡ withTalker (w .state .role) (cond (any (dataFrame (said (sendState (w .state) (removedState (w .state) (w .rx)) (givenOf x) .answer)))) 2 1)
+          sendState (w .state) (removedState (w .state) (w .rx)) (givenOf x) .state .talker .role
+          ≡ withPhase (w .state .talker .role) (cond (any (dataFrame (said (sendState (w .state) (removedState (w .state) (w .rx)) (givenOf x) .answer)))) 2 1)
       go (none q) e = refl
       go (one g q) e =
-          ap (λ (l : List ℕ). withTalker (w .state .role) (cond (any l) 2 1))
+          ap (λ (l : List ℕ). withPhase (w .state .talker .role) (cond (any l) 2 1))
           (sym (seen-plain (w .state) g (sent-plain (ruleOf (w .state .regs)) (heldToSend w) g q e B)))
 
   -- a data frame that comes back, and one that does not
-  returned-role : Returning (w .state) f → (t : Role) (a : Said) → t ≡ withTalker (w .state .role) (cond (any (dataFrame a)) 2 1) →
-      t ≡ byFrame f (w .state .role) a
+  returned-role : Returning (w .state) f → (t : Role) (a : Said) → t ≡ withPhase (w .state .talker .role) (cond (any (dataFrame a)) 2 1) →
+      t ≡ byFrame f (w .state .talker .role) a
   unfolding byFrame returnedTo
   returned-role q t a e =
-      e ∙ (λ i. cond (sym (q .isdata) i) (withTalker (w .state .role) (cond (sym (q .active) i) (cond (any (dataFrame a)) 2 1) (w .state .role .talker)))
-      (w .state .role))
+      e ∙ (λ i. cond (sym (q .isdata) i) (withPhase (w .state .talker .role) (cond (sym (q .active) i) (cond (any (dataFrame a)) 2 1) (w .state .talker .role .phase)))
+      (w .state .talker .role))
       ∙ data-either (isData f) (q .isdata) _ _ _
     where
       data-either : (d : Bool) → d ≡ true → (x y z : Role) → cond d x y ≡ cond d x z
       data-either d h x y z = (λ i. cond (h i) x y) ∙ (λ i. cond (sym h i) x z)
 
-  arrived-role : Arriving (w .state) f → (a : Said) → w .state .role ≡ byFrame f (w .state .role) a
+  arrived-role : Arriving (w .state) f → (a : Said) → w .state .talker .role ≡ byFrame f (w .state .talker .role) a
   unfolding byFrame returnedTo
   arrived-role q a =
-      (λ i. cond (sym (q .isdata) i) (withTalker (w .state .role) (cond (sym (q .idle) i) (cond (any (dataFrame a)) 2 1) (w .state .role .talker)))
-      (w .state .role))
-      ∙ (λ i. cond (q .isdata i) (returnedTo (w .state .role) (any (dataFrame a))) (w .state .role))
-      ∙ (λ i. cond (sym (q .isdata) i) (returnedTo (w .state .role) (any (dataFrame a)))
-      (cond (eqb (controlOf f) 4) (commanded (w .state .role) (dataOf f))
-      (cond (eqb (controlOf f) 5) (readied (w .state .role) (dataOf f) (any (dataFrame a))) (w .state .role))))
+      (λ i. cond (sym (q .isdata) i) (withPhase (w .state .talker .role) (cond (sym (q .idle) i) (cond (any (dataFrame a)) 2 1) (w .state .talker .role .phase)))
+      (w .state .talker .role))
+      ∙ (λ i. cond (q .isdata i) (returnedTo (w .state .talker .role) (any (dataFrame a))) (w .state .talker .role))
+      ∙ (λ i. cond (sym (q .isdata) i) (returnedTo (w .state .talker .role) (any (dataFrame a)))
+      (cond (eqb (controlOf f) 4) (commanded (w .state .talker .role) (dataOf f))
+      (cond (eqb (controlOf f) 5) (readied (w .state .talker .role) (dataOf f) (any (dataFrame a))) (w .state .talker .role))))
 
-  commanded-role : Commanding f → (t : Role) (a : Said) → t ≡ commanded (w .state .role) (dataOf f) → t ≡ byFrame f (w .state .role) a
+  commanded-role : Commanding f → (t : Role) (a : Said) → t ≡ commanded (w .state .talker .role) (dataOf f) → t ≡ byFrame f (w .state .talker .role) a
   unfolding byFrame
   commanded-role q t a e =
-      e ∙ (λ i. cond (sym (q .isdata) i) (returnedTo (w .state .role) (any (dataFrame a)))
-      (cond (sym (q .four) i) (commanded (w .state .role) (dataOf f))
-      (cond (eqb (controlOf f) 5) (readied (w .state .role) (dataOf f) (any (dataFrame a))) (w .state .role))))
+      e ∙ (λ i. cond (sym (q .isdata) i) (returnedTo (w .state .talker .role) (any (dataFrame a)))
+      (cond (sym (q .four) i) (commanded (w .state .talker .role) (dataOf f))
+      (cond (eqb (controlOf f) 5) (readied (w .state .talker .role) (dataOf f) (any (dataFrame a))) (w .state .talker .role))))
 
-  readied-role : Readying f → (t : Role) (a : Said) → t ≡ readied (w .state .role) (dataOf f) (any (dataFrame a)) → t ≡ byFrame f (w .state .role) a
+  readied-role : Readying f → (t : Role) (a : Said) → t ≡ readied (w .state .talker .role) (dataOf f) (any (dataFrame a)) → t ≡ byFrame f (w .state .talker .role) a
   unfolding byFrame
   readied-role q t a e =
-      e ∙ (λ i. cond (sym (q .isdata) i) (returnedTo (w .state .role) (any (dataFrame a)))
-      (cond (sym (q .four) i) (commanded (w .state .role) (dataOf f))
-      (cond (sym (q .five) i) (readied (w .state .role) (dataOf f) (any (dataFrame a))) (w .state .role))))
+      e ∙ (λ i. cond (sym (q .isdata) i) (returnedTo (w .state .talker .role) (any (dataFrame a)))
+      (cond (sym (q .four) i) (commanded (w .state .talker .role) (dataOf f))
+      (cond (sym (q .five) i) (readied (w .state .talker .role) (dataOf f) (any (dataFrame a))) (w .state .talker .role))))
 
-  identified-role : Identifying f → (a : Said) → w .state .role ≡ byFrame f (w .state .role) a
+  identified-role : Identifying f → (a : Said) → w .state .talker .role ≡ byFrame f (w .state .talker .role) a
   unfolding byFrame
   identified-role q a =
-      λ i. cond (sym (q .isdata) i) (returnedTo (w .state .role) (any (dataFrame a)))
-      (cond (sym (q .four) i) (commanded (w .state .role) (dataOf f))
-      (cond (sym (q .five) i) (readied (w .state .role) (dataOf f) (any (dataFrame a))) (w .state .role)))
+      λ i. cond (sym (q .isdata) i) (returnedTo (w .state .talker .role) (any (dataFrame a)))
+      (cond (sym (q .four) i) (commanded (w .state .talker .role) (dataOf f))
+      (cond (sym (q .five) i) (readied (w .state .talker .role) (dataOf f) (any (dataFrame a))) (w .state .talker .role)))
 
   -- a ready frame by what it asks
-  ready-by : (x y z n : Bool) → givesAddress (w .state .role) (dataOf f) ≡ x → (eqb (dataOf f) 96 && eqb (w .state .role .talker) 1) ≡ y →
-      (eqb (dataOf f) 97 && eqb (w .state .role .talker) 1) ≡ z →
+  ready-by : (x y z n : Bool) → givesAddress (w .state .talker .role) (dataOf f) ≡ x → (eqb (dataOf f) 96 && eqb (w .state .talker .role .phase) 1) ≡ y →
+      (eqb (dataOf f) 97 && eqb (w .state .talker .role .phase) 1) ≡ z →
       record {
-        address = cond x (dataOf f - 128) (w .state .role .address);
-        talker = cond y (cond n 2 1) (cond z 3 (w .state .role .talker));
-        listener = w .state .role .listener;
-        enabled = w .state .role .enabled;
-        remote = w .state .role .remote;
+        address = cond x (dataOf f - 128) (w .state .talker .role .address);
+        phase = cond y (cond n 2 1) (cond z 3 (w .state .talker .role .phase));
+        listener = w .state .talker .role .listener;
       }
-      ≡ readied (w .state .role) (dataOf f) n
+      ≡ readied (w .state .talker .role) (dataOf f) n
   unfolding readied
   ready-by x y z n p q s =
       λ i.
       record {
-        address = cond (sym (assigns-same (w .state .role) (dataOf f) ∙ p) i) (dataOf f - 128) (w .state .role .address);
-        talker = cond (sym q i) (cond n 2 1) (cond (sym s i) 3 (w .state .role .talker));
-        listener = w .state .role .listener;
-        enabled = w .state .role .enabled;
-        remote = w .state .role .remote;
+        address = cond (sym (assigns-same (w .state .talker .role) (dataOf f) ∙ p) i) (dataOf f - 128) (w .state .talker .role .address);
+        phase = cond (sym q i) (cond n 2 1) (cond (sym s i) 3 (w .state .talker .role .phase));
+        listener = w .state .talker .role .listener;
       }
 
-  not-asked : (n : ℕ) → (dataOf f ≡ n → ⊥) → (eqb (dataOf f) n && eqb (w .state .role .talker) 1) ≡ false
-  not-asked n h = λ i. ne-eqb (dataOf f) n h i && eqb (w .state .role .talker) 1
+  not-asked : (n : ℕ) → (dataOf f ≡ n → ⊥) → (eqb (dataOf f) n && eqb (w .state .talker .role .phase) 1) ≡ false
+  not-asked n h = λ i. ne-eqb (dataOf f) n h i && eqb (w .state .talker .role .phase) 1
 
-  obeyed-role : obeyed (w .state) (orderIn (w .state) f) .role ≡ commanded (w .state .role) (dataOf f)
-  unfolding obeyed
-  obeyed-role = obeyed-right (w .state .role) (role-fits w F .range) (dataOf f)
+  obeyed-role : obeyed (w .state) (orderIn (w .state) f) .talker .role ≡ commanded (w .state .talker .role) (dataOf f)
+  unfolding obeyed obeyedTalker
+  obeyed-role = obeyed-right (w .state .talker .role) (w .state .remote) (role-fits w F .range) (dataOf f) .0
 
   role-way : (o : Outcome) → Way (w .state) (w .rx) f o → Right o
-  unfolding sendStatus ended talking afterStatus afterStatusBack addedState cleared finishing said
+  unfolding sendStatus ended talking afterStatus afterStatusBack addedState cleared said
   role-way o (isNext q m k e) = returned-role q _ _ send-role
   role-way o (isBack q m k) = returned-role q _ _ refl
   role-way o (isLast q m k e) = returned-role q _ _ refl
@@ -150,9 +151,9 @@ module _ (w : World) (B : Bytes (heldToSend w)) (F : Fits w) (f : ℕ) where
       let b : dataOf f - dataOf f % 32 ≡ 128 = eqb-true (dataOf f - dataOf f % 32) 128 (and-left _ _ (and-left _ _ a)) in
       let p : dataOf f % 32 ≡ dataOf f - 128 = omega arith in
       readied-role q _ _
-      (ap (withAddress (w .state .role)) p ∙
-      ready-by true false false _ a (not-asked 96 (address-high (w .state .role) (dataOf f) 96 (omega arith) a))
-      (not-asked 97 (address-high (w .state .role) (dataOf f) 97 (omega arith) a)))
+      (ap (withAddress (w .state .talker .role)) p ∙
+      ready-by true false false _ a (not-asked 96 (address-high (w .state .talker .role) (dataOf f) 96 (omega arith) a))
+      (not-asked 97 (address-high (w .state .talker .role) (dataOf f) 97 (omega arith) a)))
   role-way o (isSendAsked q a x) = readied-role q _ _ (send-role ∙ ready-by false true _ _ a x refl)
   role-way o (isTold q a x y) = readied-role q _ _ (ready-by false false true _ a x y)
   role-way o (isFinishing q a x y z) = readied-role q _ _ (ready-by false false false _ a x y)
@@ -164,26 +165,44 @@ module _ (w : World) (B : Bytes (heldToSend w)) (F : Fits w) (f : ℕ) where
 abbrev Goes : Call → World → Did → Type 0
 Goes c w d =
     restarts c (d .said) ≡ false →
-    d .world .state .role ≡ onFrame (λ f. cond (taken (d .said)) (byFrame f (w .state .role) (d .said)) (w .state .role)) (w .state .role) c
+    (d .world .state .talker .role ≡
+    onFrame (λ f. cond (taken (d .said)) (byFrame f (w .state .talker .role) (d .said)) (w .state .talker .role)) (w .state .talker .role) c)
+    × (d .world .state .remote ≡
+    onFrame (λ f. cond (taken (d .said)) (remoteByFrame f (w .state .talker .role) (w .state .remote)) (w .state .remote)) (w .state .remote) c)
+
+-- a call that touches neither, with requests settled
+untouched : (s t : State) → Untouched s t → (settled s t .talker .role ≡ s .talker .role) × (settled s t .remote ≡ s .remote)
+unfolding settled
+untouched s t u = (ap (λ (q : Talker). q .role) (u .talker), u .remote)
 
 done-goes : (c : Call) (w : World) → Bytes (w .rx) → firstRefusal (checks c w) ≡ 0 → Goes c w (notRefused c w)
 unfolding notRefused outcome settledBy restarts said
 done-goes (create m) w B e q = absurd (true≢false q)
-done-goes (show side) w B e q = refl
+done-goes (show side) w B e q = (refl, refl)
 done-goes (on reset) w B e q = absurd (true≢false q)
-done-goes (on (write n v)) w B e q = settled-untouched (w .state) false _ .role ∙ write-untouched (w .state) n v .role
-done-goes (on (lineByte b)) w B e q = settled-untouched (w .state) false _ .role ∙ line-untouched (w .state) b .role
-done-goes (on lineBreak) w B e q = settled-untouched (w .state) false _ .role ∙ break-untouched (w .state) .role
-done-goes (on key) w B e q = settled-untouched (w .state) false _ .role ∙ key-untouched (w .state) .role
-done-goes (on nextLineByte) w B e q = settled-untouched (w .state) false _ .role ∙ gone-untouched (w .state) (nextOut (w .state) (w .tx)) .role
+done-goes (on (write n v)) w B e q = untouched (w .state) _ (write-untouched (w .state) n v)
+done-goes (on (lineByte b)) w B e q = untouched (w .state) _ (line-untouched (w .state) b)
+done-goes (on lineBreak) w B e q = untouched (w .state) _ (break-untouched (w .state))
+done-goes (on key) w B e q = untouched (w .state) _ (key-untouched (w .state))
+done-goes (on nextLineByte) w B e q = untouched (w .state) _ (gone-untouched (w .state) (nextOut (w .state) (w .tx)))
 done-goes (on (loopFrame f)) w B e q =
-    settled-untouched (w .state) (deviceClear (w .state) f) _ .role
-    ∙ role-way w (held-all w B) (fitting (loopFrame f) w e .0) f (frameTaken (w .state) (w .rx) f) (way (w .state) (w .rx) f)
-    ∙ (λ i. cond (not (sym (frame-not-refused (w .state) (w .rx) f) i)) (byFrame f (w .state .role) (said (frameTaken (w .state) (w .rx) f .answer)))
-    (w .state .role))
+    let o : Outcome = frameTaken (w .state) (w .rx) f in
+    let u : Untouched (o .state) _ = settled-untouched (w .state) (deviceClear (w .state) f) (o .state) in
+    let F : Fits w = fitting (loopFrame f) w e .0 in (
+      ap (λ (t : Talker). t .role) (u .talker) ∙ role-way w (held-all w B) F f o (way (w .state) (w .rx) f)
+          ∙ (λ i. cond (not (sym (frame-not-refused (w .state) (w .rx) f) i)) (byFrame f (w .state .talker .role) (said (o .answer))) (w .state .talker .role)),
+      u .remote ∙ remote-way w F f o (way (w .state) (w .rx) f)
+          ∙ (λ i. cond (not (sym (frame-not-refused (w .state) (w .rx) f) i)) (remoteByFrame f (w .state .talker .role) (w .state .remote)) (w .state .remote)),
+    )
 
 refused-goes : (c : Call) (w : World) (n : ℕ) → Goes c w (record { said = refused n; world = w })
-refused-goes c w n e = sym (same-kind (w .state .role) c .0)
+refused-goes c w n e = (sym (same-kind (w .state .talker .role) c .0), sym (same-kind (w .state .remote) c .0))
+
+goes : (c : Call) (w : World) → Bytes (w .rx) → Goes c w (step c w)
+goes c w B = by-refusal (Goes c w) c w (done-goes c w B) (λ _. refused-goes c w _)
 
 pub role-goes : Obeys ours RoleGoes
-role-goes c w B = by-refusal (Goes c w) c w (done-goes c w B) (λ _. refused-goes c w _)
+role-goes c w B = λ q. goes c w B q .0
+
+pub remote-goes : Obeys ours RemoteGoes
+remote-goes c w B = λ q. goes c w B q .1

@@ -12,7 +12,8 @@ use Rattle.reading.proofs.Lawful.{lawful}
 use Rattle.sending.specs.Sending.{givenOf, sendHeld, sentRing}
 use Rattle.state.specs.declared.Outcome.{Outcome}
 use Rattle.answers.specs.Answers.{Said, said, frame}
-use Rattle.loops.specs.Sending.{ruleOf, removedState, sendState, sendFrom, ended, talking}
+use Rattle.talker.specs.Sending.{talking}
+use Rattle.loops.specs.Sending.{ruleOf, removedState, sendState, sendFrom, ended}
 use Rattle.bridge.specs.Calls.{on, loopFrame, World, Did, checks, outcome, step, settledBy, rxAfter}
 use Rattle.bridge.specs.Calls as calls
 use Rattle.store.specs.Bytes.{Bytes}

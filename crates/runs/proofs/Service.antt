@@ -111,14 +111,14 @@ module _ (w : World) (f : ℕ) where
 
   readying : Readying f → passesOn (w .state) f ≡ false
   unfolding passesOn
-  readying r = λ j. (r .isdata j && not (isActive (w .state .role))) || le-ltb 5 (controlOf f) (omega (arith, eqb-true (controlOf f) 5 (r .five))) j
+  readying r = λ j. (r .isdata j && not (isActive (w .state .talker .role))) || le-ltb 5 (controlOf f) (omega (arith, eqb-true (controlOf f) 5 (r .five))) j
 
   identifying : Identifying f → passesOn (w .state) f ≡ true
   unfolding passesOn
   identifying r =
       let p : 5 < controlOf f =
       omega (arith, ltb-false (controlOf f) 4 (r .isdata), eqb-false (controlOf f) 4 (r .four), eqb-false (controlOf f) 5 (r .five)) in
-      λ j. (r .isdata j && not (isActive (w .state .role))) || lt-ltb 5 (controlOf f) p j
+      λ j. (r .isdata j && not (isActive (w .state .talker .role))) || lt-ltb 5 (controlOf f) p j
 
   way-right : Bytes (heldToSend w) → (o : Outcome) → Way (w .state) (w .rx) f o → OutRight o
   unfolding ended sendStatus

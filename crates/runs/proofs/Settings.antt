@@ -20,8 +20,9 @@ use Rattle.answers.specs.Answers.{said, refused}
 use Rattle.state.specs.Status.{settled, breakState, keyState, afterStatus, afterStatusBack}
 use Rattle.line.specs.HoldingOff.{isGoOrStop, flowed, lostState, storedWith, lineState, resumed, setAfresh, afterWrite, nextOut, goneState}
 use Rattle.loops.specs.LoopToLine.{addedState}
-use Rattle.loops.specs.Sending.{ruleOf, talking, ended, removedState, sendState, sendFrom, sendStatus}
-use Rattle.loops.specs.Frames.{obeyed, cleared, finishing, deviceClear, frameTaken}
+use Rattle.talker.specs.Sending.{talking}
+use Rattle.loops.specs.Sending.{ruleOf, ended, removedState, sendState, sendFrom, sendStatus}
+use Rattle.loops.specs.Frames.{obeyed, cleared, deviceClear, frameTaken}
 use Rattle.bridge.specs.Calls.{reset, write, lineByte, lineBreak, key, nextLineByte, loopFrame, Call}
 use Rattle.bridge.specs.Calls.{create, show, on, World, Did, outcome, settledBy, notRefused}
 use Rattle.laws.specs.Observers.{taken, onWrite, restarts}
@@ -56,7 +57,7 @@ send-same s rx = go (givenOf (sendHeld (ruleOf (s .regs)) rx (s .rx)))
     go (One f) = record { regs = refl; sizes = refl }
 
 frame-same : (s : State) (rx : List ℕ) (f : ℕ) (o : Outcome) → Way s rx f o → Same s (o .state)
-unfolding sendStatus ended talking afterStatus afterStatusBack addedState cleared obeyed finishing
+unfolding sendStatus ended talking afterStatus afterStatusBack addedState cleared obeyed
 frame-same s rx f o (isNext r m k e) = send-same s rx
 frame-same s rx f o (isBack r m k) = record { regs = refl; sizes = refl }
 frame-same s rx f o (isLast r m k e) = record { regs = refl; sizes = refl }

@@ -30,8 +30,10 @@ use Rattle.state.specs.Status.{settled, breakState, keyState}
 use Rattle.state.specs.Status as status
 use Rattle.line.specs.HoldingOff.{isGoOrStop, flowed, lostState, storedWith, lineState, resumed, setAfresh, afterWrite, nextOut, goneState}
 use Rattle.loops.specs.LoopToLine.{addedState}
-use Rattle.loops.specs.Sending.{ruleOf, removedState, sendState, sendFrom, sendStatus, talking, ended}
-use Rattle.loops.specs.Frames.{isClear, orderIn, obeyed, finishing, frameTaken, deviceClear}
+use Rattle.talker.specs.Commands.{obeyedTalker}
+use Rattle.talker.specs.Sending.{talking}
+use Rattle.loops.specs.Sending.{ruleOf, removedState, sendState, sendFrom, sendStatus, ended}
+use Rattle.loops.specs.Frames.{isClear, orderIn, obeyed, frameTaken, deviceClear}
 use Rattle.bridge.specs.Calls.{Call, on, create, reset, write, lineByte, lineBreak, key, nextLineByte}
 use Rattle.bridge.specs.Calls.{loopFrame, show, World, Did, outcome, settledBy, refusedOr, step}
 use Rattle.bridge.specs.Calls as calls
@@ -54,7 +56,7 @@ pub record Part : Type 0 where
   pub again : Events
 
 abbrev pub part : State → Part
-part s = record { talker = s .role .talker; frame = s .under .frame; seen = s .notes .seen; again = s .notes .again }
+part s = record { talker = s .talker .role .phase; frame = s .talker .under .frame; seen = s .notes .seen; again = s .notes .again }
 
 -- what is noted there is noted here
 abbrev pub Keeps : Events → Events → Type 0
@@ -64,8 +66,8 @@ Keeps x y = (e : Event) → noted e x ≡ true → noted e y ≡ true
 
 -- the frame under way stays so, and no note is taken away
 pub record Left (s : State) (p : Part) : Type 0 where
-  pub talker : p .talker ≡ s .role .talker
-  pub frame : p .frame ≡ s .under .frame
+  pub talker : p .talker ≡ s .talker .role .phase
+  pub frame : p .frame ≡ s .talker .under .frame
   pub seen : Keeps (s .notes .seen) (p .seen)
   pub again : Keeps (s .notes .again) (p .again)
 
@@ -75,7 +77,7 @@ pub data Kind (c : Call) (w : World) (a : Said) (p : Part) : Type 0 where
   idles : eqb (p .talker) 3 ≡ false → Keeps (w .state .notes .seen) (p .seen) → Kind c w a p
   sends : statusSent c w a ≡ stripped (p .frame) ∷ [] → Keeps (w .state .notes .seen) (p .seen) → Kind c w a p
   -- the status byte under way came back
-  returns : eqb (w .state .role .talker) 3 ≡ true → statusBack (stripped (w .state .under .frame) ∷ []) c a ≡ true → eqb (p .talker) 3 ≡ false →
+  returns : eqb (w .state .talker .role .phase) 3 ≡ true → statusBack (stripped (w .state .talker .under .frame) ∷ []) c a ≡ true → eqb (p .talker) 3 ≡ false →
       ((e : Event) → noted e (w .state .notes .seen) ≡ true → noted e (w .state .notes .again) ≡ true → noted e (p .seen) ≡ true) → Kind c w a p
   begins : empties c w a ≡ true → Kind c w a p
 
@@ -122,12 +124,12 @@ still-noted x y d overrun p q = stays-true (x .overrun) (showed d 32) (y .overru
 still-noted x y d pressed p q = stays-true (x .key) (showed d 128) (y .key) p q
 
 -- a command leaves an active talker merely addressed, and no order makes one active
-merely : (r : Role) → eqb (merelyAddressed r .talker) 3 ≡ false
+merely : (r : Role) → eqb (merelyAddressed r .phase) 3 ≡ false
 unfolding merelyAddressed
-merely r = by-cond (λ (t : ℕ). eqb t 3 ≡ false) (isActive r) addressed (r .talker) (λ _. refl)
-    (λ e. ne-eqb (r .talker) 3 (λ h. omega (arith, leb-false 2 (r .talker) e)))
+merely r = by-cond (λ (t : ℕ). eqb t 3 ≡ false) (isActive r) addressed (r .phase) (λ _. refl)
+    (λ e. ne-eqb (r .phase) 3 (λ h. omega (arith, leb-false 2 (r .phase) e)))
 
-obeyed-idle : (r : Role) (o : Order) → eqb (obeyedRole r o .talker) 3 ≡ false
+obeyed-idle : (r : Role) (o : Order) → eqb (obeyedRole r o .phase) 3 ≡ false
 unfolding obeyedRole changedRole
 obeyed-idle r Unlisten = merely r
 obeyed-idle r Listen = refl
@@ -154,19 +156,19 @@ module _ (w : World) (f : ℕ) where
       go (one g r) = idles refl (keeps _)
 
   -- the status byte under way came back
-  back-kind : ways.Returning (w .state) f → sameApart f (w .state .under .frame) ≡ true →
-      statusBack (stripped (w .state .under .frame) ∷ []) (on (loopFrame f)) (said (Frame (made 5 64))) ≡ true
+  back-kind : ways.Returning (w .state) f → sameApart f (w .state .talker .under .frame) ≡ true →
+      statusBack (stripped (w .state .talker .under .frame) ∷ []) (on (loopFrame f)) (said (Frame (made 5 64))) ≡ true
   unfolding statusBack said
   back-kind r m =
-      λ i. r .isdata i && stripped-same f (stripped (w .state .under .frame)) (same-stripped f _ m ∙ sym (stripped-twice (w .state .under .frame))) i
+      λ i. r .isdata i && stripped-same f (stripped (w .state .talker .under .frame)) (same-stripped f _ m ∙ sym (stripped-twice (w .state .talker .under .frame))) i
 
   -- no active talker
-  off : ways.Arriving (w .state) f → eqb (w .state .role .talker) 3 ≡ false
-  off r = ne-eqb (w .state .role .talker) 3 (λ h. omega (arith, leb-false 2 (w .state .role .talker) (r .idle)))
+  off : ways.Arriving (w .state) f → eqb (w .state .talker .role .phase) 3 ≡ false
+  off r = ne-eqb (w .state .talker .role .phase) 3 (λ h. omega (arith, leb-false 2 (w .state .talker .role .phase) (r .idle)))
 
   clear : ways.Commanding f → isClear (orderIn (w .state) f) ≡ true → empties (on (loopFrame f)) w (said (Frame f)) ≡ true
   unfolding restarts clears deviceClear said
-  clear r e = (λ i. r .four i && sym (clear-order (w .state .role) (dataOf f)) i) ∙ e
+  clear r e = (λ i. r .four i && sym (clear-order (w .state .talker .role) (dataOf f)) i) ∙ e
 
   -- a frame that is neither data nor a command, and does not ask for status, leaves what is under way
   on-kind : (o : Outcome) → isData f ≡ false → eqb (controlOf f) 4 ≡ false → asksStatus (w .state) f ≡ false → part (o .state) ≡ part (w .state) → FrameKind o
@@ -174,30 +176,30 @@ module _ (w : World) (f : ℕ) where
   on-kind o D C e p =
       goesOn (λ i. cond (e i) (dataFrame (said (o .answer))) []) (simp (D, C) (and-false (taken (said (o .answer))))) (same (w .state) (part (o .state)) p)
 
-  ready-kind : (o : Outcome) → ways.Readying f → (eqb (dataOf f) 97 && eqb (w .state .role .talker) 1) ≡ false → part (o .state) ≡ part (w .state) →
+  ready-kind : (o : Outcome) → ways.Readying f → (eqb (dataOf f) 97 && eqb (w .state .talker .role .phase) 1) ≡ false → part (o .state) ≡ part (w .state) →
       FrameKind o
   unfolding asksStatus
   ready-kind o r n = on-kind o (r .isdata) (r .four) (λ i. r .five i && n i)
 
   frame-way : (o : Outcome) → ways.Way (w .state) (w .rx) f o → FrameKind o
-  unfolding ended talking finishing obeyed addedState sendStatus status.afterStatus status.afterStatusBack statusSent asksStatus
+  unfolding ended talking obeyed obeyedTalker addedState sendStatus status.afterStatus status.afterStatusBack statusSent asksStatus
   frame-way o (ways.isNext r m k e) = send-kind
   frame-way o (ways.isBack r m k) =
-      returns k (back-kind r m) refl (still-noted (w .state .notes .seen) (w .state .notes .again) (dataOf (w .state .under .frame)))
+      returns k (back-kind r m) refl (still-noted (w .state .notes .seen) (w .state .notes .again) (dataOf (w .state .talker .under .frame)))
   frame-way o (ways.isLast r m k e) = idles refl (keeps _)
   frame-way o (ways.isDamaged r m) = idles refl (keeps _)
   frame-way o (ways.isStored r l) = idles (off r) (keeps _)
   frame-way o (ways.isPassed r l) = idles (off r) (keeps _)
   frame-way o (ways.isCleared r c) = begins (clear r c)
-  frame-way o (ways.isObeyed r c) = idles (obeyed-idle (w .state .role) (orderIn (w .state) f)) (keeps _)
+  frame-way o (ways.isObeyed r c) = idles (obeyed-idle (w .state .talker .role) (orderIn (w .state) f)) (keeps _)
   frame-way o (ways.isAssigned r a) =
-      ready-kind o r (λ i. ne-eqb (dataOf f) 97 (address-high (w .state .role) (dataOf f) 97 (omega arith) a) i && eqb (w .state .role .talker) 1) refl
+      ready-kind o r (λ i. ne-eqb (dataOf f) 97 (address-high (w .state .talker .role) (dataOf f) 97 (omega arith) a) i && eqb (w .state .talker .role .phase) 1) refl
   frame-way o (ways.isSendAsked r a x) = send-kind
   frame-way o (ways.isTold r a x y) =
       sends ((λ i. cond (r .five i && y i) (dataFrame (said (sendStatus (w .state) .answer))) []) ∙ status-frame (w .state)) (keeps _)
   frame-way o (ways.isFinishing r a x y z) = ready-kind o r y refl
   frame-way o (ways.isReady r a x y z) = ready-kind o r y refl
-  frame-way o (ways.isIdentified r) = on-kind o (r .isdata) (r .four) (λ i. r .five i && (eqb (dataOf f) 97 && eqb (w .state .role .talker) 1)) refl
+  frame-way o (ways.isIdentified r) = on-kind o (r .isdata) (r .four) (λ i. r .five i && (eqb (dataOf f) 97 && eqb (w .state .talker .role .phase) 1)) refl
 
   frame-kind : Kind (on (loopFrame f)) w (calls.notRefused (on (loopFrame f)) w .said) (part (calls.notRefused (on (loopFrame f)) w .world .state))
   unfolding calls.notRefused outcome settledBy settled

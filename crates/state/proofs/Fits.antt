@@ -1,15 +1,15 @@
 -- What a state that fits gives to the functions of the bridge. Assumes nothing.
-use Prim.Native.Nat.{ℕ, zero, suc, _+_, _*_, _≤_, _<_}
+use Prim.Native.Nat.{ℕ, zero, suc, _+_, _*_, _≤_}
 use mathlib.Core.Path.{_≡_, refl, sym, _∙_}
 use mathlib.Core.List.{List, [], _∷_}
 use mathlib.Core.Bool.{Bool, true, false, _&&_, not}
 use lib.Dec.{leb}
 use lib.ListN.{length, getD}
-use borrow.Author.Tests.{leb-true, ltb-true, not-true, not-false}
+use borrow.Author.Tests.{leb-true, not-true, not-false}
 use Rattle.cases.proofs.Cases.{and-left, and-right}
 use Rattle.store.specs.Ring as store-ring
 use Rattle.store.proofs.Laws.{fit-true}
-use Rattle.role.specs.Fit as role-fit
+use Rattle.talker.specs.Fit as talker-fit
 use Rattle.registers.specs.Fit.{registersFit}
 use Rattle.state.specs.declared.State.{State}
 use Rattle.state.specs.Sizes.{allHold, marginObeyed, receiveObeyed, transmitObeyed, sizesObeyed, fitTests, fits, RxFits, TxFits}
@@ -47,20 +47,18 @@ sizes-hold m rx tx e =
 pub record Tests (s : State) (rx tx : ℕ) : Type 0 where
   pub sizes : sizesObeyed (s .margin) rx tx ≡ true
   pub regs : registersFit (s .regs) ≡ true
-  pub role : role-fit.fitTest (s .role) ≡ true
-  pub frame : s .under .frame < 1024
+  pub talker : talker-fit.fitTest (s .talker) ≡ true
   pub rxRing : store-ring.fitTest rx (s .rx) ≡ true
   pub txRing : store-ring.fitTest tx (s .tx) ≡ true
 
 pub tests : (s : State) (rx tx : ℕ) → fits s rx tx ≡ true → Tests s rx tx
-unfolding fits registersFit
+unfolding fits registersFit talker-fit.fitTest
 tests s rx tx e =
     let ts : List Bool = fitTests s rx tx in
     record {
       sizes = hold-at ts 2 e;
       regs = rw (hold-at ts 3 e, hold-at ts 4 e);
-      role = rw (hold-at ts 5 e, hold-at ts 6 e);
-      frame = ltb-true (s .under .frame) 1024 (hold-at ts 7 e);
+      talker = rw (hold-at ts 5 e, hold-at ts 6 e, hold-at ts 7 e);
       rxRing = hold-at ts 0 e;
       txRing = hold-at ts 1 e;
     }

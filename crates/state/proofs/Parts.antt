@@ -2,31 +2,33 @@
 use Prim.Native.Nat.{ℕ, _+_, _*_, _≤_, _<_}
 use mathlib.Core.Path.{_≡_}
 use mathlib.Core.Bool.{Bool, false, _&&_, _||_, and-assoc, and-true, and-false}
-use lib.Dec.{leb, ltb}
+use lib.Dec.{leb}
 use borrow.Author.Tests.{le-leb, lt-leb}
 use Rattle.registers.specs.declared.Registers.{Registers}
 use Rattle.registers.specs.Table.{startRegisters}
 use Rattle.registers.specs.Fit.{registersFit}
 use Rattle.registers.specs.Meanings.{requestsShow, overrunEnabled, transmitEmptyEnabled, transmitNotFullEnabled, receiveNotEmptyEnabled, receiveFullEnabled, breakEnabled, keyEnabled}
-use Rattle.role.specs.declared.Role.{Role}
-use Rattle.role.specs.Parts.{startRole}
-use Rattle.role.specs.Fit as role-fit
+use Rattle.role.specs.declared.remote.Remote.{Remote}
+use Rattle.role.specs.Remote.{startRemote}
+use Rattle.talker.specs.declared.Talker.{Talker}
+use Rattle.talker.specs.Parts.{startTalker}
+use Rattle.talker.specs.Fit as talker-fit
 use Rattle.store.specs.declared.Ring.{Ring}
 use Rattle.store.specs.Ring as store-ring
 use Rattle.status.specs.declared.Conditions.{Conditions}
 use Rattle.status.specs.declared.Events.{Events}
 use Rattle.status.specs.Status.{statusByte, both, begins, acknowledged}
 use Rattle.state.specs.declared.State.{State}
-use Rattle.state.specs.State.{noEvents, notesWith, noFrame}
+use Rattle.state.specs.State.{noEvents, notesWith}
 use Rattle.state.specs.Sizes.{sizesObeyed, startState, fits}
 use Rattle.state.specs.Status.{conditions, enabledBy, asking, withRequest, settled, shows, statusOf, afterStatus, afterStatusBack}
 
-pub start-met : (m a b : ℕ) (g : Registers) (r : Role) (x y : Ring) (p q : Events) → g ≡ startRegisters → r ≡ startRole → x ≡ store-ring.emptyRing a → y ≡ store-ring.emptyRing b → p ≡ noEvents → q ≡ noEvents →
+pub start-met : (m a b : ℕ) (g : Registers) (t : Talker) (r : Remote) (x y : Ring) (p q : Events) → g ≡ startRegisters → t ≡ startTalker → r ≡ startRemote → x ≡ store-ring.emptyRing a → y ≡ store-ring.emptyRing b → p ≡ noEvents → q ≡ noEvents →
     record {
       margin = m;
       regs = g;
-      role = r;
-      under = noFrame;
+      talker = t;
+      remote = r;
       rx = x;
       tx = y;
       line = record { holding = false; forbidden = false; stopped = false };
@@ -34,7 +36,7 @@ pub start-met : (m a b : ℕ) (g : Registers) (r : Role) (x y : Ring) (p q : Eve
       counts = record { stored = 0; lost = 0; sent = 0 };
     } ≡ startState m a b
 unfolding startState
-start-met m a b g r x y p q eg er ex ey ep eq = rw (eg, er, ex, ey, ep, eq)
+start-met m a b g t r x y p q eg et er ex ey ep eq = rw (eg, et, er, ex, ey, ep, eq)
 
 pub sizes-large : (m a b : ℕ) → 1024 < m → false ≡ sizesObeyed m a b
 unfolding sizesObeyed
@@ -44,9 +46,9 @@ pub sizes-met : (m a b : ℕ) → m ≤ 1024 → ((((leb 1 m && leb (2 * m + 2) 
 unfolding sizesObeyed
 sizes-met m a b h = simp (le-leb m 1024 h, and-assoc, and-true)
 
-pub fits-met : (s : State) (a b : ℕ) (x y z g r : Bool) → x ≡ store-ring.fitTest a (s .rx) → y ≡ store-ring.fitTest b (s .tx) → z ≡ sizesObeyed (s .margin) a b → g ≡ registersFit (s .regs) → r ≡ role-fit.fitTest (s .role) →
-    (((((x && y) && z) && g) && r) && ltb (s .under .frame) 1024) ≡ fits s a b
-unfolding fits registersFit
+pub fits-met : (s : State) (a b : ℕ) (x y z g r : Bool) → x ≡ store-ring.fitTest a (s .rx) → y ≡ store-ring.fitTest b (s .tx) →
+    z ≡ sizesObeyed (s .margin) a b → g ≡ registersFit (s .regs) → r ≡ talker-fit.fitTest (s .talker) → ((((x && y) && z) && g) && r) ≡ fits s a b
+unfolding fits registersFit talker-fit.fitTest
 fits-met s a b x y z g r ex ey ez eg er = rw (ex, ey, ez, eg, er) (simp (and-assoc, and-true))
 
 pub enabled-met : (g : Registers) (a b c d e f h : Bool) → a ≡ transmitEmptyEnabled g → b ≡ transmitNotFullEnabled g → c ≡ receiveNotEmptyEnabled g → d ≡ receiveFullEnabled g → e ≡ breakEnabled g → f ≡ overrunEnabled g → h ≡ keyEnabled g →

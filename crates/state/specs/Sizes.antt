@@ -6,10 +6,12 @@ use lib.Dec.{leb, ltb}
 use Rattle.registers.specs.Table.{startRegisters}
 use Rattle.registers.specs.Fit.{values, allInRange}
 use Rattle.registers.specs.Writing.{goIsStop}
-use Rattle.role.specs.Parts.{startRole, unassigned, activeStatus, isTalker}
+use Rattle.role.specs.Parts.{unassigned, activeStatus, isTalker}
+use Rattle.role.specs.Remote.{startRemote}
+use Rattle.talker.specs.Parts.{startTalker}
 use Rattle.store.specs.Ring as store-ring
 use Rattle.state.specs.declared.State.{State}
-use Rattle.state.specs.State.{noEvents, noFrame}
+use Rattle.state.specs.State.{noEvents}
 
 -- every test of a list holds
 abbrev pub allHold : List Bool → Bool
@@ -41,8 +43,8 @@ startState m rx tx =
     record {
       margin = m;
       regs = startRegisters;
-      role = startRole;
-      under = noFrame;
+      talker = startTalker;
+      remote = startRemote;
       rx = store-ring.emptyRing rx;
       tx = store-ring.emptyRing tx;
       line = record { holding = false; forbidden = false; stopped = false };
@@ -64,10 +66,10 @@ abbrev pub registersInRange : State → Bool
 registersInRange s = allInRange (values (s .regs))
 
 abbrev pub roleInRange : State → Bool
-roleInRange s = leb (s .role .address) unassigned && leb (s .role .talker) activeStatus
+roleInRange s = leb (s .talker .role .address) unassigned && leb (s .talker .role .phase) activeStatus
 
 abbrev pub frameInRange : State → Bool
-frameInRange s = ltb (s .under .frame) 1024
+frameInRange s = ltb (s .talker .under .frame) 1024
 
 -- go and stop differ
 abbrev pub goAndStopDiffer : State → Bool
@@ -75,7 +77,7 @@ goAndStopDiffer s = not (goIsStop (s .regs))
 
 -- not talker and listener at once
 abbrev pub notBoth : State → Bool
-notBoth s = not (isTalker (s .role) && s .role .listener)
+notBoth s = not (isTalker (s .talker .role) && s .talker .role .listener)
 
 abbrev pub fitTests : State → ℕ → ℕ → List Bool
 fitTests s rx tx =

@@ -6,7 +6,6 @@ use crate::Counts;
 use crate::Line;
 use crate::Notes;
 use crate::State;
-use crate::Under;
 use status::Events;
 
 // Whether the margin and the lengths obey the sizes.
@@ -38,11 +37,8 @@ pub fn start(m: usize, rx: usize, tx: usize) -> State
     State {
         margin: m,
         regs: registers::start(),
-        role: role::start(),
-        under: Under {
-            frame: 0,
-            finishing: false,
-        },
+        talker: talker::start(),
+        remote: role::remote::start(),
         rx: store::emptied(rx),
         tx: store::emptied(tx),
         line: Line {
@@ -71,6 +67,5 @@ pub fn state_fits(s: State, rx: usize, tx: usize) -> bool
         & store::ring_fits(tx, s.tx)
         & sizes_obeyed(s.margin, rx, tx)
         & registers::registers_fit(s.regs)
-        & role::role_fits(s.role)
-        & (s.under.frame < 1024)
+        & talker::talker_fits(s.talker)
 }

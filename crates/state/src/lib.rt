@@ -1,18 +1,13 @@
 // The state of the bridge by value, whether it fits its stores, and its service requests.
 use answers::Answer;
 use registers::Registers;
-use role::Role;
+use role::remote::Remote;
 use status::Events;
 use store::Ring;
+use talker::Talker;
 
 pub mod fitting;
 pub mod requests;
-
-// The frame under way, which calls keep without its service bit, and whether sending ends after it.
-pub struct Under {
-    pub frame: u16,
-    pub finishing: bool,
-}
 
 // Whether we hold the line off, whether the other end forbids our sending, and whether stop was the last of go and stop that we sent.
 pub struct Line {
@@ -39,8 +34,8 @@ pub struct Counts {
 pub struct State {
     pub margin: usize,
     pub regs: Registers,
-    pub role: Role,
-    pub under: Under,
+    pub talker: Talker,
+    pub remote: Remote,
     pub rx: Ring,
     pub tx: Ring,
     pub line: Line,

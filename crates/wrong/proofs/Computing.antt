@@ -10,7 +10,11 @@ use Rattle.registers.specs.Fit.{values, allInRange, registersFit}
 use Rattle.registers.specs.Writing.{written, writeChecks}
 use Rattle.role.specs.Orders as orders
 use Rattle.role.specs.Commands as commands
+use Rattle.role.specs.Remote.{obeyedRemote}
 use Rattle.role.specs.ReadyFrames.{readyOf}
+use Rattle.talker.specs.Commands as talker-commands
+use Rattle.talker.specs.Returns.{returnOf}
+use Rattle.talker.specs.Fit as talker-fit
 use Rattle.store.specs.Ring.{fitTest, putRing, putBytes, putsRing, putsBytes, dropRing}
 use Rattle.status.specs.Status.{statusByte}
 use Rattle.sending.specs.Sending.{sendHeld, sentRing}
@@ -19,7 +23,8 @@ use Rattle.state.specs.Sizes.{sizesObeyed, startState, fits}
 use Rattle.state.specs.Status as status
 use Rattle.line.specs.HoldingOff as line
 use Rattle.loops.specs.LoopToLine.{adds, busy, addedState, addedBytes}
-use Rattle.loops.specs.Sending.{talking, ended, ruleOf, removedState, sendState, sendFrom, sendStatus}
+use Rattle.talker.specs.Sending.{talking}
+use Rattle.loops.specs.Sending.{ended, ruleOf, removedState, sendState, sendFrom, sendStatus}
 use Rattle.loops.specs.Frames as frames
 use Rattle.bridge.specs.Calls as calls
 use Rattle.laws.specs.Observers as see
@@ -40,7 +45,7 @@ unfoldable runs-open : Unit {0}
 unfolding end all some course finally
 runs-open = tt
 
--- frames, the reading rule, registers, roles, stores and a send from one
+-- frames, the reading rule, registers, roles, the talker, stores and a send from one
 unfoldable parts-open : Unit {0}
 unfolding stripped withService sameApart inCuts byCuts cut table rowIn carriedOf startOf startRegisters tooLarge bitNotCarried inRange values
 parts-open = tt
@@ -50,8 +55,12 @@ unfolding allInRange registersFit written writeChecks orders.ownAddress orders.l
 registers-open = tt
 
 unfoldable roles-open : Unit {0}
-unfolding commands.merelyAddressed commands.changedRole commands.obeyedRole readyOf
+unfolding commands.merelyAddressed commands.changedRole commands.obeyedRole obeyedRemote readyOf
 roles-open = tt
+
+unfoldable talker-open : Unit {0}
+unfolding talker-commands.forgotten talker-commands.obeyedTalker talking returnOf talker-fit.fitTest
+talker-open = tt
 
 unfoldable stores-open : Unit {0}
 unfolding fitTest putRing putBytes putsRing putsBytes dropRing statusByte sendHeld sentRing
@@ -75,15 +84,15 @@ unfolding line.nextOut line.goneState line.outAnswer adds busy addedState addedB
 out-open = tt
 
 unfoldable sends-open : Unit {0}
-unfolding talking ended ruleOf removedState sendState sendFrom sendStatus
+unfolding ended ruleOf removedState sendState sendFrom sendStatus
 sends-open = tt
 
 unfoldable frames-open : Unit {0}
-unfolding frames.forgotten frames.cleared frames.obeyed frames.commandState frames.command frames.finishing frames.readied frames.ready
+unfolding frames.cleared frames.obeyed frames.commandState frames.command frames.readied frames.ready
 frames-open = tt
 
 unfoldable data-open : Unit {0}
-unfolding frames.returned frames.dataPassed frames.identify frames.frameTaken frames.deviceClear frames.addsBytes frames.frameBytes
+unfolding frames.judged frames.returned frames.dataPassed frames.identify frames.frameTaken frames.deviceClear frames.addsBytes frames.frameBytes
 data-open = tt
 
 -- the calls
@@ -105,11 +114,11 @@ unfolding holding.sends holding.holdingAfter next.afterByte next.forbiddenAfter 
 laws-open = tt
 
 unfoldable roles-said : Unit {0}
-unfolding roles.commanded roles.readied roles.returnedTo roles.byFrame places.writtenFrom places.placeAfter writtenTo comes
+unfolding roles.commanded roles.readied roles.returnedTo roles.byFrame roles.commandedRemote roles.remoteByFrame places.writtenFrom places.placeAfter writtenTo comes
 roles-said = tt
 
 unfoldable bridge-open : Unit {0}
-unfolding parts-open registers-open roles-open stores-open state-open status-open line-open out-open sends-open frames-open data-open calls-open
+unfolding parts-open registers-open roles-open talker-open stores-open state-open status-open line-open out-open sends-open frames-open data-open calls-open
 bridge-open = tt
 
 unfoldable pub computes : Unit {0}

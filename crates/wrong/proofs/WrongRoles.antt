@@ -1,12 +1,13 @@
--- Every bridge whose role goes wrong breaks the law of roles. Assumes nothing.
+-- Every bridge whose role or whose remote flags go wrong breaks the law of roles or that of the remote flags. Assumes nothing.
 use mathlib.Core.Path.{refl, ap}
 use mathlib.Core.Bool.{Bool, false≢true, true≢false}
 use lib.Dec.{eqb}
 use Rattle.role.specs.declared.Role.{Role}
+use Rattle.role.specs.declared.remote.Remote.{Remote}
 use Rattle.role.specs.Parts.{isTalker, isActive, isUnassigned}
 use Rattle.laws.specs.Fitting.{KeepsFit}
-use Rattle.laws.specs.Roles.{RoleGoes}
-use Rattle.wrong.specs.SmallWorlds.{fresh, assigned, unenabled, listening, addressedTalker, activeTalker, takes, takesCommand, takesReady}
+use Rattle.laws.specs.Roles.{RoleGoes, RemoteGoes}
+use Rattle.wrong.specs.SmallWorlds.{fresh, assigned, listening, addressedTalker, activeTalker, takes, takesCommand, takesReady}
 use Rattle.wrong.specs.WrongSends.{passesAll}
 use Rattle.wrong.specs.WrongRoles.{ignoring, neverTalker, neverListener, listensTo31, talkerAndListener}
 use Rattle.wrong.specs.WrongRoles.{activeThroughout, neverEnds, readdressed, remoteUnasked}
@@ -17,11 +18,11 @@ use Rattle.wrong.proofs.Small.{are-bytes}
 abbrev isListener : Role → Bool
 isListener r = r .listener
 
-abbrev isEnabled : Role → Bool
-isEnabled r = r .enabled
+abbrev isEnabled : Remote → Bool
+isEnabled m = m .enabled
 
-abbrev isRemote : Role → Bool
-isRemote r = r .remote
+abbrev isRemote : Remote → Bool
+isRemote m = m .remote
 
 -- ---- commands without notice
 
@@ -29,15 +30,15 @@ pub ignoring-144-falls : Breaks (ignoring 144) RoleGoes
 unfolding computes
 ignoring-144-falls law = true≢false (ap isListener (law (takesCommand 144) listening are-bytes refl))
 
-pub ignoring-146-falls : Breaks (ignoring 146) RoleGoes
+pub ignoring-146-falls : Breaks (ignoring 146) RemoteGoes
 unfolding computes
 ignoring-146-falls law = false≢true (ap isEnabled (law (takesCommand 146) fresh are-bytes refl))
 
-pub ignoring-147-falls : Breaks (ignoring 147) RoleGoes
+pub ignoring-147-falls : Breaks (ignoring 147) RemoteGoes
 unfolding computes
 ignoring-147-falls law = true≢false (ap isRemote (law (takesCommand 147) listening are-bytes refl))
 
-pub ignoring-1-falls : Breaks (ignoring 1) RoleGoes
+pub ignoring-1-falls : Breaks (ignoring 1) RemoteGoes
 unfolding computes
 ignoring-1-falls law = true≢false (ap isRemote (law (takesCommand 1) listening are-bytes refl))
 
@@ -87,6 +88,6 @@ pub readdressed-falls : Breaks readdressed RoleGoes
 unfolding computes
 readdressed-falls law = true≢false (ap (λ (r : Role). eqb (r .address) 7) (law (takesReady 135) assigned are-bytes refl))
 
-pub remote-unasked-falls : Breaks remoteUnasked RoleGoes
+pub remote-unasked-falls : Breaks remoteUnasked RemoteGoes
 unfolding computes
-remote-unasked-falls law = true≢false (ap isRemote (law (takesCommand 37) unenabled are-bytes refl))
+remote-unasked-falls law = true≢false (ap isRemote (law (takesCommand 37) assigned are-bytes refl))

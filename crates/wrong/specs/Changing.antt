@@ -4,8 +4,11 @@ use mathlib.Core.Bool.{Bool, true, false, cond, _&&_}
 use lib.Dec.{eqb}
 use Rattle.answers.specs.Refusals.{firstRefusal}
 use Rattle.frame.specs.Frame.{controlOf, dataOf}
+use Rattle.role.specs.declared.Role.{Role}
+use Rattle.talker.specs.declared.Under.{Under}
 use Rattle.state.specs.declared.State.{State}
 use Rattle.answers.specs.Answers.{Said, refused, isRefusal}
+use Rattle.state.specs.State.{withTalker}
 use Rattle.bridge.specs.Calls.{Call, create, show, on, World, world, Did, checks, notRefused, step}
 use Rattle.laws.specs.Observers.{onFrame}
 
@@ -51,14 +54,21 @@ withMargin s m =
     record {
       margin = m;
       regs = s .regs;
-      role = s .role;
-      under = s .under;
+      talker = s .talker;
+      remote = s .remote;
       rx = s .rx;
       tx = s .tx;
       line = s .line;
       notes = s .notes;
       counts = s .counts;
     }
+
+-- the state with this role, and with this frame under way
+abbrev pub withRole : State → Role → State
+withRole s r = withTalker s (record { role = r; under = s .talker .under })
+
+abbrev pub withUnder : State → Under → State
+withUnder s u = withTalker s (record { role = s .talker .role; under = u })
 
 -- ---- calls
 

@@ -6,13 +6,14 @@ use Rattle.frame.specs.Frame.{made}
 use Rattle.registers.specs.Table.{startRegisters}
 use Rattle.registers.specs.Writing.{written}
 use Rattle.role.specs.declared.Role.{Role}
-use Rattle.role.specs.Parts.{withTalker, withEnabled}
+use Rattle.role.specs.Parts.{withPhase}
 use Rattle.state.specs.declared.State.{State}
 use Rattle.state.specs.Sizes.{startState}
-use Rattle.state.specs.State.{withRegisters, withRole, withUnder, withRx, withTx, withCounts}
+use Rattle.state.specs.State.{withRegisters, withRemote, withRx, withTx, withCounts}
 use Rattle.state.specs.Status.{withRequest}
 use Rattle.bridge.specs.Calls.{Call, on, loopFrame, World, world}
 use Rattle.laws.specs.Events.{Event}
+use Rattle.wrong.specs.Changing.{withRole, withUnder}
 use Rattle.wrong.specs.Seeing.{withNoted}
 use Rattle.wrong.specs.Worlds.{ring, oneToFour}
 
@@ -48,28 +49,25 @@ misfitting = world (startState 2 4 3) oneToFour transmitBytes
 abbrev playing : Role → World
 playing r = started (λ s. withRole s r)
 
--- at address 5 with remote enabled: neither talker nor listener; listener and remote; addressed talker; active with data
+-- at address 5: neither talker nor listener; listener; addressed talker; active with data
 abbrev neither : Role
-neither = record { address = 5; talker = 0; listener = false; enabled = true; remote = false }
+neither = record { address = 5; phase = 0; listener = false }
 
 abbrev listener : Role
-listener = record { address = 5; talker = 0; listener = true; enabled = true; remote = true }
+listener = record { address = 5; phase = 0; listener = true }
 
 abbrev talker : Role
-talker = withTalker neither 1
+talker = withPhase neither 1
 
 abbrev active : Role
-active = withTalker neither 2
+active = withPhase neither 2
 
 abbrev pub assigned : World
 assigned = playing neither
 
--- the same, remote not enabled
-abbrev pub unenabled : World
-unenabled = playing (withEnabled neither false)
-
+-- a listener that is remote
 abbrev pub listening : World
-listening = playing listener
+listening = started (λ s. withRemote (withRole s listener) (record { enabled = true; remote = true }))
 
 abbrev pub addressedTalker : World
 addressedTalker = playing talker

@@ -7,11 +7,12 @@ use Rattle.frame.specs.Frame.{made}
 use Rattle.registers.specs.Table.{startRegisters}
 use Rattle.registers.specs.Writing.{written}
 use Rattle.store.specs.declared.Ring.{Ring}
-use Rattle.role.specs.Parts.{startRole, addressed, activeData, activeStatus, withTalker, withListener}
+use Rattle.role.specs.Parts.{startRole, addressed, activeData, activeStatus, withPhase, withListener}
 use Rattle.state.specs.Sizes.{startState}
-use Rattle.state.specs.State.{withRegisters, withRole, withUnder, withRx, withTx, withLine, withCounts}
+use Rattle.state.specs.State.{withRegisters, withRx, withTx, withLine, withCounts}
 use Rattle.bridge.specs.Calls.{World, world}
 use Rattle.laws.specs.Events.{Event}
+use Rattle.wrong.specs.Changing.{withRole, withUnder}
 use Rattle.wrong.specs.Seeing.{having, withNoted, withForbidden}
 
 -- a store of so many places that holds n bytes, the oldest at place p
@@ -24,7 +25,7 @@ ring cap p n = record { cap = cap; oldest = p; len = n }
 abbrev pub fullOf : List ℕ → World
 fullOf bs =
     world
-    (withRole (withRegisters (withRx (startState 1 (length bs) 3) (ring (length bs) 0 (length bs))) (written startRegisters 10 8)) (withTalker startRole addressed))
+    (withRole (withRegisters (withRx (startState 1 (length bs) 3) (ring (length bs) 0 (length bs))) (written startRegisters 10 8)) (withPhase startRole addressed))
     bs (0 ∷ 0 ∷ 0 ∷ [])
 
 -- two lines, "1" and "2", each with 13 and 10 behind it
@@ -38,7 +39,7 @@ full = fullOf twoLines
 abbrev pub oneSent : ℕ → ℕ → World
 oneSent phase f =
     having
-    (λ s. withCounts (withUnder (withRole (withRx s (ring 6 3 3)) (withTalker startRole phase)) (record { frame = f; finishing = false }))
+    (λ s. withCounts (withUnder (withRole (withRx s (ring 6 3 3)) (withPhase startRole phase)) (record { frame = f; finishing = false }))
     (record { stored = 0; lost = 0; sent = 1 }))
     full
 
@@ -49,7 +50,7 @@ fullNoting e = having (withNoted e true) full
 -- where the status byte 47 is under way
 abbrev pub statusUnderWay : World
 statusUnderWay =
-    having (λ s. withUnder (withRole s (withTalker startRole activeStatus)) (record { frame = made 0 47; finishing = false })) full
+    having (λ s. withUnder (withRole s (withPhase startRole activeStatus)) (record { frame = made 0 47; finishing = false })) full
 
 -- the frame that carries "1" of the first line, and the same with another device's request
 abbrev pub firstFrame : ℕ
@@ -100,12 +101,12 @@ cameIn k holding stopped =
 
 -- an addressed talker, and the same when "1" has gone as 0,49 and n bytes are held, of k that came in
 abbrev pub talkerCameIn : ℕ → Bool → World
-talkerCameIn k holding = having (λ s. withRole s (withTalker startRole addressed)) (cameIn k holding false)
+talkerCameIn k holding = having (λ s. withRole s (withPhase startRole addressed)) (cameIn k holding false)
 
 abbrev pub oneGone : ℕ → ℕ → Bool → World
 oneGone k n holding =
     having
-    (λ s. withUnder (withRole (withCounts (withRx s (ring 4 1 n)) (record { stored = k; lost = 0; sent = 1 })) (withTalker startRole activeData))
+    (λ s. withUnder (withRole (withCounts (withRx s (ring 4 1 n)) (record { stored = k; lost = 0; sent = 1 })) (withPhase startRole activeData))
     (record { frame = made 0 49; finishing = false }))
     (cameIn k holding false)
 

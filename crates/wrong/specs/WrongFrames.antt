@@ -14,7 +14,7 @@ use Rattle.wrong.specs.Changing.{answeringFrame}
 
 -- answers 128+n with 128+n: the next device gets the same address
 abbrev pub sameAddressOn : Call → World → Did
-sameAddressOn = answeringFrame (λ w f. eqb (controlOf f) 5 && assigns (w .state .role) (dataOf f)) (λ w f a. asFrame f)
+sameAddressOn = answeringFrame (λ w f. eqb (controlOf f) 5 && assigns (w .state .talker .role) (dataOf f)) (λ w f a. asFrame f)
 
 -- sets the service bit on commands, which makes other frames of them
 abbrev pub serviceOnCommands : Call → World → Did

@@ -1,27 +1,27 @@
--- Bridges whose role on the loop goes wrong.
+-- Bridges whose role on the loop or whose remote flags go wrong.
 use Prim.Native.Nat.{ℕ, _+_}
 use mathlib.Core.Bool.{Bool, true, false, cond, _&&_}
 use lib.Dec.{eqb, leb, ltb}
 use Rattle.frame.specs.Frame.{controlOf, dataOf, isData}
 use Rattle.role.specs.declared.Role.{Role}
-use Rattle.role.specs.Parts.{isUnassigned, isActive, withAddress, withTalker, withListener, withRemote}
+use Rattle.role.specs.Parts.{isUnassigned, isActive, withAddress, withPhase, withListener}
 use Rattle.role.specs.Orders.{numberOf}
-use Rattle.state.specs.State.{withRole}
+use Rattle.state.specs.State.{withRemote}
 use Rattle.bridge.specs.Calls.{Call, World, Did}
 use Rattle.laws.specs.Observers.{onFrame}
-use Rattle.wrong.specs.Changing.{afterwards, isCommand}
+use Rattle.wrong.specs.Changing.{afterwards, isCommand, withRole}
 
 -- ours, with the role changed by the role before and after the call
 abbrev turning : (Call → Role → Role → Role) → Call → World → Did
-turning change = afterwards (λ c w s. withRole s (change c (w .state .role) (s .role)))
+turning change = afterwards (λ c w s. withRole s (change c (w .state .talker .role) (s .talker .role)))
 
 -- takes no notice of the command d
 abbrev pub ignoring : ℕ → Call → World → Did
-ignoring d = turning (λ c before after. cond (isCommand d c) before after)
+ignoring d = afterwards (λ c w s. cond (isCommand d c) (withRemote (withRole s (w .state .talker .role)) (w .state .remote)) s)
 
 -- is never talker: also 64+n with our own address ends talking
 abbrev pub neverTalker : Call → World → Did
-neverTalker = turning (λ c before after. cond (isCommand (64 + before .address) c) (withTalker after 0) after)
+neverTalker = turning (λ c before after. cond (isCommand (64 + before .address) c) (withPhase after 0) after)
 
 -- is never listener: 32+n with our own address does not make us one
 abbrev pub neverListener : Call → World → Did
@@ -29,15 +29,15 @@ neverListener = turning (λ c before after. cond (isCommand (32 + before .addres
 
 -- reads 63 as the listen address 31 while unassigned
 abbrev pub listensTo31 : Call → World → Did
-listensTo31 = turning (λ c before after. cond (isUnassigned before && isCommand 63 c) (withListener (withTalker after 0) true) after)
+listensTo31 = turning (λ c before after. cond (isUnassigned before && isCommand 63 c) (withListener (withPhase after 0) true) after)
 
 -- stays talker when it becomes listener
 abbrev pub talkerAndListener : Call → World → Did
-talkerAndListener = turning (λ c before after. cond (isCommand (32 + before .address) c) (withTalker after (before .talker)) after)
+talkerAndListener = turning (λ c before after. cond (isCommand (32 + before .address) c) (withPhase after (before .phase)) after)
 
 -- ours, where an active talker stays active at the frames that the test finds
 abbrev activeAt : (ℕ → Bool) → Call → World → Did
-activeAt test = turning (λ c before after. cond (onFrame test false c && isActive before) (withTalker after (before .talker)) after)
+activeAt test = turning (λ c before after. cond (onFrame test false c && isActive before) (withPhase after (before .phase)) after)
 
 -- an active talker stays active at a command
 abbrev pub activeThroughout : Call → World → Did
@@ -57,4 +57,4 @@ readdressed = turning (λ c before after. onFrame (λ f. cond (offersAddress f) 
 
 -- becomes remote at its listen address though that is not enabled
 abbrev pub remoteUnasked : Call → World → Did
-remoteUnasked = turning (λ c before after. cond (isCommand (32 + before .address) c) (withRemote after true) after)
+remoteUnasked = afterwards (λ c w s. cond (isCommand (32 + w .state .talker .role .address) c) (withRemote s (record { enabled = s .remote .enabled; remote = true })) s)

@@ -7,10 +7,10 @@ use Rattle.registers.specs.Writing.{written}
 use Rattle.role.specs.Parts.{withAddress}
 use Rattle.state.specs.declared.State.{State}
 use Rattle.answers.specs.Answers.{done}
-use Rattle.state.specs.State.{withRegisters, withRole, withCounts}
+use Rattle.state.specs.State.{withRegisters, withCounts}
 use Rattle.bridge.specs.Calls.{reset, Call, World, Did}
 use Rattle.laws.specs.Observers.{onOne, onWrite, restarts, clears}
-use Rattle.wrong.specs.Changing.{afterwards, withMargin, isCreate}
+use Rattle.wrong.specs.Changing.{afterwards, withMargin, isCreate, withRole}
 
 -- ours, where a reset leaves another state
 abbrev resetting : (World → State → State) → Call → World → Did
@@ -28,7 +28,7 @@ createKeepsCounts = afterwards (λ c w s. cond (isCreate c) (withCounts s (w .st
 
 -- starts at address 0, as if one had been given
 abbrev pub startsAssigned : Call → World → Did
-startsAssigned = afterwards (λ c w s. cond (restarts c done) (withRole s (withAddress (s .role) 0)) s)
+startsAssigned = afterwards (λ c w s. cond (restarts c done) (withRole s (withAddress (s .talker .role) 0)) s)
 
 -- reset makes the margin larger by one
 abbrev pub resetWidens : Call → World → Did

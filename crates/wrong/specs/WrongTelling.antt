@@ -4,19 +4,19 @@ use mathlib.Core.Bool.{false, _&&_, _||_}
 use lib.Dec.{eqb}
 use Rattle.frame.specs.Frame.{made, isData}
 use Rattle.role.specs.Parts.{activeStatus}
-use Rattle.state.specs.State.{withUnder}
 use Rattle.answers.specs.Answers.{done}
 use Rattle.bridge.specs.Calls.{Call, World, Did}
 use Rattle.laws.specs.Events.{Event, noted}
 use Rattle.laws.specs.Observers.{any, onFrame, equalReturn, lost}
+use Rattle.wrong.specs.Changing.{withUnder}
 use Rattle.wrong.specs.Seeing.{Sight, afterSight, insteadAt, only, always, statusAsked, withNoted}
 
 -- a data frame comes back while status is under way, and one that is equal to it
 abbrev pub statusReturns : Sight
-statusReturns c w a = onFrame (λ f. isData f && eqb (w .state .role .talker) activeStatus) false c
+statusReturns c w a = onFrame (λ f. isData f && eqb (w .state .talker .role .phase) activeStatus) false c
 
 abbrev pub statusReturnsEqual : Sight
-statusReturnsEqual c w a = onFrame (λ f. equalReturn (w .state) f && eqb (w .state .role .talker) activeStatus) false c
+statusReturnsEqual c w a = onFrame (λ f. equalReturn (w .state) f && eqb (w .state .talker .role .phase) activeStatus) false c
 
 -- Slips we have seen, the first: forgets it as soon as status is sent
 abbrev pub forgetful : Event → Call → World → Did

@@ -22,7 +22,7 @@ returns-3 c =
 
 returns-4 : tie.Need-returns-4
 returns-4 c =
-    ready-finish _ _ _ _ _ (c .before .before .before .before .data-byte .ensures) (c .before .before .before .ready-of .ensures) _ (c .before .enum-told4 .given .1) (c .finish .ensures)
+    ready-finish _ _ _ _ _ (c .before .before .before .before .data-byte .ensures) (c .before .before .before .ready-of .ensures) _ (c .before .enum-told4 .given .1) (c .finishing .ensures)
 
 returns-5 : tie.Need-returns-5
 returns-5 c =

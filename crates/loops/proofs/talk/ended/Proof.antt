@@ -5,7 +5,7 @@ use Rattle.loops.proofs.talk.ended.Tie as tie
 
 returns : tie.Need-returns
 returns c =
-    ended-met _ _ _ _ (c .before .talking .ensures) (c .make .ensures)
+    ended-met _ _ _ _ (c .before .ended .ensures) (c .make .ensures)
 
 pub ended-spec : {M : Type 1} → statement M
 ended-spec =
