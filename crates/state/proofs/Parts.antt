@@ -44,7 +44,8 @@ pub sizes-met : (m a b : ℕ) → m ≤ 1024 → ((((leb 1 m && leb (2 * m + 2) 
 unfolding sizesObeyed
 sizes-met m a b h = simp (le-leb m 1024 h, and-assoc, and-true)
 
-pub fits-met : (s : State) (a b : ℕ) (x y z g r : Bool) → x ≡ store-ring.fitTest a (s .rx) → y ≡ store-ring.fitTest b (s .tx) → z ≡ sizesObeyed (s .margin) a b → g ≡ registersFit (s .regs) → r ≡ role-fit.fitTest (s .role) →
+pub fits-met : (s : State) (a b : ℕ) (x y z g r : Bool) → x ≡ store-ring.fitTest a (s .rx) → y ≡ store-ring.fitTest b (s .tx) →
+    z ≡ sizesObeyed (s .margin) a b → g ≡ registersFit (s .regs) → r ≡ role-fit.fitTest (s .role) →
     (((((x && y) && z) && g) && r) && ltb (s .under .frame) 1024) ≡ fits s a b
 unfolding fits registersFit
 fits-met s a b x y z g r ex ey ez eg er = rw (ex, ey, ez, eg, er) (simp (and-assoc, and-true))
