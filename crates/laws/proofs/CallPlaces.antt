@@ -1,5 +1,5 @@
 -- Every call that is not refused puts its bytes at the next places. Assumes nothing.
-use Prim.Native.Nat.{ℕ, _+_, _-_, _≤_}
+use Prim.Native.Nat.{ℕ, _+_, _≤_}
 use native.Mathlib.Omega.{arith}
 use mathlib.Core.Path.{_≡_, refl, sym, _∙_}
 use mathlib.Core.Bool.{Bool, true, false, cond, _&&_, not, and-false}
@@ -15,6 +15,7 @@ use Rattle.role.specs.Parts.{isActive}
 use Rattle.talker.proofs.FitLaws as talker-laws
 use Rattle.store.specs.declared.Ring.{Ring}
 use Rattle.store.specs.Ring.{full, emptyRing, putBytes, putsRing, putsBytes}
+use Rattle.store.specs.Ring as store-ring
 use Rattle.store.proofs.Laws.{put-full}
 use Rattle.state.specs.declared.State.{State}
 use Rattle.state.specs.declared.Out.{Out}
@@ -96,9 +97,9 @@ module _ (w : World) (e : Fits w) where
       w .state .tx .len + length (adds (w .state .regs) n) ≤ length (w .tx)
   unfolding busy
   room n d l b =
-      let r : ltb (w .state .tx .cap - w .state .tx .len) (length (adds (w .state .regs) n)) ≡ false =
-      (λ i. (sym l i && sym d i) && ltb (w .state .tx .cap - w .state .tx .len) (length (adds (w .state .regs) n))) ∙ b in
-      omega (arith, ltb-false (w .state .tx .cap - w .state .tx .len) (length (adds (w .state .regs) n)) r, g .ring .cap, g .ring .within .len)
+      let r : ltb (store-ring.room (w .state .tx)) (length (adds (w .state .regs) n)) ≡ false =
+      (λ i. (sym l i && sym d i) && ltb (store-ring.room (w .state .tx)) (length (adds (w .state .regs) n))) ∙ b in
+      omega (arith, ltb-false (store-ring.room (w .state .tx)) (length (adds (w .state .regs) n)) r, g .ring .cap, g .ring .within .len)
 
   -- by whether the frame is a device clear, and whether it leaves bytes
   abbrev Framed : ℕ → State → Bool → Bool → Type 0

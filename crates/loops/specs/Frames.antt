@@ -50,7 +50,8 @@ home = 31
 unfoldable pub cleared : State → State
 cleared s =
     withNotes
-    (withLine (withTx (withRx s (emptyRing (s .rx .cap))) (emptyRing (s .tx .cap))) (record { holding = false; forbidden = false; stopped = s .line .stopped }))
+    (withLine (withTx (withRx s (emptyRing (s .rx .cap))) (emptyRing (s .tx .cap)))
+    (record { holding = false; forbidden = false; stopped = s .line .stopped }))
     (record { seen = noEvents; again = noEvents; request = false })
 
 -- the order is a device clear

@@ -111,5 +111,5 @@ unfolding isByte
 asks-enough w b e h =
     let f : TxFits (w .state) (w .tx) = tx-fits (w .state) (w .rx) (w .tx) e in
     let last : step (on nextLineByte) (lineWorld asks w) .said ≡ none =
-    until-none asks w b e (omega (arith, f .ring .len, at-most-one (owed (w .state .line)))) in
+    until-none asks w b e (omega (arith, f .ring .cap, f .ring .within .len, at-most-one (owed (w .state .line)))) in
     record { answer = last; same = λ n k. no-more asks n w k (ap isByte last) }

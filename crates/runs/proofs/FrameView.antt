@@ -1,5 +1,5 @@
 -- The kind of change of every loop frame. Assumes nothing.
-use Prim.Native.Nat.{ℕ, _+_, _-_, _≤_}
+use Prim.Native.Nat.{ℕ, _+_, _≤_}
 use native.Mathlib.Omega.{arith}
 use mathlib.Core.Path.{_≡_, refl, sym, subst, _∙_}
 use mathlib.Core.Bool.{Bool, true, false, cond, _&&_, _||_, not, and-false}
@@ -18,6 +18,7 @@ use Rattle.answers.specs.declared.Answer.the-variants.{Frame}
 use Rattle.answers.specs.Answers.{said}
 use Rattle.state.specs.Status.{settled}
 use Rattle.state.specs.Status as status
+use Rattle.store.specs.Ring as store-ring
 use Rattle.state.proofs.Fits.{tx-fits}
 use Rattle.line.specs.HoldingOff.{resumed}
 use Rattle.loops.specs.LoopToLine.{adds, busy, addedState, addedBytes}
@@ -68,9 +69,9 @@ module _ (w : World) (F : Fits w) (f : ℕ) (B : busy (w .state) f ≡ false) wh
   room : isData f ≡ true → w .state .talker .role .listener ≡ true → w .state .tx .len + length (adds (w .state .regs) f) ≤ w .state .tx .cap
   unfolding busy
   room d e =
-      let r : ltb (w .state .tx .cap - w .state .tx .len) (length (adds (w .state .regs) f)) ≡ false =
-      (λ i. (sym e i && sym d i) && ltb (w .state .tx .cap - w .state .tx .len) (length (adds (w .state .regs) f))) ∙ B in
-      omega (arith, ltb-false (w .state .tx .cap - w .state .tx .len) (length (adds (w .state .regs) f)) r, tx-fits (w .state) (w .rx) (w .tx) F .ring .within .len)
+      let r : ltb (store-ring.room (w .state .tx)) (length (adds (w .state .regs) f)) ≡ false =
+      (λ i. (sym e i && sym d i) && ltb (store-ring.room (w .state .tx)) (length (adds (w .state .regs) f))) ∙ B in
+      omega (arith, ltb-false (store-ring.room (w .state .tx)) (length (adds (w .state .regs) f)) r, tx-fits (w .state) (w .rx) (w .tx) F .ring .within .len)
 
   -- a listener is no active talker
   stores : addsBytes (w .state) f ≡ (isData f && w .state .talker .role .listener)

@@ -1,6 +1,6 @@
 -- Demand 3, first: the frames sent, and those of the bytes still held, are those of all the bytes there were. Assumes nothing.
 use Prim.Native.Nat.{ℕ, _<_}
-use mathlib.Core.Path.{_≡_, refl, sym, ap, subst, _∙_}
+use mathlib.Core.Path.{_≡_, refl, sym, ap, _∙_}
 use mathlib.Core.Bool.{false, false≢true}
 use mathlib.Core.List.{List, [], _∷_, _++_, append-assoc}
 use Rattle.store.specs.Ring.{held, putRing, putBytes}

@@ -1,6 +1,5 @@
 -- The kind of change of line bytes in and out, and of register writes. Assumes nothing.
 use Prim.Native.Nat.{ℕ, _≤_}
-use native.Mathlib.Omega.{arith}
 use mathlib.Core.Path.{_≡_, refl}
 use mathlib.Core.Bool.{Bool, true, false, cond, _||_}
 use lib.Dec.{eqb}
@@ -15,7 +14,6 @@ use Rattle.state.specs.declared.Out.{Out}
 use Rattle.state.specs.declared.Out.the-variants.{Own, Held, Nothing}
 use Rattle.state.specs.State.{withRegisters}
 use Rattle.answers.specs.Answers.{said, done}
-use Rattle.state.proofs.Fits.{rx-fits}
 use Rattle.line.specs.HoldingOff.{isGoOrStop, flowed, lostState, storedState, lineState, lineBytes, setAfresh, afterWrite, owed, nextOut, goneState, outAnswer}
 use Rattle.line.proofs.Parts.{some-held}
 use Rattle.bridge.specs.Calls.{on, write, lineByte, nextLineByte, World}

@@ -1,6 +1,5 @@
 -- Nothing but a send removes a byte from the receive store. Assumes nothing.
 use Prim.Native.Nat.{ℕ}
-use native.Mathlib.Omega.{arith}
 use mathlib.Core.Path.{_≡_, refl, sym, ap, _∙_}
 use mathlib.Core.Bool.{Bool, true, false, cond, _&&_, not, true≢false}
 use mathlib.Core.List.{List, [], _∷_, _++_, append-nil}
@@ -19,7 +18,6 @@ use Rattle.state.specs.declared.Out.{Out}
 use Rattle.state.specs.declared.Out.the-variants as out
 use Rattle.answers.specs.Answers.{said, refused}
 use Rattle.state.specs.Status.{settled, breakState, keyState, afterStatus, afterStatusBack}
-use Rattle.state.proofs.Fits.{rx-fits}
 use Rattle.line.specs.HoldingOff.{isGoOrStop, flowed, lostState, storedState, storedWith, lineState, lineBytes, setAfresh, afterWrite, nextOut, goneState}
 use Rattle.loops.specs.LoopToLine.{addedState}
 use Rattle.talker.specs.Sending.{talking}

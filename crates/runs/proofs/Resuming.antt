@@ -1,12 +1,12 @@
 -- A send that finds no frame leaves two bytes at most, so holding off ends. Assumes nothing.
-use Prim.Native.Nat.{ℕ, _+_, _-_, _*_, _≤_}
+use Prim.Native.Nat.{ℕ, _-_, _*_, _≤_}
 use native.Mathlib.Omega.{arith}
 use mathlib.Core.Path.{_≡_, refl, sym, subst, _∙_}
 use mathlib.Core.Bool.{Bool, true, false, cond, _&&_, not, false≢true}
 use mathlib.Core.List.{List, [], _∷_}
-use lib.Dec.{eqb, leb}
+use lib.Dec.{eqb}
 use lib.ListN.{length}
-use borrow.Author.Tests.{leb-true, le-leb}
+use borrow.Author.Tests.{le-leb}
 use Rattle.reading.specs.declared.Rule.{Rule}
 use Rattle.reading.specs.declared.Decision.{Decision}
 use Rattle.reading.specs.declared.Decision.the-variants.{Removed, End, Data, Wait}
@@ -27,7 +27,7 @@ use Rattle.line.specs.HoldingOff.{resumed}
 use Rattle.talker.specs.Sending.{talking}
 use Rattle.loops.specs.Sending.{ruleOf, ended, removedState, sendState, sendFrom}
 use Rattle.answers.specs.Refusals.{firstRefusal}
-use Rattle.cases.proofs.Cases.{and-left, and-right, cond-false}
+use Rattle.cases.proofs.Cases.{cond-false}
 use Rattle.state.specs.declared.Outcome.{Outcome}
 use Rattle.answers.specs.Answers.{said}
 use Rattle.loops.specs.Frames.{deviceClear}

@@ -1,7 +1,7 @@
 // A store: a ring of bytes on a lent slice. The bookkeeping is a struct by value, which knows the slice's length.
 ghost use mathlib.Core.Path.{_≡_};
 ghost use Prim.Native.Nat.{_+_, _≤_, _<_};
-ghost use lib.ListN.{length, getD};
+ghost use lib.ListN.{getD};
 ghost use Rattle.store.specs.Ring.{Within, Fit, fitTest, wrap, held, emptyRing, room};
 ghost use Rattle.store.specs.Promises.{Put, Dropped, Shown};
 

@@ -25,7 +25,8 @@ ring cap p n = record { cap = cap; oldest = p; len = n }
 abbrev pub fullOf : List ℕ → World
 fullOf bs =
     world
-    (withRole (withRegisters (withRx (startState 1 (length bs) 3) (ring (length bs) 0 (length bs))) (written startRegisters 10 8)) (withPhase startRole addressed))
+    (withRole (withRegisters (withRx (startState 1 (length bs) 3) (ring (length bs) 0 (length bs))) (written startRegisters 10 8))
+    (withPhase startRole addressed))
     bs (0 ∷ 0 ∷ 0 ∷ [])
 
 -- two lines, "1" and "2", each with 13 and 10 behind it
