@@ -52,8 +52,8 @@ module _ (r : Role) (m : Remote) where
       (by l t u b63 b144 b154 ≡ commanded r d) × (remoteBy l b146 b147 loc ≡ commandedRemote r m d)
   unfolding commanded commandedRemote
   by-tests d l t u b63 b144 b154 b146 b147 loc q = (
-      λ i. by (sym (q .listens) i) (sym (q .talks) i) (sym (q .untalks) i) (sym (q .is63) i) (sym (q .is144) i) (sym (q .is154) i),
-      λ i. remoteBy (sym (q .listens) i) (sym (q .is146) i) (sym (q .is147) i) (sym (q .local) i)
+    λ i. by (sym (q .listens) i) (sym (q .talks) i) (sym (q .untalks) i) (sym (q .is63) i) (sym (q .is144) i) (sym (q .is154) i),
+    λ i. remoteBy (sym (q .listens) i) (sym (q .is146) i) (sym (q .is147) i) (sym (q .local) i),
   )
 
   module _ (A : r .address ≤ 31) (d : ℕ) where

@@ -189,10 +189,10 @@ done-goes (on (loopFrame f)) w B e q =
     let o : Outcome = frameTaken (w .state) (w .rx) f in
     let u : Untouched (o .state) _ = settled-untouched (w .state) (deviceClear (w .state) f) (o .state) in
     let F : Fits w = fitting (loopFrame f) w e .0 in (
-    ap (λ (t : Talker). t .role) (u .talker) ∙ role-way w (held-all w B) F f o (way (w .state) (w .rx) f)
-    ∙ (λ i. cond (not (sym (frame-not-refused (w .state) (w .rx) f) i)) (byFrame f (w .state .talker .role) (said (o .answer))) (w .state .talker .role)),
-    u .remote ∙ remote-way w F f o (way (w .state) (w .rx) f)
-    ∙ (λ i. cond (not (sym (frame-not-refused (w .state) (w .rx) f) i)) (remoteByFrame f (w .state .talker .role) (w .state .remote)) (w .state .remote))
+      ap (λ (t : Talker). t .role) (u .talker) ∙ role-way w (held-all w B) F f o (way (w .state) (w .rx) f)
+          ∙ (λ i. cond (not (sym (frame-not-refused (w .state) (w .rx) f) i)) (byFrame f (w .state .talker .role) (said (o .answer))) (w .state .talker .role)),
+      u .remote ∙ remote-way w F f o (way (w .state) (w .rx) f)
+          ∙ (λ i. cond (not (sym (frame-not-refused (w .state) (w .rx) f) i)) (remoteByFrame f (w .state .talker .role) (w .state .remote)) (w .state .remote)),
     )
 
 refused-goes : (c : Call) (w : World) (n : ℕ) → Goes c w (record { said = refused n; world = w })
