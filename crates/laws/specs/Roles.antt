@@ -30,9 +30,9 @@ untalks r d = (leb 64 d && ltb d 96) && not (talks r d)
 abbrev pub listenerBy : Role → ℕ → Bool
 listenerBy r d = cond ((eqb d 63 || eqb d 144) || talks r d) false (listens r d || r .listener)
 
--- the talker's phase: 0 none, 1 addressed, 2 active with data, 3 active with status; an active one first becomes addressed
-abbrev pub phaseBy : Role → ℕ → ℕ
-phaseBy r d = cond ((listens r d || untalks r d) || eqb d 144) 0 (cond (talks r d || leb 2 (r .phase)) 1 (r .phase))
+-- the talker: 0 none, 1 addressed, 2 active with data, 3 active with status; an active one first becomes addressed
+abbrev pub talkerBy : Role → ℕ → ℕ
+talkerBy r d = cond ((listens r d || untalks r d) || eqb d 144) 0 (cond (talks r d || leb 2 (r .phase)) 1 (r .phase))
 
 -- Frames, commands, 154
 abbrev pub addressBy : Role → ℕ → ℕ
@@ -47,7 +47,7 @@ abbrev pub remoteBy : Role → Remote → ℕ → Bool
 remoteBy r m d = cond (eqb d 147 || (eqb d 1 && r .listener)) false (cond (listens r d) (m .remote || m .enabled) (m .remote))
 
 unfoldable pub commanded : Role → ℕ → Role
-commanded r d = record { address = addressBy r d; phase = phaseBy r d; listener = listenerBy r d }
+commanded r d = record { address = addressBy r d; phase = talkerBy r d; listener = listenerBy r d }
 
 unfoldable pub commandedRemote : Role → Remote → ℕ → Remote
 commandedRemote r m d = record { enabled = enabledBy m d; remote = remoteBy r m d }

@@ -161,6 +161,7 @@ pub rule-met : (g : Registers) (on : Bool) → on ≡ endDetected g → record {
 unfolding ruleOf
 rule-met g on p = rw p
 
-pub status-met : (s t : State) (u : Talker) (b x out : ℕ) → b ≡ statusOf s → x ≡ made 0 b → out ≡ serviced s x → t ≡ afterStatus s → u ≡ talking (s .talker) 3 x → record { state = withTalker t u; answer = Frame out } ≡ sendStatus s
+pub status-met : (s t : State) (u : Talker) (b x out : ℕ) → b ≡ statusOf s → x ≡ made 0 b → out ≡ serviced s x → t ≡ afterStatus s →
+    u ≡ talking (s .talker) 3 x → record { state = withTalker t u; answer = Frame out } ≡ sendStatus s
 unfolding sendStatus
 status-met s t u b x out p q r e z = rw (z, e, r, q, p)

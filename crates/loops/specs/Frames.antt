@@ -1,4 +1,4 @@
--- "Frames": what each frame taken does, and the one frame out.
+-- Frames: what each frame taken does, and the one frame out.
 use Prim.Native.Nat.{ℕ, _+_}
 use mathlib.Core.Bool.{Bool, true, false, cond, _&&_, _||_, not}
 use mathlib.Core.List.{List}
@@ -46,7 +46,7 @@ passed s f = record { state = s; answer = Frame f }
 abbrev pub home : ℕ
 home = 31
 
--- "device clear. Both stores empty, hold-off and the other end's stop end, overrun, break, key and service request clear."
+-- Frames, commands, 20 and 4: nothing is held, the line flows both ways, and nothing is to be told; what we sent last, go or stop, is remembered
 unfoldable pub cleared : State → State
 cleared s =
     withNotes
@@ -80,11 +80,11 @@ commandState s o = cond (isClear o) (cleared (obeyed s o)) (obeyed s o)
 abbrev pub orderIn : State → ℕ → Order
 orderIn s f = orderOf home (s .talker .role) (dataOf f)
 
--- "Commands go on unchanged."
+-- Frames, commands: every device on the loop is to hear them
 unfoldable pub command : State → ℕ → Outcome
 command s f = passed (commandState s (orderIn s f)) f
 
--- the same with requests settled: "A device clear leaves no request."
+-- the same with requests settled; Status byte, a device clear: no request is left, and none begins by it
 unfoldable pub commandSettled : State → ℕ → Outcome
 commandSettled s f =
     record {
@@ -125,7 +125,7 @@ judged s rx Next = sendFrom s rx
 unfoldable pub returned : State → List ℕ → ℕ → Outcome
 returned s rx f = judged s rx (returnOf (s .talker) f)
 
--- "Other data frames pass; a listener also stores them."
+-- Frames, other data frames: a listener keeps what passes
 unfoldable pub dataPassed : State → ℕ → Outcome
 dataPassed s f = passed (cond (s .talker .role .listener) (addedState s f) s) (serviced s f)
 
@@ -135,7 +135,7 @@ pub record Passed (s : State) (tx : List ℕ) (f : ℕ) (tx′ : List ℕ) (o : 
   pub bytes : tx′ ≡ cond (s .talker .role .listener) (addedBytes s tx f) tx
   pub size : length tx′ ≡ length tx
 
--- "identify frames, get the service bit if a request showed before the call"
+-- Frames, the service bit, identify frames: only the service bit is ours to change
 unfoldable pub identify : State → ℕ → Outcome
 identify s f = passed s (serviced s f)
 

@@ -1,4 +1,4 @@
--- "A send from the receive store", and how sending ends.
+-- The reading rule, a send from the receive store; the status byte; and how sending ends.
 use Prim.Native.Nat.{ℕ}
 use mathlib.Core.List.{List}
 use Rattle.frame.specs.Frame.{made}
@@ -30,7 +30,7 @@ ruleOf g = record { on = endDetected g; c00 = g .c00; c01 = g .c01 }
 unfoldable pub removedState : State → List ℕ → State
 removedState s rx = resumed (withRx s (sentRing (ruleOf (s .regs)) rx (s .rx)))
 
--- "send the first frame, or 5,64 if the reading rule has none", from the state before the call and the one after the removal
+-- Frames, ready 96: what is given goes out, or sending ends; from the state before the call and the one after the removal
 unfoldable pub sendState : State → State → Given → Outcome
 sendState before after Nothing = ended after 64
 sendState before after (One f) = record { state = sentMore (withTalker after (talking (after .talker) activeData f)); answer = Frame (serviced before f) }
@@ -38,6 +38,10 @@ sendState before after (One f) = record { state = sentMore (withTalker after (ta
 unfoldable pub sendFrom : State → List ℕ → Outcome
 sendFrom s rx = sendState s (removedState s rx) (givenOf (sendHeld (ruleOf (s .regs)) rx (s .rx)))
 
--- "Ready 97 likewise: send the status byte."
+-- Frames, ready 97: the byte of the moment goes out, and from here on it is told
 unfoldable pub sendStatus : State → Outcome
-sendStatus s = record { state = withTalker (afterStatus s) (talking (s .talker) activeStatus (made 0 (statusOf s))); answer = Frame (serviced s (made 0 (statusOf s))) }
+sendStatus s =
+    record {
+      state = withTalker (afterStatus s) (talking (s .talker) activeStatus (made 0 (statusOf s)));
+      answer = Frame (serviced s (made 0 (statusOf s)));
+    }

@@ -114,7 +114,7 @@ pub ends-talking : (home : ℕ) (r : Role) → afterCommand home r 95 .phase ≡
 unfolding obeyedRole changedRole
 ends-talking home r = rw (order-95 home r)
 
--- "All others change no more", and a device clear changes no more of the role
+-- a command that asks nothing changes no more, and a device clear changes no more of the role
 pub clear-no-more : (r : Role) → obeyedRole r Clear ≡ merelyAddressed r
 unfolding obeyedRole changedRole
 clear-no-more r = refl

@@ -10,7 +10,7 @@ use Rattle.role.specs.declared.Role.{Role}
 use Rattle.role.specs.Parts.{startRole, withAddress, withPhase}
 use Rattle.role.specs.Fit.{Apart, Fit, fitTest}
 
--- "not talker and listener at once", as a test and as a fact
+-- a listener is no talker, as a test and as a fact
 apart-true : (t : ℕ) (l : Bool) → not (leb 1 t && l) ≡ true → l ≡ true → t ≡ 0
 apart-true t false e h = absurd (false≢true h)
 apart-true t true e h = omega (arith, leb-false 1 t (sym (and-true (leb 1 t)) ∙ not-true _ e))

@@ -1,4 +1,4 @@
--- Which orders the paper's "32+n" and "64+n" are, and that 31 is nobody's address.
+-- Which orders 32+n and 64+n are, and that 31 is nobody's address.
 -- Assumes nothing.
 use Prim.Native.Nat.{ℕ, _+_, _≤_}
 use native.Mathlib.Omega.{arith}

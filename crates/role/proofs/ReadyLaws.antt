@@ -67,7 +67,7 @@ told r d =
     by-cond (Told r d) (eqb d 97 && eqb (r .phase) 1) _ _ (asked r d 97 1 s) (λ e.
     by-cond (Told r d) (eqb d 66 && eqb (r .phase) 2) _ _ (asked r d 66 2 s) (λ e. s))))
 
--- "we take n"
+-- the address is n
 pub address-taken : (r : Role) (n : ℕ) → r .address ≡ 31 → n ≤ 30 → afterReady r (128 + n) ≡ withAddress r n
 unfolding afterReady
 address-taken r n u h =

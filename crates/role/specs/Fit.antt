@@ -6,11 +6,11 @@ use lib.Dec.{leb}
 use Rattle.role.specs.declared.Role.{Role}
 use Rattle.role.specs.Parts.{unassigned, idle, activeStatus, isTalker}
 
--- "it is not talker and listener at once"
+-- Sizes and refusals, when a state fits: a listener is no talker
 abbrev pub Apart : Role → Type 0
 Apart r = r .listener ≡ true → r .phase ≡ idle
 
--- "every field is in its range, .. and it is not talker and listener at once"
+-- Sizes and refusals, when a state fits, as far as the role goes
 pub record Fit (r : Role) : Type 0 where
   pub range : r .address ≤ unassigned
   pub phase : r .phase ≤ activeStatus

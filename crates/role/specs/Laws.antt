@@ -27,7 +27,7 @@ Silent Local = Unit {0}
 Silent Unassign = Unit {0}
 Silent Nothing = Unit {0}
 
--- "Reading 63 as listen address 31 while unassigned" cannot happen: unassigned and with home address 31, no command makes a talker or
+-- Slips we have seen, the fourth, cannot happen: unassigned and with home address 31, no command makes a talker or
 -- listener
 abbrev pub UnassignedSilent : Type 0
 UnassignedSilent = (r : Role) (d : ℕ) → r .address ≡ 31 → Silent (orderOf 31 r d)

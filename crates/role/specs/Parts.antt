@@ -4,11 +4,11 @@ use mathlib.Core.Bool.{Bool, false}
 use lib.Dec.{eqb, leb}
 use Rattle.role.specs.declared.Role.{Role}
 
--- the address field of a device that is "unassigned"
+-- the address field of a device that has no address
 abbrev pub unassigned : ℕ
 unassigned = 31
 
--- the talker phases: no talker, "addressed, not active", "active with data", and active with the status byte
+-- the talker phases: no talker, addressed, and active with data or with the status byte
 abbrev pub idle : ℕ
 idle = 0
 
@@ -28,11 +28,11 @@ isUnassigned r = eqb (r .address) unassigned
 abbrev pub isTalker : Role → Bool
 isTalker r = leb addressed (r .phase)
 
--- "an active talker"
+-- a talker that has a frame under way
 abbrev pub isActive : Role → Bool
 isActive r = leb activeData (r .phase)
 
--- "Start: address 31, unassigned."
+-- Frames, start: no address yet, and neither talker nor listener
 abbrev pub startRole : Role
 startRole = record { address = unassigned; phase = idle; listener = false }
 

@@ -8,21 +8,23 @@ use Rattle.role.specs.declared.Ready.the-variants.{Pass, Address, Data, 
 use Rattle.role.specs.Parts.{addressed, activeData, isUnassigned, withAddress}
 use Rattle.role.specs.Orders.{numberOf, baseOf}
 
--- "Ready 128+n, n at most 30, when unassigned"
+-- Frames, ready 128+n: 31 is no address, and an address is taken once
 abbrev pub givesAddress : Role → ℕ → Bool
 givesAddress r d = (eqb (baseOf d) 128 && leb (numberOf d) 30) && isUnassigned r
 
--- "Ready 96 (send data) when addressed talker and not active"; "Ready 97 likewise"
--- "Ready 66 when active with data"; "Other ready frames pass."
 unfoldable pub readyOf : Role → ℕ → Ready
 readyOf r d =
     cond (givesAddress r d) Address
+    -- Frames, ready 96: asks a talker for data that has nothing under way
     (cond (eqb d 96 && eqb (r .phase) addressed) Data
+    -- Frames, ready 97: asks such a talker for its status
     (cond (eqb d 97 && eqb (r .phase) addressed) Status
+    -- Frames, ready 66: only data can be cut short, a status byte is one frame
     (cond (eqb d 66 && eqb (r .phase) activeData) Finish
+    -- Frames, other ready frames: not for us
     Pass)))
 
--- "we take n"
+-- Frames, ready 128+n: the address is n
 abbrev pub assignedRole : Role → ℕ → Role
 assignedRole r d = withAddress r (numberOf d)
 

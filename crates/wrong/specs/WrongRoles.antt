@@ -57,4 +57,6 @@ readdressed = turning (λ c before after. onFrame (λ f. cond (offersAddress f) 
 
 -- becomes remote at its listen address though that is not enabled
 abbrev pub remoteUnasked : Call → World → Did
-remoteUnasked = afterwards (λ c w s. cond (isCommand (32 + w .state .talker .role .address) c) (withRemote s (record { enabled = s .remote .enabled; remote = true })) s)
+remoteUnasked =
+    afterwards
+    (λ c w s. cond (isCommand (32 + w .state .talker .role .address) c) (withRemote s (record { enabled = s .remote .enabled; remote = true })) s)
