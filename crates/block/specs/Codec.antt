@@ -1,14 +1,14 @@
 -- How values stand in bytes: a codec writes a value as bytes and reads it from a place, and what it reads is what was written.
 use Prim.{Unit, tt}
-use Prim.Native.Nat.{ℕ, zero, suc, _+_, _*_, _/_, _%_, _≤_, _<_}
+use Prim.Native.Nat.{ℕ, _+_, _*_, _/_, _%_, _<_}
 use mathlib.Core.Path.{_≡_, refl, sym, ap, subst, _∙_}
-use mathlib.Core.Bool.{Bool, true, false, _&&_}
+use mathlib.Core.Bool.{Bool, true, _&&_}
 use mathlib.Core.List.{List, [], _∷_, _++_}
 use native.Mathlib.Omega.{arith}
 use lib.ListN.{length, getD, length-append}
 use lib.Dec.{eqb, leb}
 use mir.Val.{boolByte}
-use borrow.Author.Tests.{leb-true, eqb-true, eq-eqb, le-leb}
+use borrow.Author.Tests.{eqb-true, eq-eqb}
 use Rattle.cases.proofs.Cases.{and-left, and-right}
 use Rattle.store.specs.Bytes.{Bytes}
 use Rattle.block.specs.Places.{At, at-one, one-at, at-first, at-second, at-both, at-four, four-at, bytes-both, bytes-one, bytes-four}
