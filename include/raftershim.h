@@ -6,6 +6,9 @@
  * to line). They are the same three at every call, untouched in between, and they do not overlap. A pointer is not null and is
  * good for its length. One call at a time may use a set of buffers.
  *
+ * The first byte of a block is the version of its layout, which is 1. A block with another first byte is not a state: every call but
+ * create is refused by 2, and showing answers an empty part.
+ *
  * Every function but raftershim_block_len and raftershim_show answers one number of 64 bits:
  *
  *   bits 0 to 15    the value: a line byte, a frame or the number of a refusal, and 0 where there is none

@@ -4,7 +4,7 @@
 
 #include "raftershim.h"
 
-#define BLOCK 55
+#define BLOCK 56
 #define MOST 32768
 
 static uint8_t block[BLOCK + 1], rx[MOST + 1], tx[MOST + 1];
@@ -126,11 +126,17 @@ static void other_blocks(void) {
     tx_len = 3;
     for (int i = 0; i < BLOCK; i++) {
         uint8_t b = block[i];
-        if (i >= 43 || i == 22 || (i >= 11 && i < 17)) continue; /* counts, the frame under way, characters: another fitting state */
+        if (i >= 44 || i == 23 || (i >= 12 && i < 18)) continue; /* counts, the frame under way, characters: another fitting state */
         block[i] = 255;
         misfits();
         block[i] = b;
     }
+    for (int version = 0; version < 256; version++) {
+        if (version == 1) continue;
+        block[0] = (uint8_t)version;
+        misfits();
+    }
+    block[0] = 1;
     memset(block, 0, BLOCK);
     misfits();
     memset(block, 255, BLOCK);

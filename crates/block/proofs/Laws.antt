@@ -1,4 +1,5 @@
 -- The laws of the block: a state has one block, a block has one meaning, and which blocks are states. Assumes nothing.
+use Prim.{tt}
 use Prim.Native.Nat.{ℕ, _+_, _*_, _≤_, _<_}
 use mathlib.Core.Path.{_≡_, refl, sym, ap, _∙_}
 use mathlib.Core.Bool.{Bool, true, false, _&&_, true≢false}
@@ -8,8 +9,7 @@ use lib.ListN.{length}
 use lib.Dec.{leb}
 use borrow.Author.Tests.{leb-true}
 use Rattle.cases.proofs.Cases.{and-left, and-right}
-use Rattle.registers.specs.declared.Registers.{Registers}
-use Rattle.registers.specs.Fit.{registersFit, values, valueIn}
+use Rattle.registers.specs.Fit.{values, valueIn, valueOf}
 use Rattle.registers.specs.Table.{startRegisters}
 use Rattle.registers.proofs.Fits.{fit-byte, fit-start}
 use Rattle.role.specs.Fit as role-fit
@@ -17,18 +17,21 @@ use Rattle.role.proofs.FitLaws.{fit-true}
 use Rattle.state.specs.declared.State.{State}
 use Rattle.state.specs.Sizes.{sizesObeyed, startState, fits, RxFits, TxFits}
 use Rattle.state.proofs.Fits.{Tests, tests, rx-fits, tx-fits}
-use Rattle.block.specs.Packed.{blockLen, at16, at32, packed, unpacked}
-use Rattle.block.specs.States.{isState, meaning, noState, fittingBlock, RegistersRanged, CountsRanged, Ranged}
+use Rattle.block.specs.Packed.{blockLen, layout, packed, unpacked}
+use Rattle.block.specs.States.{isState, meaning, noState, fittingBlock, CountsRanged, Ranged}
+use Rattle.block.specs.Places.{at-self}
 use Rattle.store.specs.Bytes.{Bytes}
 use Rattle.block.proofs.Same.{same-true, state-packed, means, means-none}
-pub use Rattle.block.proofs.ReadBack.{read-back}
-pub use Rattle.block.proofs.Bytes.{packed-bytes}
 
 -- ---- a state has one block
 
 pub packed-length : (s : State) → length (packed s) ≡ blockLen
 unfolding packed
-packed-length s = refl
+packed-length s = layout .put-length s
+
+pub read-back : (s : State) → Ranged s → unpacked (packed s) ≡ s
+unfolding packed unpacked
+read-back s h = layout .get-put (layout .put s) 0 s h (at-self (layout .put s))
 
 module _ (s : State) (h : Ranged s) where
   pub packed-is-state : isState (packed s) ≡ true
@@ -48,27 +51,13 @@ one-meaning b c p q e = sym (state-packed b p) ∙ ap packed e ∙ state-packed 
 
 -- ---- what is read from bytes is ranged, and a ranged state is packed into bytes
 
-at16-ranged : (b : List ℕ) (i : ℕ) → Bytes b → at16 b i < 65536
-at16-ranged b i h = omega (arith, h i, h (i + 1))
-
-at32-ranged : (b : List ℕ) (i : ℕ) → Bytes b → at32 b i < 4294967296
-at32-ranged b i h = omega (arith, h i, h (i + 1), h (i + 2), h (i + 3))
-
 pub unpacked-ranged : (b : List ℕ) → Bytes b → Ranged (unpacked b)
 unfolding unpacked
-unpacked-ranged b h =
-    record {
-      rxSize = at16-ranged b 0 h;
-      txSize = at16-ranged b 2 h;
-      margin = at16-ranged b 4 h;
-      regs = record { r00 = h 6; r01 = h 7; r02 = h 8; r10 = h 9; r11 = h 10; c00 = h 11; c01 = h 12; c02 = h 13; c03 = h 14; c04 = h 15; c05 = h 16 };
-      address = h 17;
-      talker = h 18;
-      frame = at16-ranged b 22 h;
-      rxRing = record { oldest = at16-ranged b 25 h; len = at16-ranged b 27 h };
-      txRing = record { oldest = at16-ranged b 29 h; len = at16-ranged b 31 h };
-      counts = record { stored = at32-ranged b 43 h; lost = at32-ranged b 47 h; sent = at32-ranged b 51 h };
-    }
+unpacked-ranged b h = layout .get-ranged b 0 h
+
+pub packed-bytes : (s : State) → Ranged s → Bytes (packed s)
+unfolding packed
+packed-bytes s h = layout .put-bytes s h
 
 -- ---- which blocks are states
 
@@ -86,22 +75,27 @@ packed-test b p = ap isState (p .bytes) ∙ packed-is-state (p .state) (p .range
 
 -- ---- a state that fits is ranged
 
-registers-ranged : (g : Registers) → registersFit g ≡ true → RegistersRanged g
+infixl 20 _&_
+_&_ : {A B : Type 0} → A → B → A × B
+a & b = (a, b)
+
+-- a range for each row of the table
+ranged-by : (s : State) → s .sizes .rx < 65536 → s .sizes .tx < 65536 → s .sizes .margin < 65536 → ((n : ℕ) → valueOf (s .regs) n < 256) →
+    s .role .address < 256 → s .role .talker < 256 → s .under .frame < 65536 →
+    s .rx .oldest < 65536 → s .rx .len < 65536 → s .tx .oldest < 65536 → s .tx .len < 65536 → CountsRanged (s .counts) → Ranged s
 unfolding values valueIn
-registers-ranged g e =
-    record {
-      r00 = fit-byte g e 0;
-      r01 = fit-byte g e 1;
-      r02 = fit-byte g e 2;
-      r10 = fit-byte g e 10;
-      r11 = fit-byte g e 11;
-      c00 = fit-byte g e 16;
-      c01 = fit-byte g e 17;
-      c02 = fit-byte g e 18;
-      c03 = fit-byte g e 19;
-      c04 = fit-byte g e 20;
-      c05 = fit-byte g e 21;
-    }
+ranged-by s rx tx margin g address talker frame rxOldest rxLen txOldest txLen k =
+    tt & rx & tx & margin
+    & g 0 & g 1 & g 2 & g 10 & g 11 & g 16 & g 17 & g 18 & g 19 & g 20 & g 21
+    & address & talker & tt & tt & tt
+    & frame & tt
+    & rxOldest & rxLen & txOldest & txLen
+    & tt & tt & tt
+    & tt & tt & tt & tt & tt & tt & tt
+    & k .stored & k .lost & k .sent
+
+pub counts-ranged : (s : State) → Ranged s → CountsRanged (s .counts)
+counts-ranged s h = record { stored = omega arith; lost = omega arith; sent = omega arith }
 
 -- the counts of a state are in 32 bits by the type of the code's fields, every other number of a state that fits is small
 pub fits-ranged : (s : State) (rx tx : List ℕ) → fits s (length rx) (length tx) ≡ true → CountsRanged (s .counts) → Ranged s
@@ -110,35 +104,17 @@ fits-ranged s rx tx e h =
     let r : RxFits s rx = rx-fits s rx tx e in
     let x : TxFits s tx = tx-fits s rx tx e in
     let o : role-fit.Fit (s .role) = fit-true (s .role) (t .role) in
-    record {
-      rxSize = omega (arith, r .size, r .ring .small);
-      txSize = omega (arith, x .size, x .ring .small);
-      margin = omega (arith, r .margin);
-      regs = registers-ranged (s .regs) (t .regs);
-      address = omega (arith, o .range);
-      talker = omega (arith, o .phase);
-      frame = omega (arith, t .frame);
-      rxRing = record { oldest = omega (arith, r .ring .oldest, r .ring .small); len = omega (arith, r .ring .len, r .ring .small) };
-      txRing = record { oldest = omega (arith, x .ring .oldest, x .ring .small); len = omega (arith, x .ring .len, x .ring .small) };
-      counts = h;
-    }
+    ranged-by s (omega arith) (omega arith) (omega arith) (fit-byte (s .regs) (t .regs))
+    (omega arith) (omega arith) (omega (arith, t .frame))
+    (omega arith) (omega arith) (omega arith) (omega arith) h
 
 -- what create gives for sizes that are obeyed
 pub start-ranged : (m rx tx : ℕ) → m < 65536 → rx < 65536 → tx < 65536 → Ranged (startState m rx tx)
 unfolding startState
 start-ranged m rx tx a b c =
-    record {
-      rxSize = b;
-      txSize = c;
-      margin = a;
-      regs = registers-ranged startRegisters fit-start;
-      address = omega arith;
-      talker = omega arith;
-      frame = omega arith;
-      rxRing = record { oldest = omega arith; len = omega arith };
-      txRing = record { oldest = omega arith; len = omega arith };
-      counts = record { stored = omega arith; lost = omega arith; sent = omega arith };
-    }
+    ranged-by (startState m rx tx) b c a (fit-byte startRegisters fit-start)
+    (omega arith) (omega arith) (omega arith)
+    (omega arith) (omega arith) (omega arith) (omega arith) (record { stored = omega arith; lost = omega arith; sent = omega arith })
 
 pub obeyed-ranged : (m rx tx : ℕ) → sizesObeyed m rx tx ≡ true → Ranged (startState m rx tx)
 unfolding sizesObeyed

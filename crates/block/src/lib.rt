@@ -5,12 +5,15 @@ ghost use Rattle.block.specs.Packed.{blockLen, packed};
 ghost use Rattle.block.specs.States.{noState, meaning};
 use state::State;
 
-mod flags;
 mod packing;
 mod reading;
+mod testing;
 
 // The length of a block.
-pub const LENGTH: usize = 55;
+pub const LENGTH: usize = 56;
+
+// What the first byte of a block is.
+pub const VERSION: u8 = 1;
 
 // The length of a block, for callers that hold no constants of ours.
 pub fn block_len() -> usize
@@ -27,7 +30,7 @@ pub fn pack(block: &mut [u8], s: State)
     let head = packing::packed_head(s);
     let tail = packing::packed_tail(s);
     bytes::copy(&head, block);
-    bytes::copy(&tail, &mut block[25..]);
+    bytes::copy(&tail, &mut block[26..]);
 }
 
 // What stands for the state of a block that is none.
@@ -44,7 +47,7 @@ pub fn meaning(b: &[u8]) -> State
     if b.len() != LENGTH {
         return no_state();
     }
-    if !flags::flags_right(b) {
+    if !testing::right(b) {
         return no_state();
     }
     reading::unpack(b)

@@ -1,13 +1,15 @@
 // The bytes of a state, in two parts.
 ghost use mathlib.Core.Path.{_≡_};
 ghost use Rattle.block.specs.Packed.{packedHead, packedTail};
+use crate::VERSION;
 use state::State;
 
-// The bytes of the sizes, the registers, the role and the frame under way.
-pub fn packed_head(s: State) -> [u8; 25]
+// The bytes of the version, the sizes, the registers, the role and the frame under way.
+pub fn packed_head(s: State) -> [u8; 26]
     ensures { λ r. ⌜ r ≡ packedHead s ⌝ }
 {
     [
+        VERSION,
         (s.sizes.rx % 256) as u8,
         (s.sizes.rx / 256 % 256) as u8,
         (s.sizes.tx % 256) as u8,

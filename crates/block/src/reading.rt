@@ -2,8 +2,8 @@
 ghost use mathlib.Core.Path.{_≡_};
 ghost use Prim.Native.Nat.{_+_, _<_};
 ghost use lib.ListN.{length};
-ghost use Rattle.block.specs.Packed.{blockLen, unpacked, at16, at32, sizesAt, registersAt, roleAt, underAt, ringAt, lineAt, notesAt, countsAt};
-ghost use Rattle.block.specs.States.{Two, Four, SizesBytes, RingBytes, CountsBytes, Numbers};
+ghost use Rattle.block.specs.Codec.{two, four};
+ghost use Rattle.block.specs.Packed.{blockLen, stateAt, unpacked};
 use registers::Registers;
 use role::Role;
 use state::Counts;
@@ -37,7 +37,7 @@ fn wide32(x: u8) -> u32
 // The size or place in two bytes of a block from i.
 fn read(b: &[u8], i: usize) -> usize
     requires { ⌜ i + 1 < length (now b) ⌝ }
-    ensures { λ r. ⌜ (r ≡ at16 (now (b .entry)) i) × Two (now (b .entry)) i ⌝ }
+    ensures { λ r. ⌜ r ≡ two .get (now (b .entry)) i ⌝ }
 {
     wide(b[i]) + 256 * wide(b[i + 1])
 }
@@ -45,7 +45,7 @@ fn read(b: &[u8], i: usize) -> usize
 // The frame in two bytes of a block from i.
 fn read16(b: &[u8], i: usize) -> u16
     requires { ⌜ i + 1 < length (now b) ⌝ }
-    ensures { λ r. ⌜ (r ≡ at16 (now (b .entry)) i) × Two (now (b .entry)) i ⌝ }
+    ensures { λ r. ⌜ r ≡ two .get (now (b .entry)) i ⌝ }
 {
     wide16(b[i]) + 256 * wide16(b[i + 1])
 }
@@ -53,7 +53,7 @@ fn read16(b: &[u8], i: usize) -> u16
 // The count in four bytes of a block from i.
 fn read32(b: &[u8], i: usize) -> u32
     requires { ⌜ i + 3 < length (now b) ⌝ }
-    ensures { λ r. ⌜ (r ≡ at32 (now (b .entry)) i) × Four (now (b .entry)) i ⌝ }
+    ensures { λ r. ⌜ r ≡ four .get (now (b .entry)) i ⌝ }
 {
     wide32(b[i]) + 256 * wide32(b[i + 1]) + 65536 * wide32(b[i + 2]) + 16777216 * wide32(b[i + 3])
 }
@@ -61,64 +61,64 @@ fn read32(b: &[u8], i: usize) -> u32
 // The sizes in a block.
 fn sizes_at(b: &[u8]) -> Sizes
     requires { ⌜ length (now b) ≡ blockLen ⌝ }
-    ensures { λ r. ⌜ (r ≡ sizesAt (now (b .entry))) × SizesBytes (now (b .entry)) ⌝ }
+    ensures { λ r. ⌜ r ≡ stateAt (now (b .entry)) .sizes ⌝ }
 {
     Sizes {
-        rx: read(b, 0),
-        tx: read(b, 2),
-        margin: read(b, 4),
+        rx: read(b, 1),
+        tx: read(b, 3),
+        margin: read(b, 5),
     }
 }
 
 // The registers in a block.
 fn registers_at(b: &[u8]) -> Registers
     requires { ⌜ length (now b) ≡ blockLen ⌝ }
-    ensures { λ r. ⌜ r ≡ registersAt (now (b .entry)) ⌝ }
+    ensures { λ r. ⌜ r ≡ stateAt (now (b .entry)) .regs ⌝ }
 {
     Registers {
-        r00: b[6],
-        r01: b[7],
-        r02: b[8],
-        r10: b[9],
-        r11: b[10],
-        c00: b[11],
-        c01: b[12],
-        c02: b[13],
-        c03: b[14],
-        c04: b[15],
-        c05: b[16],
+        r00: b[7],
+        r01: b[8],
+        r02: b[9],
+        r10: b[10],
+        r11: b[11],
+        c00: b[12],
+        c01: b[13],
+        c02: b[14],
+        c03: b[15],
+        c04: b[16],
+        c05: b[17],
     }
 }
 
 // The role in a block.
 fn role_at(b: &[u8]) -> Role
     requires { ⌜ length (now b) ≡ blockLen ⌝ }
-    ensures { λ r. ⌜ r ≡ roleAt (now (b .entry)) ⌝ }
+    ensures { λ r. ⌜ r ≡ stateAt (now (b .entry)) .role ⌝ }
 {
     Role {
-        address: b[17],
-        talker: b[18],
-        listener: b[19] == 1,
-        enabled: b[20] == 1,
-        remote: b[21] == 1,
+        address: b[18],
+        talker: b[19],
+        listener: b[20] == 1,
+        enabled: b[21] == 1,
+        remote: b[22] == 1,
     }
 }
 
 // The frame under way in a block.
 fn under_at(b: &[u8]) -> Under
     requires { ⌜ length (now b) ≡ blockLen ⌝ }
-    ensures { λ r. ⌜ (r ≡ underAt (now (b .entry))) × Two (now (b .entry)) 22 ⌝ }
+    ensures { λ r. ⌜ r ≡ stateAt (now (b .entry)) .under ⌝ }
 {
     Under {
-        frame: read16(b, 22),
-        finishing: b[24] == 1,
+        frame: read16(b, 23),
+        finishing: b[25] == 1,
     }
 }
 
 // The ring in a block from i.
 fn ring_at(b: &[u8], i: usize) -> Ring
     requires { ⌜ i + 3 < length (now b) ⌝ }
-    ensures { λ r. ⌜ (r ≡ ringAt (now (b .entry)) i) × RingBytes (now (b .entry)) i ⌝ }
+    ensures { λ r. ⌜ r ≡ record { oldest = two .get (now (b .entry)) i; len = two .get (now (b .entry)) (i + 2) } ⌝ }
 {
     Ring {
         oldest: read(b, i),
@@ -129,58 +129,58 @@ fn ring_at(b: &[u8], i: usize) -> Ring
 // The state of the line in a block.
 fn line_at(b: &[u8]) -> Line
     requires { ⌜ length (now b) ≡ blockLen ⌝ }
-    ensures { λ r. ⌜ r ≡ lineAt (now (b .entry)) ⌝ }
+    ensures { λ r. ⌜ r ≡ stateAt (now (b .entry)) .line ⌝ }
 {
     Line {
-        holding: b[33] == 1,
-        forbidden: b[34] == 1,
-        stopped: b[35] == 1,
+        holding: b[34] == 1,
+        forbidden: b[35] == 1,
+        stopped: b[36] == 1,
     }
 }
 
 // The notes in a block.
 fn notes_at(b: &[u8]) -> Notes
     requires { ⌜ length (now b) ≡ blockLen ⌝ }
-    ensures { λ r. ⌜ r ≡ notesAt (now (b .entry)) ⌝ }
+    ensures { λ r. ⌜ r ≡ stateAt (now (b .entry)) .notes ⌝ }
 {
     Notes {
         seen: Events {
-            brk: b[36] == 1,
-            overrun: b[37] == 1,
-            key: b[38] == 1,
+            brk: b[37] == 1,
+            overrun: b[38] == 1,
+            key: b[39] == 1,
         },
         again: Events {
-            brk: b[39] == 1,
-            overrun: b[40] == 1,
-            key: b[41] == 1,
+            brk: b[40] == 1,
+            overrun: b[41] == 1,
+            key: b[42] == 1,
         },
-        request: b[42] == 1,
+        request: b[43] == 1,
     }
 }
 
 // The counts in a block.
 fn counts_at(b: &[u8]) -> Counts
     requires { ⌜ length (now b) ≡ blockLen ⌝ }
-    ensures { λ r. ⌜ (r ≡ countsAt (now (b .entry))) × CountsBytes (now (b .entry)) ⌝ }
+    ensures { λ r. ⌜ r ≡ stateAt (now (b .entry)) .counts ⌝ }
 {
     Counts {
-        stored: read32(b, 43),
-        lost: read32(b, 47),
-        sent: read32(b, 51),
+        stored: read32(b, 44),
+        lost: read32(b, 48),
+        sent: read32(b, 52),
     }
 }
 
 // The state that the bytes of a block are read as.
 pub fn unpack(b: &[u8]) -> State
     requires { ⌜ length (now b) ≡ blockLen ⌝ }
-    ensures { λ r. ⌜ (r ≡ unpacked (now (b .entry))) × Numbers (now (b .entry)) ⌝ }
+    ensures { λ r. ⌜ r ≡ unpacked (now (b .entry)) ⌝ }
 {
     let sizes = sizes_at(b);
     let regs = registers_at(b);
     let role = role_at(b);
     let under = under_at(b);
-    let rx = ring_at(b, 25);
-    let tx = ring_at(b, 29);
+    let rx = ring_at(b, 26);
+    let tx = ring_at(b, 30);
     let line = line_at(b);
     let notes = notes_at(b);
     let counts = counts_at(b);

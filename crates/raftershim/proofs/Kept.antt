@@ -28,9 +28,9 @@ use Rattle.loops.specs.Frames.{cleared, obeyed, finishing, deviceClear, addsByt
 use Rattle.laws.specs.Bridges.{ByteCall}
 use Rattle.laws.proofs.Fitting.{keeps-fit, keeps-bytes}
 use Rattle.laws.proofs.Small.{put-bytes}
-use Rattle.block.specs.States.{RegistersRanged, CountsRanged, Ranged}
+use Rattle.block.specs.States.{CountsRanged, Ranged}
 use Rattle.store.specs.Bytes.{Bytes}
-use Rattle.block.proofs.Laws.{fits-ranged, obeyed-ranged}
+use Rattle.block.proofs.Laws.{counts-ranged, fits-ranged, obeyed-ranged}
 use Rattle.bridge.specs.Calls.{Call, on, create, reset, write, lineByte, lineBreak, key, nextLineByte, loopFrame}
 use Rattle.bridge.specs.Calls.{show, World, Did, checks, outcome, settledBy, txAfter, notRefused, refusedOr, step}
 use Rattle.laws.proofs.Refusing.{by-refusal}
@@ -132,11 +132,11 @@ counts-kept c w k = after (λ (x : World). Counted (x .state)) c w k (accepted-c
 -- ---- the stores
 
 -- what a data frame adds to the transmit store is bytes
-left-bytes : (s : State) (tx : List ℕ) (f : ℕ) → RegistersRanged (s .regs) → Bytes tx → Bytes (addedBytes s tx f)
+left-bytes : (s : State) (tx : List ℕ) (f : ℕ) → Ranged s → Bytes tx → Bytes (addedBytes s tx f)
 unfolding addedBytes adds putsBytes
 left-bytes s tx f h k =
     by-cond (λ (l : List ℕ). Bytes (putsBytes tx (s .tx) l)) (isEnd f && endInserted (s .regs)) _ _
-    (λ e. put-bytes _ _ (s .regs .c03) (h .c03) (put-bytes _ _ (s .regs .c02) (h .c02) first))
+    (λ e. put-bytes _ _ (s .regs .c03) (omega arith) (put-bytes _ _ (s .regs .c02) (omega arith) first))
     (λ e. first)
   where
     first : Bytes (putBytes tx (s .tx) (dataOf f))
@@ -144,7 +144,7 @@ left-bytes s tx f h k =
 
 accepted-tx : (c : Call) (w : World) → Ranged (w .state) → Bytes (w .tx) → Bytes (notRefused c w .world .tx)
 unfolding notRefused txAfter frameBytes
-accepted-tx (on (loopFrame f)) w h k = by-cond Bytes (addsBytes (w .state) f) _ _ (λ e. left-bytes (w .state) (w .tx) f (h .regs) k) (λ e. k)
+accepted-tx (on (loopFrame f)) w h k = by-cond Bytes (addsBytes (w .state) f) _ _ (λ e. left-bytes (w .state) (w .tx) f h k) (λ e. k)
 accepted-tx (create m) w h k = k
 accepted-tx (on reset) w h k = k
 accepted-tx (on (write n v)) w h k = k
@@ -175,7 +175,7 @@ ranged-kept c w h = pick (fits (w .state) (length (w .rx)) (length (w .tx))) ref
   where
     pick : (t : Bool) → fits (w .state) (length (w .rx)) (length (w .tx)) ≡ t → Ranged (step c w .world .state)
     pick true e =
-        fits-ranged (step c w .world .state) (step c w .world .rx) (step c w .world .tx) (keeps-fit c w (h .rx) e) (counts-kept c w (h .state .counts))
+        fits-ranged (step c w .world .state) (step c w .world .rx) (step c w .world .tx) (keeps-fit c w (h .rx) e) (counts-kept c w (counts-ranged (w .state) (h .state)))
     pick false e = misfit-ranged c w e (h .state)
 
 pub typed-kept : (c : Call) (w : World) → ByteCall c → Typed w → Typed (step c w .world)

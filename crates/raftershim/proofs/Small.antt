@@ -76,7 +76,7 @@ next-small : (s : State) (tx : List ℕ) → Ranged s → Fit tx (s .tx) → Byt
 unfolding nextOut outAnswer
 next-small s tx r fit b =
     by-cond (λ o. Small (outAnswer o)) (owed (s .line)) _ _
-    (λ e. by-cond (λ (n : ℕ). n < 65536) (s .line .holding) _ _ (λ e. omega (arith, r .regs .c05)) (λ e. omega (arith, r .regs .c04)))
+    (λ e. by-cond (λ (n : ℕ). n < 65536) (s .line .holding) _ _ (λ e. omega arith) (λ e. omega arith))
     (λ e. by-cond (λ o. Small (outAnswer o)) (s .line .forbidden || eqb (s .tx .len) 0) _ _
     (λ e. tt)
     (λ e. omega (arith, held-bytes tx (s .tx) fit b 0)))

@@ -5,7 +5,7 @@ use checks::answer::{framed, refused, DONE};
 use checks::archive;
 use checks::call::{frame, Call};
 use checks::pair::Pair;
-use model::block::LEN;
+use model::block::{LEN, VERSION};
 use model::boundary::{kind, value, REFUSED};
 
 /// Makes a call of which only the comparison with the model counts.
@@ -22,11 +22,11 @@ fn sizes_of_create() {
         let least = (2 * u64::from(margin) + 2).min(40_000) as usize;
         for rx_len in [0, 3, 4, least - 1, least, 32_767, 32_768, 32_769, 65_540] {
             for tx_len in [0, 2, 3, 32_768, 32_769, 65_539] {
-                for block_len in [0, 54, 55, 56] {
+                for block_len in [0, 55, 56, 57] {
                     let obeyed = (1..=1024).contains(&margin)
                         && (least..=32_768).contains(&rx_len)
                         && (3..=32_768).contains(&tx_len)
-                        && block_len == 55;
+                        && block_len == 56;
                     let due = if obeyed { DONE } else { refused(1) };
                     let (block, stores) = (vec![7; block_len], (vec![1; rx_len], vec![2; tx_len]));
                     let mut pair = Pair::holding(&block, &stores.0, &stores.1);
@@ -156,17 +156,50 @@ fn every_byte_of_the_block_at_every_value() {
 }
 
 #[test]
+fn another_version_is_refused_by_every_call_but_create() {
+    let mut good = Pair::create(4, 3, 1);
+    for call in [frame(5, 129), frame(4, 33), frame(2, 65), Call::Line(50)] {
+        ask(&mut good, call);
+    }
+    let (buffers, mut others) = (good.buffers(), 0);
+    for version in (0..=255).filter(|&version| version != VERSION) {
+        let mut block = buffers.block().to_vec();
+        block[0] = version;
+        let mut pair = Pair::holding(&block, buffers.rx(), buffers.tx());
+        for side in 0..2 {
+            pair.expect(Call::Show(side), 0);
+        }
+        for call in [
+            Call::Reset,
+            Call::Register(10, 8),
+            Call::Line(50),
+            Call::Break,
+            Call::Key,
+            Call::Next,
+            Call::Frame(2048),
+            frame(0, 9),
+        ] {
+            pair.expect(call, refused(2));
+        }
+        assert_eq!(pair.recreate(1), Ok(DONE));
+        assert_eq!(pair.buffers().block()[0], VERSION);
+        others += 1;
+    }
+    println!("edges, versions: {others} refused 2 by every call but create");
+}
+
+#[test]
 fn lengths_other_than_recorded() {
     let good = Pair::create(4, 3, 1);
     let block = good.buffers().block();
     let (mut fit, mut misfits) = (0, 0);
     for rx_len in [0, 1, 3, 4, 5, 65_540] {
         for tx_len in [0, 2, 3, 4, 65_539] {
-            for block_len in [0, 1, 54, 55, 56, 110] {
+            for block_len in [0, 1, 55, 56, 57, 112] {
                 let mut other = block.to_vec();
                 other.resize(block_len, 0);
                 let mut pair = Pair::holding(&other, &vec![0; rx_len], &vec![0; tx_len]);
-                let fits = (rx_len, tx_len, block_len) == (4, 3, 55);
+                let fits = (rx_len, tx_len, block_len) == (4, 3, 56);
                 let answer = ask(&mut pair, Call::Next);
                 assert_eq!(answer == refused(2), !fits);
                 for call in [Call::Reset, Call::Register(3, 99), Call::Frame(2048)] {

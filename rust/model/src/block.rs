@@ -1,16 +1,21 @@
 //! The block of bytes in which the state travels between calls.
 //!
-//! Fields follow each other without gaps, numbers low byte first, a flag as 1 or 0.
+//! The first byte is the version. Fields follow each other without gaps, numbers low byte first, a
+//! flag as 1 or 0.
 
 use crate::{Bridge, Registers, Ring};
 
 /// The one length a block has.
-pub const LEN: usize = 55;
+pub const LEN: usize = 56;
+
+/// What the first byte of every block is.
+pub const VERSION: u8 = 1;
 
 /// The block of a state; lengths, margin and places are cut to two bytes.
 #[inline]
 pub fn pack(bridge: &Bridge) -> [u8; LEN] {
     let mut out = Writer::new();
+    out.bytes([VERSION]);
     out.size(bridge.receive_len);
     out.size(bridge.transmit_len);
     out.size(bridge.margin);
@@ -36,10 +41,11 @@ pub fn pack(bridge: &Bridge) -> [u8; LEN] {
 }
 
 /// The state that this block means: none unless the block has its length and is exactly what
-/// `pack` gives for that state, so every flag is 0 or 1. Whether the state fits is not asked here.
+/// `pack` gives for that state, so the version is ours and every flag is 0 or 1. Whether the state fits is not asked here.
 #[inline]
 pub fn unpack(block: &[u8]) -> Option<Bridge> {
     let mut from = Reader::new(block.try_into().ok()?);
+    let version = from.byte();
     // Fields of a literal are read in the order in which they are written here.
     let bridge = Bridge {
         receive_len: from.size(),
@@ -69,7 +75,7 @@ pub fn unpack(block: &[u8]) -> Option<Bridge> {
         lost: u32::from_le_bytes(from.bytes()),
         sent: u32::from_le_bytes(from.bytes()),
     };
-    from.flags_sound.then_some(bridge)
+    (version == VERSION && from.flags_sound).then_some(bridge)
 }
 
 /// A block that is being written, from its front.
@@ -171,13 +177,14 @@ impl Reader<'_> {
 mod tests {
     use super::*;
 
-    /// A block with another value at every place that is not a flag.
+    /// A block with another value at every place behind the version that is not a flag.
     fn numbered() -> [u8; LEN] {
         let mut block = [0; LEN];
         for (place, byte) in block.iter_mut().enumerate() {
-            let flag = matches!(place, 19..=21 | 24 | 33..=42);
+            let flag = matches!(place, 20..=22 | 25 | 34..=43);
             *byte = if flag { place as u8 & 1 } else { place as u8 };
         }
+        block[0] = VERSION;
         block
     }
 
@@ -186,15 +193,15 @@ mod tests {
         let block = numbered();
         let bridge = unpack(&block).expect("every flag is 0 or 1");
         assert_eq!(pack(&bridge), block);
-        assert_eq!((bridge.margin, bridge.registers.r11), (0x0504, 10));
-        assert_eq!((bridge.registers.c[5], bridge.address), (16, 17));
-        assert_eq!((bridge.under_way, bridge.receive.oldest), (0x1716, 0x1a19));
-        assert_eq!((bridge.transmit.held, bridge.sent), (0x201f, 0x3635_3433));
-        assert!(bridge.holding && !bridge.forbidden && bridge.stop_sent_last);
+        assert_eq!((bridge.margin, bridge.registers.r11), (0x0605, 11));
+        assert_eq!((bridge.registers.c[5], bridge.address), (17, 18));
+        assert_eq!((bridge.under_way, bridge.receive.oldest), (0x1817, 0x1b1a));
+        assert_eq!((bridge.transmit.held, bridge.sent), (0x2120, 0x3736_3534));
+        assert!(!bridge.holding && bridge.forbidden && !bridge.stop_sent_last);
     }
 
     #[test]
-    fn a_spoilt_flag_or_another_length_is_no_state() {
+    fn a_spoilt_flag_another_version_or_another_length_is_no_state() {
         let mut spoilt = 0;
         for place in 0..LEN {
             let mut block = numbered();
@@ -203,9 +210,14 @@ mod tests {
             assert!(back.is_none() || back == Some(block));
             spoilt += usize::from(back.is_none());
         }
-        assert_eq!(spoilt, 14);
+        assert_eq!(spoilt, 15);
+        for version in (0..=255).filter(|&version| version != VERSION) {
+            let mut block = numbered();
+            block[0] = version;
+            assert_eq!(unpack(&block), None);
+        }
         assert_eq!(unpack(&[0; LEN - 1]), None);
         assert_eq!(unpack(&[0; LEN + 1]), None);
-        println!("{spoilt} of {LEN} places are flags");
+        println!("{spoilt} of {LEN} places are the version and flags");
     }
 }

@@ -87,14 +87,14 @@ pub use refusal::Refusal;
 pub use side::Side;
 pub use state::{Registers, Ring, State};
 
-/// The length in bytes of every block.
+/// The length in bytes of every block. The first byte is the version of its layout, which is 1.
 ///
 /// ```
 /// use raftershim::{Bridge, BLOCK_LEN};
 ///
 /// let bridge = Bridge::create([0; 64], [0; 64], 8)?;
 /// let saved: [u8; BLOCK_LEN] = *bridge.block();
-/// assert_eq!(saved.len(), 55);
+/// assert_eq!((saved.len(), saved[0]), (56, 1));
 /// # Ok::<(), raftershim::Refusal>(())
 /// ```
-pub const BLOCK_LEN: usize = 55;
+pub const BLOCK_LEN: usize = 56;

@@ -38,7 +38,7 @@ extern "C" {
     /// use raftershim::raw::raftershim_block_len;
     ///
     /// // SAFETY: it takes nothing.
-    /// assert_eq!(unsafe { raftershim_block_len() }, 55);
+    /// assert_eq!(unsafe { raftershim_block_len() }, 56);
     /// ```
     pub fn raftershim_block_len() -> usize;
 
@@ -52,10 +52,10 @@ extern "C" {
     /// ```
     /// use raftershim::raw::raftershim_create;
     ///
-    /// let (mut block, rx, tx) = ([0; 55], [0; 4], [0; 3]);
+    /// let (mut block, rx, tx) = ([0; 56], [0; 4], [0; 3]);
     /// // SAFETY: the three are separate arrays of these lengths.
     /// let word = unsafe {
-    ///     raftershim_create(block.as_mut_ptr(), 55, rx.as_ptr(), 4, tx.as_ptr(), 3, 1)
+    ///     raftershim_create(block.as_mut_ptr(), 56, rx.as_ptr(), 4, tx.as_ptr(), 3, 1)
     /// };
     /// assert_eq!(word, 0);
     /// ```
@@ -78,15 +78,15 @@ extern "C" {
     /// ```
     /// use raftershim::raw::*;
     ///
-    /// let (mut block, rx, tx) = ([0; 55], [0; 4], [0; 3]);
+    /// let (mut block, rx, tx) = ([0; 56], [0; 4], [0; 3]);
     /// let (b, r, t) = (block.as_mut_ptr(), rx.as_ptr(), tx.as_ptr());
     /// // SAFETY: the three are separate arrays of these lengths.
     /// let word = unsafe {
-    ///     raftershim_create(b, 55, r, 4, t, 3, 1);
-    ///     raftershim_key(b, 55, r, 4, t, 3);
-    ///     raftershim_reset(b, 55, r, 4, t, 3)
+    ///     raftershim_create(b, 56, r, 4, t, 3, 1);
+    ///     raftershim_key(b, 56, r, 4, t, 3);
+    ///     raftershim_reset(b, 56, r, 4, t, 3)
     /// };
-    /// assert_eq!((word, block[38]), (0, 0));
+    /// assert_eq!((word, block[39]), (0, 0));
     /// ```
     pub fn raftershim_reset(
         block: *mut u8,
@@ -106,14 +106,14 @@ extern "C" {
     /// ```
     /// use raftershim::raw::*;
     ///
-    /// let (mut block, rx, tx) = ([0; 55], [0; 4], [0; 3]);
+    /// let (mut block, rx, tx) = ([0; 56], [0; 4], [0; 3]);
     /// let (b, r, t) = (block.as_mut_ptr(), rx.as_ptr(), tx.as_ptr());
     /// // SAFETY: the three are separate arrays of these lengths.
     /// let word = unsafe {
-    ///     raftershim_create(b, 55, r, 4, t, 3, 1);
-    ///     raftershim_write_register(b, 55, r, 4, t, 3, 10, 8)
+    ///     raftershim_create(b, 56, r, 4, t, 3, 1);
+    ///     raftershim_write_register(b, 56, r, 4, t, 3, 10, 8)
     /// };
-    /// assert_eq!((word, block[9]), (0, 8));
+    /// assert_eq!((word, block[10]), (0, 8));
     /// ```
     pub fn raftershim_write_register(
         block: *mut u8,
@@ -135,12 +135,12 @@ extern "C" {
     /// ```
     /// use raftershim::raw::*;
     ///
-    /// let (mut block, mut rx, tx) = ([0; 55], [0; 4], [0; 3]);
+    /// let (mut block, mut rx, tx) = ([0; 56], [0; 4], [0; 3]);
     /// let (b, r, t) = (block.as_mut_ptr(), rx.as_mut_ptr(), tx.as_ptr());
     /// // SAFETY: the three are separate arrays of these lengths.
     /// let word = unsafe {
-    ///     raftershim_create(b, 55, r, 4, t, 3, 1);
-    ///     raftershim_line_byte(b, 55, r, 4, t, 3, 50)
+    ///     raftershim_create(b, 56, r, 4, t, 3, 1);
+    ///     raftershim_line_byte(b, 56, r, 4, t, 3, 50)
     /// };
     /// assert_eq!((word, rx[0]), (0, 50));
     /// ```
@@ -163,14 +163,14 @@ extern "C" {
     /// ```
     /// use raftershim::raw::*;
     ///
-    /// let (mut block, mut rx, tx) = ([0; 55], [0; 4], [0; 3]);
+    /// let (mut block, mut rx, tx) = ([0; 56], [0; 4], [0; 3]);
     /// let (b, r, t) = (block.as_mut_ptr(), rx.as_mut_ptr(), tx.as_ptr());
     /// // SAFETY: the three are separate arrays of these lengths.
     /// let word = unsafe {
-    ///     raftershim_create(b, 55, r, 4, t, 3, 1);
-    ///     raftershim_break(b, 55, r, 4, t, 3)
+    ///     raftershim_create(b, 56, r, 4, t, 3, 1);
+    ///     raftershim_break(b, 56, r, 4, t, 3)
     /// };
-    /// assert_eq!((word, block[36]), (0, 1));
+    /// assert_eq!((word, block[37]), (0, 1));
     /// ```
     pub fn raftershim_break(
         block: *mut u8,
@@ -190,14 +190,14 @@ extern "C" {
     /// ```
     /// use raftershim::raw::*;
     ///
-    /// let (mut block, rx, tx) = ([0; 55], [0; 4], [0; 3]);
+    /// let (mut block, rx, tx) = ([0; 56], [0; 4], [0; 3]);
     /// let (b, r, t) = (block.as_mut_ptr(), rx.as_ptr(), tx.as_ptr());
     /// // SAFETY: the three are separate arrays of these lengths.
     /// let word = unsafe {
-    ///     raftershim_create(b, 55, r, 4, t, 3, 1);
-    ///     raftershim_key(b, 55, r, 4, t, 3)
+    ///     raftershim_create(b, 56, r, 4, t, 3, 1);
+    ///     raftershim_key(b, 56, r, 4, t, 3)
     /// };
-    /// assert_eq!((word, block[38]), (0, 1));
+    /// assert_eq!((word, block[39]), (0, 1));
     /// ```
     pub fn raftershim_key(
         block: *mut u8,
@@ -217,12 +217,12 @@ extern "C" {
     /// ```
     /// use raftershim::raw::*;
     ///
-    /// let (mut block, rx, tx) = ([0; 55], [0; 4], [0; 3]);
+    /// let (mut block, rx, tx) = ([0; 56], [0; 4], [0; 3]);
     /// let (b, r, t) = (block.as_mut_ptr(), rx.as_ptr(), tx.as_ptr());
     /// // SAFETY: the three are separate arrays of these lengths.
     /// let word = unsafe {
-    ///     raftershim_create(b, 55, r, 4, t, 3, 1);
-    ///     raftershim_next_line_byte(b, 55, r, 4, t, 3)
+    ///     raftershim_create(b, 56, r, 4, t, 3, 1);
+    ///     raftershim_next_line_byte(b, 56, r, 4, t, 3)
     /// };
     /// assert_eq!(word, 0x1_0000);
     /// ```
@@ -244,12 +244,12 @@ extern "C" {
     /// ```
     /// use raftershim::raw::*;
     ///
-    /// let (mut block, rx, mut tx) = ([0; 55], [0; 4], [0; 3]);
+    /// let (mut block, rx, mut tx) = ([0; 56], [0; 4], [0; 3]);
     /// let (b, r, t) = (block.as_mut_ptr(), rx.as_ptr(), tx.as_mut_ptr());
     /// // SAFETY: the three are separate arrays of these lengths.
     /// let word = unsafe {
-    ///     raftershim_create(b, 55, r, 4, t, 3, 1);
-    ///     raftershim_loop_frame(b, 55, r, 4, t, 3, 0x581)
+    ///     raftershim_create(b, 56, r, 4, t, 3, 1);
+    ///     raftershim_loop_frame(b, 56, r, 4, t, 3, 0x581)
     /// };
     /// assert_eq!(word, 0x3_0582);
     /// ```
@@ -275,13 +275,13 @@ extern "C" {
     /// ```
     /// use raftershim::raw::*;
     ///
-    /// let (mut block, mut rx, tx) = ([0; 55], [0; 4], [0; 3]);
+    /// let (mut block, mut rx, tx) = ([0; 56], [0; 4], [0; 3]);
     /// let (b, r, t) = (block.as_mut_ptr(), rx.as_mut_ptr(), tx.as_ptr());
     /// // SAFETY: the three are separate arrays of these lengths.
     /// let word = unsafe {
-    ///     raftershim_create(b, 55, r, 4, t, 3, 1);
-    ///     raftershim_line_byte(b, 55, r, 4, t, 3, 50);
-    ///     raftershim_show(b, 55, r, 4, t, 3, 0)
+    ///     raftershim_create(b, 56, r, 4, t, 3, 1);
+    ///     raftershim_line_byte(b, 56, r, 4, t, 3, 50);
+    ///     raftershim_show(b, 56, r, 4, t, 3, 0)
     /// };
     /// assert_eq!(word, 1);
     /// ```

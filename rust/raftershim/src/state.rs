@@ -129,7 +129,8 @@ pub struct Ring {
 
 impl State {
     /// Reads every field of a block. Whether the block fits its stores is for the calls to say:
-    /// here a flag is set exactly if its byte is 1, and every other field is taken as it is.
+    /// here a flag is set exactly if its byte is 1, and every other field is taken as it is. The
+    /// first byte is the version, which is no field of the state.
     ///
     /// ```
     /// use raftershim::{Bridge, State};
@@ -140,32 +141,32 @@ impl State {
     /// ```
     pub const fn of(block: &[u8; BLOCK_LEN]) -> State {
         State {
-            receive_len: two(block[0], block[1]),
-            transmit_len: two(block[2], block[3]),
-            margin: two(block[4], block[5]),
+            receive_len: two(block[1], block[2]),
+            transmit_len: two(block[3], block[4]),
+            margin: two(block[5], block[6]),
             registers: Registers::of(block),
-            address: block[17],
-            talker: block[18],
-            listener: flag(block[19]),
-            remote_enabled: flag(block[20]),
-            remote: flag(block[21]),
-            under_way: two(block[22], block[23]),
-            finishing: flag(block[24]),
-            receive: Ring::of([block[25], block[26], block[27], block[28]]),
-            transmit: Ring::of([block[29], block[30], block[31], block[32]]),
-            holding: flag(block[33]),
-            forbidden: flag(block[34]),
-            stop_sent_last: flag(block[35]),
-            seen_break: flag(block[36]),
-            seen_overrun: flag(block[37]),
-            seen_key: flag(block[38]),
-            again_break: flag(block[39]),
-            again_overrun: flag(block[40]),
-            again_key: flag(block[41]),
-            request: flag(block[42]),
-            stored: u32::from_le_bytes([block[43], block[44], block[45], block[46]]),
-            lost: u32::from_le_bytes([block[47], block[48], block[49], block[50]]),
-            sent: u32::from_le_bytes([block[51], block[52], block[53], block[54]]),
+            address: block[18],
+            talker: block[19],
+            listener: flag(block[20]),
+            remote_enabled: flag(block[21]),
+            remote: flag(block[22]),
+            under_way: two(block[23], block[24]),
+            finishing: flag(block[25]),
+            receive: Ring::of([block[26], block[27], block[28], block[29]]),
+            transmit: Ring::of([block[30], block[31], block[32], block[33]]),
+            holding: flag(block[34]),
+            forbidden: flag(block[35]),
+            stop_sent_last: flag(block[36]),
+            seen_break: flag(block[37]),
+            seen_overrun: flag(block[38]),
+            seen_key: flag(block[39]),
+            again_break: flag(block[40]),
+            again_overrun: flag(block[41]),
+            again_key: flag(block[42]),
+            request: flag(block[43]),
+            stored: u32::from_le_bytes([block[44], block[45], block[46], block[47]]),
+            lost: u32::from_le_bytes([block[48], block[49], block[50], block[51]]),
+            sent: u32::from_le_bytes([block[52], block[53], block[54], block[55]]),
         }
     }
 }
@@ -173,17 +174,17 @@ impl State {
 impl Registers {
     const fn of(block: &[u8; BLOCK_LEN]) -> Registers {
         Registers {
-            r00: block[6],
-            r01: block[7],
-            r02: block[8],
-            r10: block[9],
-            r11: block[10],
-            c00: block[11],
-            c01: block[12],
-            c02: block[13],
-            c03: block[14],
-            c04: block[15],
-            c05: block[16],
+            r00: block[7],
+            r01: block[8],
+            r02: block[9],
+            r10: block[10],
+            r11: block[11],
+            c00: block[12],
+            c01: block[13],
+            c02: block[14],
+            c03: block[15],
+            c04: block[16],
+            c05: block[17],
         }
     }
 }

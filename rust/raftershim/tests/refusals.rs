@@ -70,8 +70,8 @@ fn a_damaged_block_is_refused_everywhere() {
     let mut held = small();
     held.line_byte(50).unwrap();
     let (block, receive, transmit) = held.into_parts();
-    // The flag at 19 would be neither 0 nor 1, the address at 17 above 31, the length at 0 wrong.
-    for (place, value) in [(19, 2), (17, 32), (0, 9)] {
+    // The flag at 20 would be neither 0 nor 1, the address at 18 above 31, the length at 1 wrong.
+    for (place, value) in [(20, 2), (18, 32), (1, 9)] {
         let mut damaged = block;
         damaged[place] = value;
         let bridge = Bridge::from_parts(damaged, receive, transmit);
@@ -134,6 +134,23 @@ fn register_writes_are_refused_by_number_value_bit_and_character() {
     ];
     for (number, value, refusal) in writes {
         refused(small(), refusal, |b| b.write_register(number, value));
+    }
+}
+
+#[test]
+fn a_block_of_another_version_is_refused() {
+    let mut held = small();
+    held.line_byte(50).unwrap();
+    let (ours, receive, transmit) = held.into_parts();
+    assert_eq!(ours[0], 1);
+    for version in (0..=u8::MAX).filter(|&version| version != 1) {
+        let mut block = ours;
+        block[0] = version;
+        let bridge = Bridge::from_parts(block, receive, transmit);
+        for (_, call) in CALLS {
+            refused(bridge.clone(), Refusal::Misfit, call);
+        }
+        assert!(bridge.show(Side::Receive).is_empty());
     }
 }
 

@@ -1,8 +1,8 @@
+use native.Mathlib.Omega.{arith}
 use denote.Ref.{now}
 use mathlib.Core.Path.{refl, _∙_}
 use Rattle.state.proofs.Fits.{is-misfit, is-fit}
-use Rattle.block.proofs.Same.{other-length, means, means-none}
-use Rattle.block.proofs.Tests.{state-if-right, none-if-wrong}
+use Rattle.block.proofs.Same.{other-length, state-if-right, none-if-wrong, means, means-none}
 use borrow.Author.Needs.{needs}
 use Rattle.block.proofs.meaning.Statement.{statement}
 use Rattle.block.proofs.meaning.Tie as tie
@@ -15,6 +15,6 @@ meaning-spec =
     (λ c. c .no-state .ensures ∙ means-none _ _ (other-length _ (c .before .if1 .taken)) refl)
     (λ c κs. search needs)
     (λ c κs. search needs)
-    (λ c. c .no-state2 .ensures ∙ means-none _ _ (none-if-wrong (now (c .before .before .before .before .before .args .b)) (is-misfit (c .before .before .flags-right .ensures) (c .before .if2 .taken))) refl)
+    (λ c. c .no-state2 .ensures ∙ means-none _ _ (none-if-wrong (now (c .before .before .before .before .before .args .b)) (is-misfit (c .before .before .right .ensures) (c .before .if2 .taken))) refl)
     (λ c κs. search needs)
-    (λ c. c .unpack .ensures .0 ∙ means _ _ (state-if-right (now (c .before .before .before .before .before .args .b)) (c .before .before .before .if1 .left) (c .unpack .ensures .1) (is-fit (c .before .before .flags-right .ensures) (c .before .if2 .left))) refl))
+    (λ c. c .unpack .ensures ∙ means _ _ (state-if-right (now (c .before .before .before .before .before .args .b)) (c .before .before .before .if1 .left) (λ k. omega (arith, c .before .before .before .before .shared-slice-known .given k)) (is-fit (c .before .before .right .ensures) (c .before .if2 .left))) refl))

@@ -1,5 +1,5 @@
 use denote.Ref.{now}
-use Rattle.block.proofs.Groups.{under-read}
+use Rattle.block.specs.Packed.{stateAt}
 use borrow.Author.Needs.{needs}
 use Rattle.block.proofs.reading.under_at.Statement.{statement}
 use Rattle.block.proofs.reading.under_at.Tie as tie
@@ -10,4 +10,4 @@ under-at-spec =
     (tie.spec
     (λ c κs. search needs)
     (λ c. search needs)
-    (λ c. (under-read (now (c .before .before .before .args .b)) (c .before .read16 .ensures .0), c .before .read16 .ensures .1)))
+    (λ c i. record { frame = c .before .read16 .ensures i; finishing = stateAt (now (c .before .before .before .args .b)) .under .finishing }))
