@@ -12,11 +12,11 @@ use Rattle.cases.proofs.Cases.{and-left, and-right}
 use Rattle.registers.specs.Fit.{values, valueIn, valueOf}
 use Rattle.registers.specs.Table.{startRegisters}
 use Rattle.registers.proofs.Fits.{fit-byte, fit-start}
-use Rattle.role.specs.Fit as role-fit
-use Rattle.role.proofs.FitLaws.{fit-true}
+use Rattle.talker.specs.Fit as talker-fit
+use Rattle.talker.proofs.FitLaws.{fit-true}
 use Rattle.state.specs.declared.State.{State}
 use Rattle.state.specs.Sizes.{sizesObeyed, startState, fits, RxFits, TxFits}
-use Rattle.state.proofs.Fits.{Tests, tests, rx-fits, tx-fits}
+use Rattle.state.proofs.Fits.{Obeyed, sizes-hold, Tests, tests, rx-fits, tx-fits}
 use Rattle.block.specs.Packed.{blockLen, layout, packed, unpacked}
 use Rattle.block.specs.States.{isState, meaning, noState, fittingBlock, CountsRanged, Ranged}
 use Rattle.block.specs.Places.{at-self}
@@ -80,14 +80,14 @@ _&_ : {A B : Type 0} → A → B → A × B
 a & b = (a, b)
 
 -- a range for each row of the table
-ranged-by : (s : State) → s .sizes .rx < 65536 → s .sizes .tx < 65536 → s .sizes .margin < 65536 → ((n : ℕ) → valueOf (s .regs) n < 256) →
-    s .role .address < 256 → s .role .talker < 256 → s .under .frame < 65536 →
+ranged-by : (s : State) → s .rx .cap < 65536 → s .tx .cap < 65536 → s .margin < 65536 → ((n : ℕ) → valueOf (s .regs) n < 256) →
+    s .talker .role .address < 256 → s .talker .role .phase < 256 → s .talker .under .frame < 65536 →
     s .rx .oldest < 65536 → s .rx .len < 65536 → s .tx .oldest < 65536 → s .tx .len < 65536 → CountsRanged (s .counts) → Ranged s
 unfolding values valueIn
-ranged-by s rx tx margin g address talker frame rxOldest rxLen txOldest txLen k =
+ranged-by s rx tx margin g address phase frame rxOldest rxLen txOldest txLen k =
     tt & rx & tx & margin
     & g 0 & g 1 & g 2 & g 10 & g 11 & g 16 & g 17 & g 18 & g 19 & g 20 & g 21
-    & address & talker & tt & tt & tt
+    & address & phase & tt & tt & tt
     & frame & tt
     & rxOldest & rxLen & txOldest & txLen
     & tt & tt & tt
@@ -103,9 +103,9 @@ fits-ranged s rx tx e h =
     let t : Tests s (length rx) (length tx) = tests s (length rx) (length tx) e in
     let r : RxFits s rx = rx-fits s rx tx e in
     let x : TxFits s tx = tx-fits s rx tx e in
-    let o : role-fit.Fit (s .role) = fit-true (s .role) (t .role) in
+    let o : talker-fit.Fit (s .talker) = fit-true (s .talker) (t .talker) in
     ranged-by s (omega arith) (omega arith) (omega arith) (fit-byte (s .regs) (t .regs))
-    (omega arith) (omega arith) (omega (arith, t .frame))
+    (omega arith) (omega arith) (omega arith)
     (omega arith) (omega arith) (omega arith) (omega arith) h
 
 -- what create gives for sizes that are obeyed
@@ -117,14 +117,8 @@ start-ranged m rx tx a b c =
     (omega arith) (omega arith) (omega arith) (omega arith) (record { stored = omega arith; lost = omega arith; sent = omega arith })
 
 pub obeyed-ranged : (m rx tx : ℕ) → sizesObeyed m rx tx ≡ true → Ranged (startState m rx tx)
-unfolding sizesObeyed
 obeyed-ranged m rx tx e =
-    let more : ((((leb 1 m && leb (2 * m + 2) rx) && leb rx 32768) && leb 3 tx) && leb tx 32768) ≡ true = and-right (leb m 1024) _ e in
-    let most : (((leb 1 m && leb (2 * m + 2) rx) && leb rx 32768) && leb 3 tx) ≡ true = and-left _ (leb tx 32768) more in
-    let few : ((leb 1 m && leb (2 * m + 2) rx) && leb rx 32768) ≡ true = and-left _ (leb 3 tx) most in
-    let a : m ≤ 1024 = leb-true m 1024 (and-left (leb m 1024) _ e) in
-    let b : rx ≤ 32768 = leb-true rx 32768 (and-right (leb 1 m && leb (2 * m + 2) rx) _ few) in
-    let c : tx ≤ 32768 = leb-true tx 32768 (and-right (((leb 1 m && leb (2 * m + 2) rx) && leb rx 32768) && leb 3 tx) _ more) in
+    let o : Obeyed m rx tx = sizes-hold m rx tx e in
     start-ranged m rx tx (omega arith) (omega arith) (omega arith)
 
 -- ---- what is no state fits no stores

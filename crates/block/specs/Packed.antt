@@ -1,11 +1,12 @@
 -- The packed block: the state travels as a lent block of bytes of one fixed length, each field at a fixed place. A size or a place stands in
 -- two bytes and a count in four, low byte first, a register in one byte, a flag as 1 or 0.
-use Prim.Native.Nat.{ℕ}
+use Prim.Native.Nat.{ℕ, _+_}
 use mathlib.Core.Path.{_≡_, refl}
 use mathlib.Core.Bool.{Bool, true}
 use mathlib.Core.List.{List}
 use native.Mathlib.Omega.{arith}
 use lib.ListN.{take, drop}
+use Rattle.store.specs.declared.Ring.{Ring}
 use Rattle.state.specs.declared.State.{State}
 use Rattle.block.specs.Codec.{Codec, Rows, byte, two, four, flag, field, marked, through, _▸_}
 
@@ -23,19 +24,22 @@ rows =
     marked version (omega arith)
     (λ (rxSize txSize margin : ℕ)
     (r00 r01 r02 r10 r11 c00 c01 c02 c03 c04 c05 : ℕ)
-    (address talker : ℕ) (listener enabled remote : Bool)
+    (address phase : ℕ) (listener enabled remote : Bool)
     (frame : ℕ) (finishing : Bool)
     (rxOldest rxLen txOldest txLen : ℕ)
     (holding forbidden stopped : Bool)
     (brk overrun key brkAgain overrunAgain keyAgain request : Bool)
     (stored lost sent : ℕ).
     record {
-      sizes = record { rx = rxSize; tx = txSize; margin = margin };
+      margin = margin;
       regs = record { r00 = r00; r01 = r01; r02 = r02; r10 = r10; r11 = r11; c00 = c00; c01 = c01; c02 = c02; c03 = c03; c04 = c04; c05 = c05 };
-      role = record { address = address; talker = talker; listener = listener; enabled = enabled; remote = remote };
-      under = record { frame = frame; finishing = finishing };
-      rx = record { oldest = rxOldest; len = rxLen };
-      tx = record { oldest = txOldest; len = txLen };
+      talker = record {
+        role = record { address = address; phase = phase; listener = listener };
+        under = record { frame = frame; finishing = finishing };
+      };
+      remote = record { enabled = enabled; remote = remote };
+      rx = record { cap = rxSize; oldest = rxOldest; len = rxLen };
+      tx = record { cap = txSize; oldest = txOldest; len = txLen };
       line = record { holding = holding; forbidden = forbidden; stopped = stopped };
       notes = record {
         seen = record { brk = brk; overrun = overrun; key = key };
@@ -44,9 +48,9 @@ rows =
       };
       counts = record { stored = stored; lost = lost; sent = sent };
     })
-    ▸ field 1 two (λ s. s .sizes .rx)
-    ▸ field 3 two (λ s. s .sizes .tx)
-    ▸ field 5 two (λ s. s .sizes .margin)
+    ▸ field 1 two (λ s. s .rx .cap)
+    ▸ field 3 two (λ s. s .tx .cap)
+    ▸ field 5 two (λ s. s .margin)
     ▸ field 7 byte (λ s. s .regs .r00)
     ▸ field 8 byte (λ s. s .regs .r01)
     ▸ field 9 byte (λ s. s .regs .r02)
@@ -58,13 +62,13 @@ rows =
     ▸ field 15 byte (λ s. s .regs .c03)
     ▸ field 16 byte (λ s. s .regs .c04)
     ▸ field 17 byte (λ s. s .regs .c05)
-    ▸ field 18 byte (λ s. s .role .address)
-    ▸ field 19 byte (λ s. s .role .talker)
-    ▸ field 20 flag (λ s. s .role .listener)
-    ▸ field 21 flag (λ s. s .role .enabled)
-    ▸ field 22 flag (λ s. s .role .remote)
-    ▸ field 23 two (λ s. s .under .frame)
-    ▸ field 25 flag (λ s. s .under .finishing)
+    ▸ field 18 byte (λ s. s .talker .role .address)
+    ▸ field 19 byte (λ s. s .talker .role .phase)
+    ▸ field 20 flag (λ s. s .talker .role .listener)
+    ▸ field 21 flag (λ s. s .remote .enabled)
+    ▸ field 22 flag (λ s. s .remote .remote)
+    ▸ field 23 two (λ s. s .talker .under .frame)
+    ▸ field 25 flag (λ s. s .talker .under .finishing)
     ▸ field 26 two (λ s. s .rx .oldest)
     ▸ field 28 two (λ s. s .rx .len)
     ▸ field 30 two (λ s. s .tx .oldest)
@@ -100,6 +104,10 @@ packedHead s = take 26 (layout .put s)
 
 abbrev pub packedTail : State → List ℕ
 packedTail s = drop 26 (layout .put s)
+
+-- the ring whose size stands at c, and the rest of it from i
+abbrev pub ringAt : List ℕ → ℕ → ℕ → Ring
+ringAt b c i = record { cap = two .get b c; oldest = two .get b i; len = two .get b (i + 2) }
 
 -- the state that the bytes of a block are read as
 abbrev pub stateAt : List ℕ → State

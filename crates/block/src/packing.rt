@@ -4,18 +4,18 @@ ghost use Rattle.block.specs.Packed.{packedHead, packedTail};
 use crate::VERSION;
 use state::State;
 
-// The bytes of the version, the sizes, the registers, the role and the frame under way.
+// The bytes of the version, the sizes, the registers, the talker and the remote flags.
 pub fn packed_head(s: State) -> [u8; 26]
     ensures { λ r. ⌜ r ≡ packedHead s ⌝ }
 {
     [
         VERSION,
-        (s.sizes.rx % 256) as u8,
-        (s.sizes.rx / 256 % 256) as u8,
-        (s.sizes.tx % 256) as u8,
-        (s.sizes.tx / 256 % 256) as u8,
-        (s.sizes.margin % 256) as u8,
-        (s.sizes.margin / 256 % 256) as u8,
+        (s.rx.cap % 256) as u8,
+        (s.rx.cap / 256 % 256) as u8,
+        (s.tx.cap % 256) as u8,
+        (s.tx.cap / 256 % 256) as u8,
+        (s.margin % 256) as u8,
+        (s.margin / 256 % 256) as u8,
         s.regs.r00,
         s.regs.r01,
         s.regs.r02,
@@ -27,14 +27,14 @@ pub fn packed_head(s: State) -> [u8; 26]
         s.regs.c03,
         s.regs.c04,
         s.regs.c05,
-        s.role.address,
-        s.role.talker,
-        s.role.listener as u8,
-        s.role.enabled as u8,
-        s.role.remote as u8,
-        (s.under.frame % 256) as u8,
-        (s.under.frame / 256 % 256) as u8,
-        s.under.finishing as u8,
+        s.talker.role.address,
+        s.talker.role.phase,
+        s.talker.role.listener as u8,
+        s.remote.enabled as u8,
+        s.remote.remote as u8,
+        (s.talker.under.frame % 256) as u8,
+        (s.talker.under.frame / 256 % 256) as u8,
+        s.talker.under.finishing as u8,
     ]
 }
 

@@ -3,17 +3,18 @@ ghost use mathlib.Core.Path.{_≡_};
 ghost use Prim.Native.Nat.{_+_, _<_};
 ghost use lib.ListN.{length};
 ghost use Rattle.block.specs.Codec.{two, four};
-ghost use Rattle.block.specs.Packed.{blockLen, stateAt, unpacked};
+ghost use Rattle.block.specs.Packed.{blockLen, ringAt, stateAt, unpacked};
 use registers::Registers;
 use role::Role;
+use role::remote::Remote;
 use state::Counts;
 use state::Line;
 use state::Notes;
-use state::Sizes;
 use state::State;
-use state::Under;
 use status::Events;
 use store::Ring;
+use talker::Talker;
+use talker::Under;
 
 // A byte in more bits, here and in the next two: the caller is asked only for the place that it is read from.
 fn wide(x: u8) -> usize
@@ -58,18 +59,6 @@ fn read32(b: &[u8], i: usize) -> u32
     wide32(b[i]) + 256 * wide32(b[i + 1]) + 65536 * wide32(b[i + 2]) + 16777216 * wide32(b[i + 3])
 }
 
-// The sizes in a block.
-fn sizes_at(b: &[u8]) -> Sizes
-    requires { ⌜ length (now b) ≡ blockLen ⌝ }
-    ensures { λ r. ⌜ r ≡ stateAt (now (b .entry)) .sizes ⌝ }
-{
-    Sizes {
-        rx: read(b, 1),
-        tx: read(b, 3),
-        margin: read(b, 5),
-    }
-}
-
 // The registers in a block.
 fn registers_at(b: &[u8]) -> Registers
     requires { ⌜ length (now b) ≡ blockLen ⌝ }
@@ -90,37 +79,42 @@ fn registers_at(b: &[u8]) -> Registers
     }
 }
 
-// The role in a block.
-fn role_at(b: &[u8]) -> Role
+// The talker in a block: its role and the frame under way.
+fn talker_at(b: &[u8]) -> Talker
     requires { ⌜ length (now b) ≡ blockLen ⌝ }
-    ensures { λ r. ⌜ r ≡ stateAt (now (b .entry)) .role ⌝ }
+    ensures { λ r. ⌜ r ≡ stateAt (now (b .entry)) .talker ⌝ }
 {
-    Role {
-        address: b[18],
-        talker: b[19],
-        listener: b[20] == 1,
+    Talker {
+        role: Role {
+            address: b[18],
+            phase: b[19],
+            listener: b[20] == 1,
+        },
+        under: Under {
+            frame: read16(b, 23),
+            finishing: b[25] == 1,
+        },
+    }
+}
+
+// The remote flags in a block.
+fn remote_at(b: &[u8]) -> Remote
+    requires { ⌜ length (now b) ≡ blockLen ⌝ }
+    ensures { λ r. ⌜ r ≡ stateAt (now (b .entry)) .remote ⌝ }
+{
+    Remote {
         enabled: b[21] == 1,
         remote: b[22] == 1,
     }
 }
 
-// The frame under way in a block.
-fn under_at(b: &[u8]) -> Under
-    requires { ⌜ length (now b) ≡ blockLen ⌝ }
-    ensures { λ r. ⌜ r ≡ stateAt (now (b .entry)) .under ⌝ }
-{
-    Under {
-        frame: read16(b, 23),
-        finishing: b[25] == 1,
-    }
-}
-
-// The ring in a block from i.
-fn ring_at(b: &[u8], i: usize) -> Ring
-    requires { ⌜ i + 3 < length (now b) ⌝ }
-    ensures { λ r. ⌜ r ≡ record { oldest = two .get (now (b .entry)) i; len = two .get (now (b .entry)) (i + 2) } ⌝ }
+// The ring in a block whose size stands at c, and the rest of it from i.
+fn ring_at(b: &[u8], c: usize, i: usize) -> Ring
+    requires { ⌜ (c + 1 < length (now b)) × (i + 3 < length (now b)) ⌝ }
+    ensures { λ r. ⌜ r ≡ ringAt (now (b .entry)) c i ⌝ }
 {
     Ring {
+        cap: read(b, c),
         oldest: read(b, i),
         len: read(b, i + 2),
     }
@@ -175,20 +169,20 @@ pub fn unpack(b: &[u8]) -> State
     requires { ⌜ length (now b) ≡ blockLen ⌝ }
     ensures { λ r. ⌜ r ≡ unpacked (now (b .entry)) ⌝ }
 {
-    let sizes = sizes_at(b);
+    let margin = read(b, 5);
     let regs = registers_at(b);
-    let role = role_at(b);
-    let under = under_at(b);
-    let rx = ring_at(b, 26);
-    let tx = ring_at(b, 30);
+    let talker = talker_at(b);
+    let remote = remote_at(b);
+    let rx = ring_at(b, 1, 26);
+    let tx = ring_at(b, 3, 30);
     let line = line_at(b);
     let notes = notes_at(b);
     let counts = counts_at(b);
     State {
-        sizes,
+        margin,
         regs,
-        role,
-        under,
+        talker,
+        remote,
         rx,
         tx,
         line,

@@ -7,6 +7,7 @@ ring-at-spec =
     tie.close
     (tie.spec
     (λ c κs. search needs)
+    (λ c κs. search needs)
     (λ c. search needs)
     (λ c κs. search needs)
-    (λ c i. record { oldest = c .before .read .ensures i; len = c .read2 .ensures i }))
+    (λ c i. record { cap = c .before .before .read .ensures i; oldest = c .before .read2 .ensures i; len = c .read3 .ensures i }))

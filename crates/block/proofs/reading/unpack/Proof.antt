@@ -18,10 +18,10 @@ unpack-spec =
     (λ c κs. search needs)
     (λ c κs. search needs)
     (λ c i. record {
-      sizes = c .before .before .before .before .before .before .before .before .sizes-at .ensures i;
+      margin = c .before .before .before .before .before .before .before .before .read .ensures i;
       regs = c .before .before .before .before .before .before .before .registers-at .ensures i;
-      role = c .before .before .before .before .before .before .role-at .ensures i;
-      under = c .before .before .before .before .before .under-at .ensures i;
+      talker = c .before .before .before .before .before .before .talker-at .ensures i;
+      remote = c .before .before .before .before .before .remote-at .ensures i;
       rx = c .before .before .before .before .ring-at .ensures i;
       tx = c .before .before .before .ring-at2 .ensures i;
       line = c .before .before .line-at .ensures i;
