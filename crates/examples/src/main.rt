@@ -224,13 +224,18 @@ fn ninth_lost(s: State, rx: &[u8], tx: &mut [u8]) {
     offer(b, rx, tx, 5, 97);
 }
 
+// The go that we owe the line where two bytes are held, and the end of sending.
+fn two_held(s: State, rx: &[u8], tx: &mut [u8]) {
+    shown(s, rx, tx, 0);
+    let go = next(s, rx, tx);
+    ninth_lost(go, rx, tx);
+}
+
 fn two_held_ends_it(s: State, rx: &[u8], tx: &mut [u8]) {
     shown(s, rx, tx, 0);
     let t = talker(s, rx, tx);
     let end = six_sent(t, rx, tx);
-    shown(end, rx, tx, 0);
-    let go = next(end, rx, tx);
-    ninth_lost(go, rx, tx);
+    two_held(end, rx, tx);
 }
 
 fn holding_off() {
