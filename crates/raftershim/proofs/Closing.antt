@@ -127,8 +127,8 @@ run-shown : (xs : List ℕ) (r : Ring) (p : List ℕ) (k : ℕ) → Fit xs r →
 run-shown xs r p k f e h =
     let size : length p ≡ min (r .len) (length xs - r .oldest) = ap length e ∙ run-size xs r in
     record {
-      start = omega (arith, f .oldest, f .small);
-      len = omega (arith, f .small);
+      start = omega (arith, f .within .oldest, f .within .small);
+      len = omega (arith, f .within .len, f .within .small);
       place = e ∙ sym (run-part xs r (length p) size) ∙ ap (λ (n : ℕ). take (length p) (drop n xs)) (sym h);
     }
 

@@ -23,8 +23,8 @@ use Rattle.state.specs.Sizes.{sizesObeyed, startState, fits}
 use Rattle.state.specs.Status.{settled, afterStatusBack, afterStatus, breakState, keyState}
 use Rattle.line.specs.HoldingOff.{isGoOrStop, flowed, storedWith, lostState, lineState, resumed, setAfresh, afterWrite, nextOut, goneState}
 use Rattle.loops.specs.LoopToLine.{adds, addedState, addedBytes}
-use Rattle.loops.specs.Sending.{talking, ended, ruleOf, removedState, sendState, sendFrom, sendStatus}
-use Rattle.loops.specs.Frames.{cleared, obeyed, finishing, deviceClear, addsBytes, frameBytes}
+use Rattle.loops.specs.Sending.{ended, ruleOf, removedState, sendState, sendFrom, sendStatus}
+use Rattle.loops.specs.Frames.{cleared, obeyed, deviceClear, addsBytes, frameBytes}
 use Rattle.laws.specs.Bridges.{ByteCall}
 use Rattle.laws.proofs.Fitting.{keeps-fit, keeps-bytes}
 use Rattle.laws.proofs.Small.{put-bytes}
@@ -67,7 +67,7 @@ unfolding lineState flowed storedWith lostState
 line-counts s b k =
     by-cond Counted (isGoOrStop (s .regs) b) _ _
     (λ e. k)
-    (λ e. by-cond Counted (full (s .sizes .rx) (s .rx)) _ _
+    (λ e. by-cond Counted (full (s .rx)) _ _
     (λ e. record { stored = k .stored; lost = counted-ranged (s .counts .lost); sent = k .sent })
     (λ e. record { stored = counted-ranged (s .counts .stored); lost = k .lost; sent = k .sent }))
 
@@ -82,7 +82,7 @@ unfolding removedState resumed
 removed-counts s rx k = k
 
 send-counts : (s t : State) (g : Given) → Counted t → Counts (sendState s t g)
-unfolding sendState ended talking
+unfolding sendState ended
 send-counts s t Nothing k = k
 send-counts s t (One f) k = record { stored = k .stored; lost = k .lost; sent = counted-ranged (t .counts .sent) }
 
@@ -91,7 +91,7 @@ unfolding sendFrom
 from-counts s rx k = send-counts s (removedState s rx) (givenOf (sendHeld (ruleOf (s .regs)) rx (s .rx))) (removed-counts s rx k)
 
 frame-counts : (s : State) (rx : List ℕ) (f : ℕ) (o : Outcome) → Way s rx f o → Counted s → Counts o
-unfolding sendStatus ended talking afterStatus afterStatusBack addedState cleared obeyed finishing
+unfolding sendStatus ended afterStatus afterStatusBack addedState cleared obeyed
 frame-counts s rx f o (isNext r m t e) k = from-counts s rx k
 frame-counts s rx f o (isBack r m t) k = k
 frame-counts s rx f o (isLast r m t e) k = k
@@ -110,7 +110,7 @@ frame-counts s rx f o (isIdentified r) k = k
 accepted-counts : (c : Call) (w : World) → Counted (w .state) → CountsRanged (notRefused c w .world .state .counts)
 unfolding notRefused settledBy outcome breakState keyState
 accepted-counts (create m) w k = start-counts m (length (w .rx)) (length (w .tx))
-accepted-counts (on reset) w k = settled-counts (w .state) _ (start-counts (w .state .sizes .margin) (length (w .rx)) (length (w .tx)))
+accepted-counts (on reset) w k = settled-counts (w .state) _ (start-counts (w .state .margin) (length (w .rx)) (length (w .tx)))
 accepted-counts (on (write n v)) w k = settled-counts (w .state) _ (write-counts (w .state) n v k)
 accepted-counts (on (lineByte b)) w k = settled-counts (w .state) _ (line-counts (w .state) b k)
 accepted-counts (on lineBreak) w k = settled-counts (w .state) (breakState (w .state)) k
