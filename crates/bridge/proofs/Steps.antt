@@ -14,10 +14,13 @@ use Rattle.state.specs.declared.Out.{Out}
 use Rattle.answers.specs.Answers.{said}
 use Rattle.state.specs.Sizes.{sizesObeyed, startState, fits}
 use Rattle.loops.specs.LoopToLine.{busy}
-use Rattle.loops.specs.Frames.{frameSettled, Framed}
+use Rattle.loops.specs.Frames.{deviceClear, Framed}
 use Rattle.line.specs.HoldingOff.{nextOut, goneState, outAnswer}
 use Rattle.state.specs.Status.{settled}
-use Rattle.bridge.specs.Calls.{OnState, world, Did, did, handed, checksOn, checks, doneWith, refusedWith, outcome, settledBy, rxAfter, txAfter, shown, notRefused, refusedOr, step, unmade, nextLineByte, loopFrame, create, show, on}
+use Rattle.bridge.specs.Calls.{OnState, world, Did, did, handed, checksOn, checks, doneWith, refusedWith, outcome, settledOutcome, settledBy, rxAfter, txAfter, shown, notRefused, refusedOr, step, unmade, nextLineByte, loopFrame, create, show, on}
+
+pub settled-met : (s : State) (o : Outcome) (t : State) → t ≡ settled s (o .state) → record { state = t; answer = o .answer } ≡ settledOutcome s o
+settled-met s o t p = rw p
 
 -- the checks of a loop frame after the one for a misfit
 abbrev frameChecks : State → ℕ → List Check
@@ -45,17 +48,16 @@ module _ (s : State) (rx tx : List ℕ) (e : fits s (length rx) (length tx) ≡ 
   refused-met c n o h d q = ap (λ (x : Outcome). did x rx tx) q ∙ sym (rw (e, ← h, ne-eqb n 0 d))
 
   -- a call that has nothing to hand out
-  pub done-met : (c : OnState) (o : Outcome) (rx′ tx′ : List ℕ) (t u : State) → firstRefusal (checksOn c s) ≡ 0 →
+  pub done-met : (c : OnState) (o : Outcome) (rx′ tx′ : List ℕ) (t : State) → firstRefusal (checksOn c s) ≡ 0 →
       doneWith t ≡ outcome c (world s rx tx) → settled s t ≡ settledBy c s t → rx′ ≡ rxAfter c (world s rx tx) → tx′ ≡ txAfter c (world s rx tx) →
-      u ≡ settled s t → o ≡ doneWith u → did o rx′ tx′ ≡ step (on c) (world s rx tx)
+      o ≡ settledOutcome s (doneWith t) → did o rx′ tx′ ≡ step (on c) (world s rx tx)
   unfolding notRefused
-  done-met c o rx′ tx′ t u h a b x y z q =
-      fit-met c (did o rx′ tx′) h (rw (q, z, b, x, y, ← a))
+  done-met c o rx′ tx′ t h a b x y q = fit-met c (did o rx′ tx′) h (rw (q, b, x, y, ← a))
 
-  pub next-done : (x : Out) (a : Answer) (t u : State) → x ≡ nextOut s tx → a ≡ outAnswer x → t ≡ goneState s x → u ≡ settled s t →
-      did (record { state = u; answer = a }) rx tx ≡ step (on nextLineByte) (world s rx tx)
+  pub next-done : (o : Outcome) (x : Out) (a : Answer) (t : State) → x ≡ nextOut s tx → a ≡ outAnswer x → t ≡ goneState s x →
+      o ≡ settledOutcome s (record { state = t; answer = a }) → did o rx tx ≡ step (on nextLineByte) (world s rx tx)
   unfolding checksOn notRefused outcome settledBy rxAfter txAfter
-  next-done x a t u p q r z = fit-met nextLineByte (did (record { state = u; answer = a }) rx tx) refl (rw (z, r, q, p))
+  next-done o x a t p q r z = fit-met nextLineByte (did o rx tx) refl (rw (z, r, q, p))
 
   pub frame-large : (f : ℕ) → 2047 < f → firstRefusal (frameChecks s f) ≡ 3
   unfolding checksOn
@@ -65,9 +67,14 @@ module _ (s : State) (rx tx : List ℕ) (e : fits s (length rx) (length tx) ≡ 
   unfolding checksOn
   frame-busy f h b = rw (le-ltb 2047 f h, b)
 
-  pub frame-done : (o : Outcome) (f : ℕ) (tx′ : List ℕ) → f ≤ 2047 → busy s f ≡ false → Framed s rx tx f tx′ o → did o rx tx′ ≡ step (on (loopFrame f)) (world s rx tx)
-  unfolding checksOn notRefused outcome settledBy rxAfter txAfter frameSettled
-  frame-done o f tx′ h b q = fit-met (loopFrame f) (did o rx tx′) (rw (le-ltb 2047 f h, b)) (rw (q .outcome, q .bytes))
+  module _ (f : ℕ) (tx′ : List ℕ) (o : Outcome) (h : f ≤ 2047) (b : busy s f ≡ false) (q : Framed s rx tx f tx′ o) where
+    pub frame-clears : deviceClear s f ≡ true → did o rx tx′ ≡ step (on (loopFrame f)) (world s rx tx)
+    unfolding checksOn notRefused outcome settledBy rxAfter txAfter
+    frame-clears k = fit-met (loopFrame f) (did o rx tx′) (rw (le-ltb 2047 f h, b)) (rw (q .outcome, q .bytes, k))
+
+    pub frame-settled : (p : Outcome) → deviceClear s f ≡ false → p ≡ settledOutcome s o → did p rx tx′ ≡ step (on (loopFrame f)) (world s rx tx)
+    unfolding checksOn notRefused outcome settledBy rxAfter txAfter
+    frame-settled p k e = fit-met (loopFrame f) (did p rx tx′) (rw (le-ltb 2047 f h, b)) (rw (e, q .outcome, q .bytes, k))
 
   pub show-receive : (p : List ℕ) → p ≡ run rx (s .rx) → (side : ℕ) → side ≡ 0 → handed p (world s rx tx) ≡ step (show side) (world s rx tx)
   unfolding step checks refusedOr notRefused shown

@@ -1,6 +1,6 @@
 // The bridge: a software HP-IL/RS-232 interface. The state goes in by value and comes back; both stores are lent at every call.
 ghost use mathlib.Core.Path.{_≡_};
-ghost use Rattle.bridge.specs.Calls.{Promised, unmade, world, did, handed, doneWith, refusedWith, on, create, reset, write, lineByte, lineBreak, key, nextLineByte, loopFrame, show};
+ghost use Rattle.bridge.specs.Calls.{Promised, unmade, world, did, handed, doneWith, settledOutcome, refusedWith, on, create, reset, write, lineByte, lineBreak, key, nextLineByte, loopFrame, show};
 use answers::Answer;
 use state::Outcome;
 use state::State;
@@ -15,14 +15,30 @@ fn refused(s: State, n: u8) -> Outcome
     }
 }
 
-// The state after a call that has nothing to hand out.
-fn done(s: State) -> Outcome
-    ensures { λ r. ⌜ r ≡ doneWith s ⌝ }
+// What a call on a state gives, with the request that it began: requests begin here and nowhere else.
+fn settled(before: State, o: Outcome) -> Outcome
+    ensures { λ r. ⌜ r ≡ settledOutcome before o ⌝ }
 {
+    let after = o.state;
+    let answer = o.answer;
+    let t = state::requests::settled(before, after);
     Outcome {
-        state: s,
-        answer: Answer::Done,
+        state: t,
+        answer: answer,
     }
+}
+
+// What a call on a state gives that has nothing to hand out.
+fn done(before: State, after: State) -> Outcome
+    ensures { λ r. ⌜ r ≡ settledOutcome before (doneWith after) ⌝ }
+{
+    settled(
+        before,
+        Outcome {
+            state: after,
+            answer: Answer::Done,
+        },
+    )
 }
 
 // Makes a state for these stores, or refuses; neither store is written.
@@ -31,10 +47,12 @@ pub fn create(rx: &[u8], tx: &[u8], margin: usize) -> Outcome
 {
     let s = state::fitting::start(margin, rx.len(), tx.len());
     if state::fitting::sizes_obeyed(margin, rx.len(), tx.len()) {
-        done(s)
-    } else {
-        refused(s, 1)
+        return Outcome {
+            state: s,
+            answer: Answer::Done,
+        };
     }
+    refused(s, 1)
 }
 
 // Gives what create gives for the same sizes and margin; neither store is written.
@@ -45,7 +63,7 @@ pub fn reset(s: State, rx: &[u8], tx: &[u8]) -> Outcome
         return refused(s, 2);
     }
     let t = state::fitting::start(s.margin, rx.len(), tx.len());
-    done(state::requests::settled(s, t))
+    done(s, t)
 }
 
 // Writes the register of this number.
@@ -61,7 +79,7 @@ pub fn write_register(s: State, rx: &[u8], tx: &[u8], number: u32, value: u32) -
     }
     let g = registers::written(s.regs, number, value);
     let t = line::after_write(s, number, g);
-    done(state::requests::settled(s, t))
+    done(s, t)
 }
 
 // Takes a byte from the line.
@@ -72,7 +90,7 @@ pub fn line_byte(s: State, rx: &mut [u8], tx: &[u8], b: u8) -> Outcome
         return refused(s, 2);
     }
     let t = line::taken(s, rx, b);
-    done(state::requests::settled(s, t))
+    done(s, t)
 }
 
 // Takes a break on the line.
@@ -83,7 +101,7 @@ pub fn take_break(s: State, rx: &mut [u8], tx: &[u8]) -> Outcome
         return refused(s, 2);
     }
     let t = state::requests::broken(s);
-    done(state::requests::settled(s, t))
+    done(s, t)
 }
 
 // Takes a press of the MSRQ key.
@@ -94,7 +112,7 @@ pub fn take_key(s: State, rx: &[u8], tx: &[u8]) -> Outcome
         return refused(s, 2);
     }
     let t = state::requests::pressed(s);
-    done(state::requests::settled(s, t))
+    done(s, t)
 }
 
 // Gives the next line byte.
@@ -107,10 +125,13 @@ pub fn next_line_byte(s: State, rx: &[u8], tx: &[u8]) -> Outcome
     let o = line::next_out(s, tx);
     let a = line::out_answer(o);
     let t = line::gone(s, tx, o);
-    Outcome {
-        state: state::requests::settled(s, t),
-        answer: a,
-    }
+    settled(
+        s,
+        Outcome {
+            state: t,
+            answer: a,
+        },
+    )
 }
 
 // Takes a frame from the loop, and gives exactly one.
@@ -127,7 +148,11 @@ pub fn loop_frame(s: State, rx: &[u8], tx: &mut [u8], frame: u32) -> Outcome
     if loops::busy(s, f) {
         return refused(s, 4);
     }
-    loops::frame_taken(s, rx, tx, f)
+    let o = loops::frame_taken(s, rx, tx, f);
+    if loops::device_clear(s, f) {
+        return o;
+    }
+    settled(s, o)
 }
 
 // Shows the longest unbroken run of bytes from the oldest one: side 0 of the receive store, side 1 of the transmit store.

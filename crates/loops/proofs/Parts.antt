@@ -3,10 +3,10 @@ use Prim.Native.Nat.{ℕ, _≤_, _<_, _+_}
 use native.Mathlib.Omega.{arith}
 use mathlib.Core.Path.{_≡_, refl, sym, ap, subst, _∙_}
 use mathlib.Core.List.{List, [], _∷_}
-use mathlib.Core.Bool.{Bool, true, false, _&&_}
-use lib.Dec.{ltb}
+use mathlib.Core.Bool.{Bool, true, false, _&&_, _||_}
+use lib.Dec.{eqb, ltb}
 use lib.ListN.{length}
-use Rattle.frame.specs.Frame.{made, dataOf, isData, isEnd}
+use Rattle.frame.specs.Frame.{controlOf, dataOf, made, isData, isEnd}
 use Rattle.registers.specs.declared.Registers.{Registers}
 use Rattle.registers.specs.Meanings.{endInserted, endDetected}
 use Rattle.reading.specs.declared.Rule.{Rule}
@@ -39,9 +39,9 @@ use Rattle.state.specs.State.{withTalker, withRemote, withRx, withTx, withLine,
 use Rattle.state.specs.Counts.{counted}
 use Rattle.loops.specs.LoopToLine.{adds, busy}
 use Rattle.line.specs.HoldingOff.{resumed}
-use Rattle.state.specs.Status.{settled, serviced, statusOf, afterStatus, afterStatusBack}
+use Rattle.state.specs.Status.{serviced, statusOf, afterStatus, afterStatusBack}
 use Rattle.loops.specs.Sending.{ended, ruleOf, removedState, sendState, sendFrom, sendStatus}
-use Rattle.loops.specs.Frames.{isClear, cleared, obeyed, commandSettled, readied, ready, judged, returned, outcomeSettled}
+use Rattle.loops.specs.Frames.{isClear, cleared, obeyed, command, commandState, readied, ready, judged, returned, deviceClear}
 
 -- ---- what a frame adds
 
@@ -61,13 +61,18 @@ unfolding obeyed
 obey-met s o t m p q = rw (p, q)
 
 module _ (s : State) (f d : ℕ) (o : Order) (t : State) (b : Bool) (hd : d ≡ dataOf f) (ho : o ≡ orderOf 31 (s .talker .role) d) (ht : t ≡ obeyed s o) (hb : b ≡ isClear o) where
-  pub command-clears : (u : State) → b ≡ true → u ≡ cleared t → record { state = u; answer = Frame f } ≡ commandSettled s f
-  unfolding commandSettled
+  pub command-clears : (u : State) → b ≡ true → u ≡ cleared t → record { state = u; answer = Frame f } ≡ command s f
+  unfolding command commandState
   command-clears u e q = rw (q, ht, ← hd, ← ho, ← hb, e)
 
-  pub command-other : (u : State) → b ≡ false → u ≡ settled s t → record { state = u; answer = Frame f } ≡ commandSettled s f
-  unfolding commandSettled
-  command-other u e q = rw (q, ht, ← hd, ← ho, ← hb, e)
+  pub command-other : b ≡ false → record { state = t; answer = Frame f } ≡ command s f
+  unfolding command commandState
+  command-other e = rw (ht, ← hd, ← ho, ← hb, e)
+
+-- a device clear by the control and the data byte of its frame
+pub device-clear-met : (s : State) (f d k : ℕ) → d ≡ dataOf f → k ≡ controlOf f → (eqb k 4 && (eqb d 20 || (eqb d 4 && s .talker .role .listener))) ≡ deviceClear s f
+unfolding deviceClear
+device-clear-met s f d k p q = rw (p, q)
 
 -- ---- sends
 
@@ -149,9 +154,6 @@ pub clear-met : (s t : State) (x y : Ring) (quiet : Events) → x ≡ emptyRing 
     t ≡ notesWith (withLine (withTx (withRx s x) y) (record { holding = false; forbidden = false; stopped = s .line .stopped })) quiet quiet false → t ≡ cleared s
 unfolding cleared
 clear-met s t x y quiet p q r e = rw (e, p, q, r)
-
-pub settle-met : (s : State) (o : Outcome) (t : State) → t ≡ settled s (o .state) → record { state = t; answer = o .answer } ≡ outcomeSettled s o
-settle-met s o t p = rw p
 
 pub ended-met : (s : State) (t : Talker) (d x : ℕ) → t ≡ endedTalker (s .talker) → x ≡ made 5 d → record { state = withTalker s t; answer = Frame x } ≡ ended s d
 unfolding ended

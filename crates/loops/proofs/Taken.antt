@@ -1,13 +1,11 @@
 -- Data frames that pass, and a frame taken by its kind. Assumes nothing.
 use Prim.Native.Nat.{ℕ, _≤_, _<_}
-use native.Mathlib.Omega.{arith}
 use mathlib.Core.Path.{_≡_, refl, sym, ap, _∙_}
 use mathlib.Core.List.{List}
-use mathlib.Core.Bool.{Bool, true, false, cond}
-use lib.Dec.{eqb}
-use borrow.Author.Tests.{eq-eqb, ne-eqb, le-leb, lt-leb, ltb-true}
+use mathlib.Core.Bool.{true, false, cond}
+use borrow.Author.Tests.{eq-eqb, ne-eqb, le-leb, lt-leb}
 use Rattle.cases.proofs.Cases.{cond-true, cond-false}
-use Rattle.frame.specs.Frame.{controlOf, dataOf, isData}
+use Rattle.frame.specs.Frame.{controlOf, isData}
 use Rattle.store.specs.declared.Ring.{Ring}
 use Rattle.store.specs.Ring.{putsRing, putsBytes}
 use Rattle.store.specs.Promises.{Puts}
@@ -15,10 +13,9 @@ use Rattle.state.specs.declared.State.{State}
 use Rattle.state.specs.declared.Outcome.{Outcome}
 use Rattle.answers.specs.declared.Answer.the-variants.{Frame}
 use Rattle.state.specs.State.{withTx}
-use Rattle.loops.proofs.Clears.{clear-order}
 use Rattle.loops.specs.LoopToLine.{adds, addedState, addedBytes, Added}
-use Rattle.state.specs.Status.{settled, serviced}
-use Rattle.loops.specs.Frames.{isClear, orderIn, cleared, obeyed, commandState, command, commandSettled, ready, returned, dataPassed, Passed, identify, outcomeSettled, frameTaken, passed, deviceClear, frameSettled, addsBytes, frameBytes, Framed}
+use Rattle.state.specs.Status.{serviced}
+use Rattle.loops.specs.Frames.{command, ready, returned, dataPassed, Passed, identify, frameTaken, addsBytes, frameBytes, Framed}
 
 -- the transmit store with what a frame adds
 pub left-met : (s : State) (tx : List ℕ) (f : ℕ) (tx′ : List ℕ) (o : Ring) (l : List ℕ) → adds (s .regs) f ≡ l → Puts tx (s .tx) l tx′ o → Added s tx f tx′ (withTx s o)
@@ -52,39 +49,33 @@ module _ (s : State) (tx : List ℕ) (f x : ℕ) (q : x ≡ serviced s f) where
       }
 
 module _ (s : State) (rx tx : List ℕ) (f : ℕ) (o : Outcome) where
-  -- a data frame is no command
-  no-command : isData f ≡ true → eqb (controlOf f) 4 ≡ false
-  no-command e = ne-eqb (controlOf f) 4 (λ h. omega (arith, ltb-true (controlOf f) 4 e))
-
-  pub taken-back : (p : Outcome) → isData f ≡ true → 2 ≤ s .talker .role .phase → p ≡ returned s rx f → o ≡ outcomeSettled s p → Framed s rx tx f tx o
-  unfolding frameSettled frameTaken deviceClear frameBytes addsBytes
-  taken-back p e h a b =
+  pub taken-back : isData f ≡ true → 2 ≤ s .talker .role .phase → o ≡ returned s rx f → Framed s rx tx f tx o
+  unfolding frameTaken frameBytes addsBytes
+  taken-back e h a =
       let r = le-leb 2 (s .talker .role .phase) h in
-      record { outcome = rw (b, a, e, no-command e, r); bytes = rw (e, r); size = refl }
+      record { outcome = rw (a, e, r); bytes = rw (e, r); size = refl }
 
-  pub taken-passed : (p : Outcome) (tx′ : List ℕ) → isData f ≡ true → s .talker .role .phase < 2 → Passed s tx f tx′ p → o ≡ outcomeSettled s p → Framed s rx tx f tx′ o
-  unfolding frameSettled frameTaken deviceClear frameBytes addsBytes
-  taken-passed p tx′ e h a b =
+  pub taken-passed : (tx′ : List ℕ) → isData f ≡ true → s .talker .role .phase < 2 → Passed s tx f tx′ o → Framed s rx tx f tx′ o
+  unfolding frameTaken frameBytes addsBytes
+  taken-passed tx′ e h a =
       let r = lt-leb 2 (s .talker .role .phase) h in
-      record { outcome = rw (b, a .outcome, e, no-command e, r); bytes = rw (e, r) (a .bytes); size = a .size }
+      record { outcome = rw (a .outcome, e, r); bytes = rw (e, r) (a .bytes); size = a .size }
 
   module _ (e : isData f ≡ false) where
-    pub taken-command : controlOf f ≡ 4 → o ≡ commandSettled s f → Framed s rx tx f tx o
-    unfolding frameSettled frameTaken deviceClear frameBytes addsBytes command commandSettled commandState
-    taken-command h q = record { outcome = rw (q, e, eq-eqb (controlOf f) 4 h) (by-clear _ _ (clear-order (s .talker .role) (dataOf f))); bytes = rw e; size = refl }
-      where
-        t : State
-        t = obeyed s (orderIn s f)
-
-        by-clear : (b c : Bool) → b ≡ c → passed (cond b (cleared t) (settled s t)) f ≡ passed (cond c (cond b (cleared t) t) (settled s (cond b (cleared t) t))) f
-        by-clear true c e = rw (← e)
-        by-clear false c e = rw (← e)
+    pub taken-command : controlOf f ≡ 4 → o ≡ command s f → Framed s rx tx f tx o
+    unfolding frameTaken frameBytes addsBytes
+    taken-command h a = record { outcome = rw (a, e, eq-eqb (controlOf f) 4 h); bytes = rw e; size = refl }
 
     module _ (h : controlOf f ≡ 4 → ⊥) where
-      pub taken-ready : (p : Outcome) → controlOf f ≡ 5 → p ≡ ready s rx f → o ≡ outcomeSettled s p → Framed s rx tx f tx o
-      unfolding frameSettled frameTaken deviceClear frameBytes addsBytes
-      taken-ready p k a b = record { outcome = rw (b, a, e, ne-eqb (controlOf f) 4 h, eq-eqb (controlOf f) 5 k); bytes = rw e; size = refl }
+      pub taken-ready : controlOf f ≡ 5 → o ≡ ready s rx f → Framed s rx tx f tx o
+      unfolding frameTaken frameBytes addsBytes
+      taken-ready k a = record { outcome = rw (a, e, ne-eqb (controlOf f) 4 h, eq-eqb (controlOf f) 5 k); bytes = rw e; size = refl }
 
-      pub taken-identify : (x : ℕ) → (controlOf f ≡ 5 → ⊥) → x ≡ serviced s f → o ≡ outcomeSettled s (record { state = s; answer = Frame x }) → Framed s rx tx f tx o
-      unfolding frameSettled frameTaken deviceClear frameBytes addsBytes identify
-      taken-identify x k a b = record { outcome = rw (b, a, e, ne-eqb (controlOf f) 4 h, ne-eqb (controlOf f) 5 k); bytes = rw e; size = refl }
+      pub taken-identify : (controlOf f ≡ 5 → ⊥) → o ≡ identify s f → Framed s rx tx f tx o
+      unfolding frameTaken frameBytes addsBytes
+      taken-identify k a = record { outcome = rw (a, e, ne-eqb (controlOf f) 4 h, ne-eqb (controlOf f) 5 k); bytes = rw e; size = refl }
+
+-- a frame that identifies goes on with its service bit
+pub identify-met : (s : State) (f x : ℕ) → x ≡ serviced s f → record { state = s; answer = Frame x } ≡ identify s f
+unfolding identify
+identify-met s f x q = rw q

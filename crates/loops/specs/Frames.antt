@@ -25,7 +25,7 @@ use Rattle.state.specs.declared.Outcome.{Outcome}
 use Rattle.answers.specs.declared.Answer.the-variants.{Frame}
 use Rattle.state.specs.State.{withTalker, withRemote, withRx, withTx, withLine, withNotes, noEvents}
 use Rattle.loops.specs.LoopToLine.{addedState, addedBytes}
-use Rattle.state.specs.Status.{serviced, settled, afterStatusBack}
+use Rattle.state.specs.Status.{serviced, afterStatusBack}
 use Rattle.loops.specs.Sending.{ended, sendFrom, sendStatus}
 
 -- Frames, control bits: what is done with a data frame, with or without a service request; a command; a ready frame; any other, which identifies
@@ -84,14 +84,6 @@ orderIn s f = orderOf home (s .talker .role) (dataOf f)
 unfoldable pub command : State → ℕ → Outcome
 command s f = passed (commandState s (orderIn s f)) f
 
--- the same with requests settled; Status byte, a device clear: no request is left, and none begins by it
-unfoldable pub commandSettled : State → ℕ → Outcome
-commandSettled s f =
-    record {
-      state = cond (isClear (orderIn s f)) (cleared (obeyed s (orderIn s f))) (settled s (obeyed s (orderIn s f)));
-      answer = Frame f;
-    }
-
 -- ---- ready frames
 
 unfoldable pub readied : State → List ℕ → ℕ → Ready → Outcome
@@ -143,21 +135,9 @@ identify s f = passed s (serviced s f)
 unfoldable pub frameTaken : State → List ℕ → ℕ → Outcome
 frameTaken s rx f = byControl f (cond (isActive (s .talker .role)) (returned s rx f) (dataPassed s f)) (command s f) (ready s rx f) (identify s f)
 
--- an outcome with requests settled
-abbrev pub outcomeSettled : State → Outcome → Outcome
-outcomeSettled s o = record { state = settled s (o .state); answer = o .answer }
-
 -- Frames, commands: 20, or 4 to a listener, is a device clear
 unfoldable pub deviceClear : State → ℕ → Bool
 deviceClear s f = eqb (controlOf f) 4 && (eqb (dataOf f) 20 || (eqb (dataOf f) 4 && s .talker .role .listener))
-
--- a frame taken, with requests settled
-unfoldable pub frameSettled : State → List ℕ → ℕ → Outcome
-frameSettled s rx f =
-    record {
-      state = cond (deviceClear s f) (frameTaken s rx f .state) (settled s (frameTaken s rx f .state));
-      answer = frameTaken s rx f .answer;
-    }
 
 -- a data frame that a listener stores
 unfoldable pub addsBytes : State → ℕ → Bool
@@ -169,6 +149,6 @@ frameBytes s tx f = cond (addsBytes s f) (addedBytes s tx f) tx
 
 -- the outcome and the transmit store after a frame
 pub record Framed (s : State) (rx tx : List ℕ) (f : ℕ) (tx′ : List ℕ) (o : Outcome) : Type 0 where
-  pub outcome : o ≡ frameSettled s rx f
+  pub outcome : o ≡ frameTaken s rx f
   pub bytes : tx′ ≡ frameBytes s tx f
   pub size : length tx′ ≡ length tx

@@ -4,7 +4,7 @@ ghost use lib.ListN.{length};
 ghost use Rattle.store.specs.Ring.{Within};
 ghost use Rattle.state.specs.Sizes.{RxFits, TxFits};
 ghost use Rattle.loops.specs.LoopToLine.{adds, busy, Added};
-ghost use Rattle.loops.specs.Frames.{isClear, cleared, obeyed, commandSettled, ready, returned, Passed, outcomeSettled, Framed};
+ghost use Rattle.loops.specs.Frames.{isClear, cleared, obeyed, command, ready, returned, Passed, deviceClear, Framed};
 use answers::Answer;
 use registers::Registers;
 use role::Order;
@@ -102,9 +102,9 @@ fn obey(s: State, o: Order) -> State
     t
 }
 
-// A command goes on unchanged; a device clear leaves no request.
+// A command goes on unchanged.
 fn command(s: State, f: u16) -> Outcome
-    ensures { λ r. ⌜ r ≡ commandSettled s f ⌝ }
+    ensures { λ r. ⌜ r ≡ command s f ⌝ }
 {
     let o = role::order_of(31, s.talker.role, frame::data_byte(f));
     let t = obey(s, o);
@@ -115,9 +115,17 @@ fn command(s: State, f: u16) -> Outcome
         };
     }
     Outcome {
-        state: state::requests::settled(s, t),
+        state: t,
         answer: Answer::Frame(f),
     }
+}
+
+// Whether a frame is a device clear to us.
+pub fn device_clear(s: State, f: u16) -> bool
+    ensures { λ r. ⌜ r ≡ deviceClear s f ⌝ }
+{
+    let d = frame::data_byte(f);
+    (frame::control(f) == 4) & ((d == 20) | ((d == 4) & s.talker.role.listener))
 }
 
 // A ready frame.
@@ -172,19 +180,6 @@ fn back(s: State, rx: &[u8], f: u16) -> Outcome
     }
 }
 
-// An outcome with the request that the call began.
-fn settle(s: State, o: Outcome) -> Outcome
-    ensures { λ r. ⌜ r ≡ outcomeSettled s o ⌝ }
-{
-    let after = o.state;
-    let answer = o.answer;
-    let t = state::requests::settled(s, after);
-    Outcome {
-        state: t,
-        answer: answer,
-    }
-}
-
 // A data frame that is no return passes, with the service bit if a request shows; a listener stores it.
 fn pass_data(s: State, tx: &mut [u8], f: u16) -> Outcome
     requires { ⌜ TxFits s (now tx) ⌝ }
@@ -204,7 +199,7 @@ fn pass_data(s: State, tx: &mut [u8], f: u16) -> Outcome
     }
 }
 
-// A frame that is not refused.
+// A frame that is not refused, before requests are settled.
 pub fn frame_taken(s: State, rx: &[u8], tx: &mut [u8], f: u16) -> Outcome
     requires { ⌜ RxFits s (now rx) ⌝ }
     requires { ⌜ TxFits s (now tx) ⌝ }
@@ -212,23 +207,20 @@ pub fn frame_taken(s: State, rx: &[u8], tx: &mut [u8], f: u16) -> Outcome
 {
     if frame::is_data(f) {
         if s.talker.role.phase >= 2 {
-            return settle(s, back(s, rx, f));
+            return back(s, rx, f);
         }
-        return settle(s, pass_data(s, tx, f));
+        return pass_data(s, tx, f);
     }
     let control = frame::control(f);
     if control == 4 {
         return command(s, f);
     }
     if control == 5 {
-        return settle(s, readied(s, rx, f));
+        return readied(s, rx, f);
     }
     let out = state::requests::serviced(s, f);
-    settle(
-        s,
-        Outcome {
-            state: s,
-            answer: Answer::Frame(out),
-        },
-    )
+    Outcome {
+        state: s,
+        answer: Answer::Frame(out),
+    }
 }

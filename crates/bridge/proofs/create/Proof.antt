@@ -1,4 +1,4 @@
-use mathlib.Core.Path.{sym, _∙_}
+use mathlib.Core.Path.{refl, sym, _∙_}
 use denote.Ref.{now}
 use Rattle.bridge.proofs.Steps.{create-done, create-refused}
 use borrow.Author.Needs.{needs}
@@ -7,11 +7,14 @@ use Rattle.bridge.proofs.create.Tie as tie
 
 returns : tie.Need-returns
 returns c =
-    create-done _ (now (c .before .before .before .before .before .before .args .rx)) (now (c .before .before .before .before .before .before .args .tx)) _ _ (c .before .before .before .start .ensures) (sym (c .before .before .sizes-obeyed .ensures) ∙ c .before .if1 .taken) (c .done .ensures)
+    let a = c .before .before .before .before .before .args in
+    create-done _ (now (a .rx)) (now (a .tx)) _ _ (c .before .before .start .ensures) (sym (c .before .sizes-obeyed .ensures) ∙ c .if1 .taken) refl
 
 returns-2 : tie.Need-returns-2
 returns-2 c =
-    create-refused _ (now (c .before .before .before .before .before .before .args .rx)) (now (c .before .before .before .before .before .before .args .tx)) _ _ (c .before .before .before .start .ensures) (sym (c .before .before .sizes-obeyed .ensures) ∙ c .before .if1 .left) (c .refused .ensures)
+    let a = c .before .before .before .before .before .before .args in
+    create-refused _ (now (a .rx)) (now (a .tx)) _ _ (c .before .before .before .start .ensures)
+    (sym (c .before .before .sizes-obeyed .ensures) ∙ c .before .if1 .left) (c .refused .ensures)
 
 pub create-spec : {M : Type 1} → statement M
 create-spec =
@@ -19,7 +22,6 @@ create-spec =
     (tie.spec
     (λ c κs. search needs)
     (λ c κs. search needs)
-    (λ c κs. search needs)
-    (λ c κs. search needs)
     returns
+    (λ c κs. search needs)
     returns-2)

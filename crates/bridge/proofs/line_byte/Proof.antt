@@ -1,5 +1,4 @@
 use mathlib.Core.Path.{refl, ap}
-use mathlib.Core.List.{[]}
 use denote.Ref.{now}
 use Rattle.state.proofs.Fits.{is-misfit, is-fit, rx-fits}
 use Rattle.bridge.specs.Calls.{checksOn, doneWith, outcome, settledBy, rxAfter, txAfter, lineByte}
@@ -10,16 +9,20 @@ use Rattle.bridge.proofs.line_byte.Tie as tie
 
 returns : tie.Need-returns
 returns c =
-    misfit-met (c .before .before .before .before .before .args .s) (now (c .before .before .before .before .before .args .rx)) (now (c .before .before .before .before .before .args .tx)) (is-misfit (c .before .before .state-fits .ensures) (c .before .if1 .taken)) (lineByte (c .before .before .before .before .before .args .b)) _ (c .refused .ensures)
+    let a = c .before .before .before .before .before .args in
+    misfit-met (a .s) (now (a .rx)) (now (a .tx)) (is-misfit (c .before .before .state-fits .ensures) (c .before .if1 .taken)) (lineByte (a .b)) _ (c .refused .ensures)
 
 taken-requires : tie.Need-taken-requires
 taken-requires c κs =
-    rx-fits (c .before .before .before .before .before .args .s) (now (c .before .before .before .before .before .args .rx)) (now (c .before .before .before .before .before .args .tx)) (is-fit (c .before .before .state-fits .ensures) (c .before .if1 .left))
+    let a = c .before .before .before .before .before .args in
+    rx-fits (a .s) (now (a .rx)) (now (a .tx)) (is-fit (c .before .before .state-fits .ensures) (c .before .if1 .left))
 
 returns-2 : tie.Need-returns-2
 unfolding checksOn outcome settledBy rxAfter txAfter
 returns-2 c =
-    done-met (c .before .before .before .before .before .before .before .before .before .before .args .s) (now (c .before .before .before .before .before .before .before .before .before .before .args .rx)) (now (c .before .before .before .before .before .before .before .before .before .before .args .tx)) (is-fit (c .before .before .before .before .before .before .before .state-fits .ensures) (c .before .before .before .before .before .before .if1 .left)) (lineByte (c .before .before .before .before .before .before .before .before .before .before .args .b)) _ _ _ _ _ refl (ap doneWith (c .before .before .before .before .taken .ensures .state)) refl (c .before .before .before .before .taken .ensures .bytes) refl (c .before .settled .ensures) (c .done .ensures)
+    let a = c .before .before .before .before .before .before .before .before .before .args in
+    done-met (a .s) (now (a .rx)) (now (a .tx)) (is-fit (c .before .before .before .before .before .before .state-fits .ensures) (c .before .before .before .before .before .if1 .left)) (lineByte (a .b)) _ _ _ _ refl (ap doneWith (c .before .before .before .taken .ensures .state)) refl
+    (c .before .before .before .taken .ensures .bytes) refl (c .done .ensures)
 
 pub line-byte-spec : {M : Type 1} → statement M
 line-byte-spec =
@@ -29,7 +32,6 @@ line-byte-spec =
     (λ c κs. search needs)
     returns
     taken-requires
-    (λ c κs. search needs)
     (λ c κs. search needs)
     (λ c. search needs)
     returns-2)

@@ -1,38 +1,57 @@
-use mathlib.Core.Path.{refl, sym, _∙_}
+use mathlib.Core.Path.{sym, _∙_}
 use denote.Ref.{now}
 use native.Mathlib.Omega.{arith}
 use Rattle.state.proofs.Fits.{is-misfit, is-fit, rx-fits, tx-fits}
 use Rattle.bridge.specs.Calls.{checksOn, outcome, settledBy, rxAfter, txAfter, loopFrame}
-use Rattle.bridge.proofs.Steps.{misfit-met, refused-met, frame-large, frame-busy, frame-done}
+use Rattle.bridge.proofs.Steps.{misfit-met, refused-met, frame-large, frame-busy, frame-clears, frame-settled}
 use borrow.Author.Needs.{needs}
 use Rattle.bridge.proofs.loop_frame.Statement.{statement}
 use Rattle.bridge.proofs.loop_frame.Tie as tie
 
 returns : tie.Need-returns
 returns c =
-    misfit-met (c .before .before .before .before .before .args .s) (now (c .before .before .before .before .before .args .rx)) (now (c .before .before .before .before .before .args .tx)) (is-misfit (c .before .before .state-fits .ensures) (c .before .if1 .taken)) (loopFrame (c .before .before .before .before .before .args .frame)) _ (c .refused .ensures)
+    let a = c .before .before .before .before .before .args in
+    misfit-met (a .s) (now (a .rx)) (now (a .tx)) (is-misfit (c .before .before .state-fits .ensures) (c .before .if1 .taken)) (loopFrame (a .frame)) _ (c .refused .ensures)
 
 returns-2 : tie.Need-returns-2
 unfolding checksOn outcome settledBy rxAfter txAfter
 returns-2 c =
-    refused-met (c .before .before .before .before .before .before .args .s) (now (c .before .before .before .before .before .before .args .rx)) (now (c .before .before .before .before .before .before .args .tx)) (is-fit (c .before .before .before .state-fits .ensures) (c .before .before .if1 .left)) (loopFrame (c .before .before .before .before .before .before .args .frame)) 3 _ (sym (frame-large (c .before .before .before .before .before .before .args .s) (now (c .before .before .before .before .before .before .args .rx)) (now (c .before .before .before .before .before .before .args .tx)) (is-fit (c .before .before .before .state-fits .ensures) (c .before .before .if1 .left)) _ (c .before .if2 .taken))) (λ z. omega arith) (c .refused2 .ensures)
+    let a = c .before .before .before .before .before .before .args in
+    let e = is-fit (c .before .before .before .state-fits .ensures) (c .before .before .if1 .left) in
+    refused-met (a .s) (now (a .rx)) (now (a .tx)) e (loopFrame (a .frame)) 3 _ (sym (frame-large (a .s) (now (a .rx)) (now (a .tx)) e _ (c .before .if2 .taken))) (λ z. omega arith) (c .refused2 .ensures)
 
 busy-requires : tie.Need-busy-requires
 busy-requires c κs =
-    tx-fits (c .before .before .before .before .before .args .s) (now (c .before .before .before .before .before .args .rx)) (now (c .before .before .before .before .before .args .tx)) (is-fit (c .before .before .state-fits .ensures) (c .before .if1 .left)) .ring .within
+    let a = c .before .before .before .before .before .args in
+    tx-fits (a .s) (now (a .rx)) (now (a .tx)) (is-fit (c .before .before .state-fits .ensures) (c .before .if1 .left)) .ring .within
 
 returns-3 : tie.Need-returns-3
 unfolding checksOn outcome settledBy rxAfter txAfter
 returns-3 c =
-    refused-met (c .before .before .before .before .before .before .before .before .args .s) (now (c .before .before .before .before .before .before .before .before .args .rx)) (now (c .before .before .before .before .before .before .before .before .args .tx)) (is-fit (c .before .before .before .before .before .state-fits .ensures) (c .before .before .before .before .if1 .left)) (loopFrame (c .before .before .before .before .before .before .before .before .args .frame)) 4 _ (sym (frame-busy (c .before .before .before .before .before .before .before .before .args .s) (now (c .before .before .before .before .before .before .before .before .args .rx)) (now (c .before .before .before .before .before .before .before .before .args .tx)) (is-fit (c .before .before .before .before .before .state-fits .ensures) (c .before .before .before .before .if1 .left)) _ (c .before .before .before .if2 .left) (sym (c .before .before .busy .ensures) ∙ c .before .if3 .taken))) (λ z. omega arith) (c .refused3 .ensures)
+    let a = c .before .before .before .before .before .before .before .before .args in
+    let e = is-fit (c .before .before .before .before .before .state-fits .ensures) (c .before .before .before .before .if1 .left) in
+    let busy = sym (c .before .before .busy .ensures) ∙ c .before .if3 .taken in
+    refused-met (a .s) (now (a .rx)) (now (a .tx)) e (loopFrame (a .frame)) 4 _ (sym (frame-busy (a .s) (now (a .rx)) (now (a .tx)) e _ (c .before .before .before .if2 .left) busy)) (λ z. omega arith) (c .refused3 .ensures)
 
 frame-taken-requires : tie.Need-frame-taken-requires
 frame-taken-requires c κs =
-    (rx-fits (c .before .before .before .before .before .before .before .before .args .s) (now (c .before .before .before .before .before .before .before .before .args .rx)) (now (c .before .before .before .before .before .before .before .before .args .tx)) (is-fit (c .before .before .before .before .before .state-fits .ensures) (c .before .before .before .before .if1 .left)), tx-fits (c .before .before .before .before .before .before .before .before .args .s) (now (c .before .before .before .before .before .before .before .before .args .rx)) (now (c .before .before .before .before .before .before .before .before .args .tx)) (is-fit (c .before .before .before .before .before .state-fits .ensures) (c .before .before .before .before .if1 .left)))
+    let a = c .before .before .before .before .before .before .before .before .args in
+    let e = is-fit (c .before .before .before .before .before .state-fits .ensures) (c .before .before .before .before .if1 .left) in
+    (rx-fits (a .s) (now (a .rx)) (now (a .tx)) e, tx-fits (a .s) (now (a .rx)) (now (a .tx)) e)
 
 returns-4 : tie.Need-returns-4
 returns-4 c =
-    frame-done (c .before .before .before .before .before .before .before .before .before .before .before .args .s) (now (c .before .before .before .before .before .before .before .before .before .before .before .args .rx)) (now (c .before .before .before .before .before .before .before .before .before .before .before .args .tx)) (is-fit (c .before .before .before .before .before .before .before .before .state-fits .ensures) (c .before .before .before .before .before .before .before .if1 .left)) _ _ _ (c .before .before .before .before .before .before .if2 .left) (sym (c .before .before .before .before .before .busy .ensures) ∙ c .before .before .before .before .if3 .left) (c .before .before .frame-taken .ensures)
+    let a = c .before .before .before .before .before .before .before .before .before .before .before .before .before .args in
+    let e = is-fit (c .before .before .before .before .before .before .before .before .before .before .state-fits .ensures) (c .before .before .before .before .before .before .before .before .before .if1 .left) in
+    let free = sym (c .before .before .before .before .before .before .before .busy .ensures) ∙ c .before .before .before .before .before .before .if3 .left in
+    frame-clears (a .s) (now (a .rx)) (now (a .tx)) e _ _ _ (c .before .before .before .before .before .before .before .before .if2 .left) free (c .before .before .before .before .frame-taken .ensures) (sym (c .before .device-clear .ensures) ∙ c .if4 .taken)
+
+returns-5 : tie.Need-returns-5
+returns-5 c =
+    let a = c .before .before .before .before .before .before .before .before .before .before .before .before .before .before .args in
+    let e = is-fit (c .before .before .before .before .before .before .before .before .before .before .before .state-fits .ensures) (c .before .before .before .before .before .before .before .before .before .before .if1 .left) in
+    let free = sym (c .before .before .before .before .before .before .before .before .busy .ensures) ∙ c .before .before .before .before .before .before .before .if3 .left in
+    frame-settled (a .s) (now (a .rx)) (now (a .tx)) e _ _ _ (c .before .before .before .before .before .before .before .before .before .if2 .left) free (c .before .before .before .before .before .frame-taken .ensures) _ (sym (c .before .before .device-clear .ensures) ∙ c .before .if4 .left) (c .settled .ensures)
 
 pub loop-frame-spec : {M : Type 1} → statement M
 loop-frame-spec =
@@ -48,5 +67,9 @@ loop-frame-spec =
     (λ c κs. search needs)
     returns-3
     frame-taken-requires
+    (λ c κs. search needs)
     (λ c. search needs)
-    returns-4)
+    returns-4
+    (λ c κs. search needs)
+    (λ c. search needs)
+    returns-5)

@@ -1,5 +1,3 @@
-use mathlib.Core.Path.{refl}
-use mathlib.Core.List.{[]}
 use denote.Ref.{now}
 use Rattle.state.proofs.Fits.{is-misfit, is-fit, tx-fits}
 use Rattle.bridge.specs.Calls.{nextLineByte}
@@ -10,19 +8,24 @@ use Rattle.bridge.proofs.next_line_byte.Tie as tie
 
 returns : tie.Need-returns
 returns c =
-    misfit-met (c .before .before .before .before .before .args .s) (now (c .before .before .before .before .before .args .rx)) (now (c .before .before .before .before .before .args .tx)) (is-misfit (c .before .before .state-fits .ensures) (c .before .if1 .taken)) nextLineByte _ (c .refused .ensures)
+    let a = c .before .before .before .before .before .args in
+    misfit-met (a .s) (now (a .rx)) (now (a .tx)) (is-misfit (c .before .before .state-fits .ensures) (c .before .if1 .taken)) nextLineByte _ (c .refused .ensures)
 
 next-out-requires : tie.Need-next-out-requires
 next-out-requires c κs =
-    tx-fits (c .before .before .before .before .args .s) (now (c .before .before .before .before .args .rx)) (now (c .before .before .before .before .args .tx)) (is-fit (c .before .state-fits .ensures) (c .if1 .left))
+    let a = c .before .before .before .before .args in
+    tx-fits (a .s) (now (a .rx)) (now (a .tx)) (is-fit (c .before .state-fits .ensures) (c .if1 .left))
 
 gone-requires : tie.Need-gone-requires
 gone-requires c κs =
-    (tx-fits (c .before .before .before .before .before .before .args .s) (now (c .before .before .before .before .before .before .args .rx)) (now (c .before .before .before .before .before .before .args .tx)) (is-fit (c .before .before .before .state-fits .ensures) (c .before .before .if1 .left)), c .before .next-out .ensures)
+    let a = c .before .before .before .before .before .before .args in
+    (tx-fits (a .s) (now (a .rx)) (now (a .tx)) (is-fit (c .before .before .before .state-fits .ensures) (c .before .before .if1 .left)), c .before .next-out .ensures)
 
 returns-2 : tie.Need-returns-2
 returns-2 c =
-    next-done (c .before .before .before .before .before .before .before .before .args .s) (now (c .before .before .before .before .before .before .before .before .args .rx)) (now (c .before .before .before .before .before .before .before .before .args .tx)) (is-fit (c .before .before .before .before .before .state-fits .ensures) (c .before .before .before .before .if1 .left)) _ _ _ _ (c .before .before .before .next-out .ensures) (c .before .before .out-answer .ensures) (c .before .gone .ensures) (c .settled .ensures)
+    let a = c .before .before .before .before .before .before .before .before .args in
+    next-done (a .s) (now (a .rx)) (now (a .tx)) (is-fit (c .before .before .before .before .before .state-fits .ensures) (c .before .before .before .before .if1 .left)) _ _ _ _
+    (c .before .before .before .next-out .ensures) (c .before .before .out-answer .ensures) (c .before .gone .ensures) (c .settled .ensures)
 
 pub next-line-byte-spec : {M : Type 1} → statement M
 next-line-byte-spec =

@@ -7,27 +7,33 @@ use Rattle.bridge.proofs.show.Tie as tie
 
 returns : tie.Need-returns
 returns c =
-    show-misfit (c .before .before .before .before .before .args .s) (now (c .before .before .before .before .before .args .rx)) (now (c .before .before .before .before .before .args .tx)) (is-misfit (c .before .before .state-fits .ensures) (c .before .if1 .taken)) _
+    let a = c .before .before .before .before .before .args in
+    show-misfit (a .s) (now (a .rx)) (now (a .tx)) (is-misfit (c .before .before .state-fits .ensures) (c .before .if1 .taken)) _
 
 show-requires : tie.Need-show-requires
 show-requires c κs =
-    rx-fits (c .before .before .before .before .before .args .s) (now (c .before .before .before .before .before .args .rx)) (now (c .before .before .before .before .before .args .tx)) (is-fit (c .before .before .state-fits .ensures) (c .before .if1 .left)) .ring
+    let a = c .before .before .before .before .before .args in
+    rx-fits (a .s) (now (a .rx)) (now (a .tx)) (is-fit (c .before .before .state-fits .ensures) (c .before .if1 .left)) .ring
 
 returns-2 : tie.Need-returns-2
 returns-2 c =
-    show-receive (c .before .before .before .before .before .before .args .s) (now (c .before .before .before .before .before .before .args .rx)) (now (c .before .before .before .before .before .before .args .tx)) (is-fit (c .before .before .before .state-fits .ensures) (c .before .before .if1 .left)) _ (c .show .ensures .bytes) _ (c .before .if2 .taken)
+    let a = c .before .before .before .before .before .before .args in
+    show-receive (a .s) (now (a .rx)) (now (a .tx)) (is-fit (c .before .before .before .state-fits .ensures) (c .before .before .if1 .left)) _ (c .show .ensures .bytes) _ (c .before .if2 .taken)
 
 show-requires-2 : tie.Need-show-requires-2
 show-requires-2 c κs =
-    tx-fits (c .before .before .before .before .before .before .args .s) (now (c .before .before .before .before .before .before .args .rx)) (now (c .before .before .before .before .before .before .args .tx)) (is-fit (c .before .before .before .state-fits .ensures) (c .before .before .if1 .left)) .ring
+    let a = c .before .before .before .before .before .before .args in
+    tx-fits (a .s) (now (a .rx)) (now (a .tx)) (is-fit (c .before .before .before .state-fits .ensures) (c .before .before .if1 .left)) .ring
 
 returns-3 : tie.Need-returns-3
 returns-3 c =
-    show-transmit (c .before .before .before .before .before .before .before .args .s) (now (c .before .before .before .before .before .before .before .args .rx)) (now (c .before .before .before .before .before .before .before .args .tx)) (is-fit (c .before .before .before .before .state-fits .ensures) (c .before .before .before .if1 .left)) _ (c .show2 .ensures .bytes) _ (c .before .before .if2 .left) (c .before .if3 .taken)
+    let a = c .before .before .before .before .before .before .before .args in
+    show-transmit (a .s) (now (a .rx)) (now (a .tx)) (is-fit (c .before .before .before .before .state-fits .ensures) (c .before .before .before .if1 .left)) _ (c .show2 .ensures .bytes) _ (c .before .before .if2 .left) (c .before .if3 .taken)
 
 returns-4 : tie.Need-returns-4
 returns-4 c =
-    show-neither (c .before .before .before .before .before .before .before .args .s) (now (c .before .before .before .before .before .before .before .args .rx)) (now (c .before .before .before .before .before .before .before .args .tx)) (is-fit (c .before .before .before .before .state-fits .ensures) (c .before .before .before .if1 .left)) _ (c .before .before .if2 .left) (c .before .if3 .left)
+    let a = c .before .before .before .before .before .before .before .args in
+    show-neither (a .s) (now (a .rx)) (now (a .tx)) (is-fit (c .before .before .before .before .state-fits .ensures) (c .before .before .before .if1 .left)) _ (c .before .before .if2 .left) (c .before .if3 .left)
 
 pub show-spec : {M : Type 1} → statement M
 show-spec =

@@ -2,7 +2,6 @@ use mathlib.Core.Path.{refl, sym, ap, _∙_}
 use denote.Ref.{now}
 use Rattle.state.proofs.Fits.{is-misfit, is-fit, rx-fits}
 use Rattle.line.specs.HoldingOff.{afterWrite}
-use Rattle.registers.specs.Writing.{writeChecks}
 use Rattle.registers.proofs.Refusals.{accepted-written}
 use Rattle.bridge.specs.Calls.{checksOn, doneWith, outcome, settledBy, rxAfter, txAfter, write}
 use Rattle.bridge.proofs.Steps.{misfit-met, refused-met, done-met}
@@ -12,24 +11,29 @@ use Rattle.bridge.proofs.write_register.Tie as tie
 
 returns : tie.Need-returns
 returns c =
-    misfit-met (c .before .before .before .before .before .args .s) (now (c .before .before .before .before .before .args .rx)) (now (c .before .before .before .before .before .args .tx)) (is-misfit (c .before .before .state-fits .ensures) (c .before .if1 .taken)) (write (c .before .before .before .before .before .args .number) (c .before .before .before .before .before .args .value)) _ (c .refused .ensures)
+    let a = c .before .before .before .before .before .args in
+    misfit-met (a .s) (now (a .rx)) (now (a .tx)) (is-misfit (c .before .before .state-fits .ensures) (c .before .if1 .taken)) (write (a .number) (a .value)) _ (c .refused .ensures)
 
 returns-2 : tie.Need-returns-2
 unfolding checksOn outcome settledBy rxAfter txAfter
 returns-2 c =
-    refused-met (c .before .before .before .before .before .before .before .args .s) (now (c .before .before .before .before .before .before .before .args .rx)) (now (c .before .before .before .before .before .before .before .args .tx)) (is-fit (c .before .before .before .before .state-fits .ensures) (c .before .before .before .if1 .left)) (write (c .before .before .before .before .before .before .before .args .number) (c .before .before .before .before .before .before .before .args .value)) _ _ (c .before .before .refused2 .ensures) (c .before .if2 .taken) (c .refused3 .ensures)
+    let a = c .before .before .before .before .before .before .before .args in
+    refused-met (a .s) (now (a .rx)) (now (a .tx)) (is-fit (c .before .before .before .before .state-fits .ensures) (c .before .before .before .if1 .left)) (write (a .number) (a .value)) _ _
+    (c .before .before .refused2 .ensures) (c .before .if2 .taken) (c .refused3 .ensures)
 
 after-write-requires : tie.Need-after-write-requires
 after-write-requires c κs =
-    rx-fits (c .before .before .before .before .before .before .before .args .s) (now (c .before .before .before .before .before .before .before .args .rx)) (now (c .before .before .before .before .before .before .before .args .tx)) (is-fit (c .before .before .before .before .state-fits .ensures) (c .before .before .before .if1 .left)) .ring .within
+    let a = c .before .before .before .before .before .before .before .args in
+    rx-fits (a .s) (now (a .rx)) (now (a .tx)) (is-fit (c .before .before .before .before .state-fits .ensures) (c .before .before .before .if1 .left)) .ring .within
 
 returns-3 : tie.Need-returns-3
 unfolding checksOn outcome settledBy rxAfter txAfter
 returns-3 c =
-    let ok = sym (c .before .before .before .before .before .refused2 .ensures) ∙ c .before .before .before .before .if2 .left in
-    done-met (c .before .before .before .before .before .before .before .before .before .before .args .s) (now (c .before .before .before .before .before .before .before .before .before .before .args .rx)) (now (c .before .before .before .before .before .before .before .before .before .before .args .tx)) (is-fit (c .before .before .before .before .before .before .before .state-fits .ensures) (c .before .before .before .before .before .before .if1 .left)) (write (c .before .before .before .before .before .before .before .before .before .before .args .number) (c .before .before .before .before .before .before .before .before .before .before .args .value)) _ _ _ _ _ ok
-    (ap doneWith (c .before .before .after-write .ensures ∙ ap (afterWrite (c .before .before .before .before .before .before .before .before .before .before .args .s) (c .before .before .before .before .before .before .before .before .before .before .args .number)) (accepted-written _ _ _ _ ok (c .before .before .before .written .ensures))))
-    refl refl refl (c .before .settled .ensures) (c .done .ensures)
+    let a = c .before .before .before .before .before .before .before .before .before .args in
+    let ok = sym (c .before .before .before .before .refused2 .ensures) ∙ c .before .before .before .if2 .left in
+    let put = accepted-written _ _ _ _ ok (c .before .before .written .ensures) in
+    done-met (a .s) (now (a .rx)) (now (a .tx)) (is-fit (c .before .before .before .before .before .before .state-fits .ensures) (c .before .before .before .before .before .if1 .left)) (write (a .number) (a .value)) _ _ _ _ ok
+    (ap doneWith (c .before .after-write .ensures ∙ ap (afterWrite (a .s) (a .number)) put)) refl refl refl (c .done .ensures)
 
 pub write-register-spec : {M : Type 1} → statement M
 write-register-spec =
@@ -43,6 +47,5 @@ write-register-spec =
     returns-2
     (λ c κs. search needs)
     after-write-requires
-    (λ c κs. search needs)
     (λ c κs. search needs)
     returns-3)

@@ -1,28 +1,8 @@
 use mathlib.Core.Path.{sym, _∙_}
-use Rattle.loops.proofs.Taken.{taken-back, taken-passed, taken-command, taken-ready, taken-identify}
+use Rattle.loops.proofs.Taken.{taken-back, taken-passed, taken-command, taken-ready, taken-identify, identify-met}
 use borrow.Author.Needs.{needs}
 use Rattle.loops.proofs.frame_taken.Statement.{statement}
 use Rattle.loops.proofs.frame_taken.Tie as tie
-
-returns : tie.Need-returns
-returns c =
-    taken-back _ _ _ _ _ _ (sym (c .before .before .before .before .before .is-data .ensures) ∙ c .before .before .before .before .if1 .taken) (c .before .before .if2 .taken) (c .before .back .ensures) (c .settle .ensures)
-
-returns-2 : tie.Need-returns-2
-returns-2 c =
-    taken-passed _ _ _ _ _ _ _ (sym (c .before .before .before .before .before .before .before .before .is-data .ensures) ∙ c .before .before .before .before .before .before .before .if1 .taken) (c .before .before .before .before .before .if2 .left) (c .before .before .before .pass-data .ensures) (c .settle2 .ensures)
-
-returns-3 : tie.Need-returns-3
-returns-3 c =
-    taken-command _ _ _ _ _ (sym (c .before .before .before .before .is-data .ensures) ∙ c .before .before .before .if1 .left) (sym (c .before .before .control .ensures) ∙ c .before .if3 .taken) (c .command .ensures)
-
-returns-4 : tie.Need-returns-4
-returns-4 c =
-    taken-ready _ _ _ _ _ (sym (c .before .before .before .before .before .before .is-data .ensures) ∙ c .before .before .before .before .before .if1 .left) (λ e. c .before .before .before .if3 .left (c .before .before .before .before .control .ensures ∙ e)) _ (sym (c .before .before .before .before .control .ensures) ∙ c .before .before .if4 .taken) (c .before .readied .ensures) (c .settle3 .ensures)
-
-returns-5 : tie.Need-returns-5
-returns-5 c =
-    taken-identify _ _ _ _ _ (sym (c .before .before .before .before .before .before .is-data .ensures) ∙ c .before .before .before .before .before .if1 .left) (λ e. c .before .before .before .if3 .left (c .before .before .before .before .control .ensures ∙ e)) _ (λ e. c .before .before .if4 .left (c .before .before .before .before .control .ensures ∙ e)) (c .before .serviced .ensures) (c .settle4 .ensures)
 
 pub frame-taken-spec : {M : Type 1} → statement M
 frame-taken-spec =
@@ -30,18 +10,21 @@ frame-taken-spec =
     (tie.spec
     (λ c κs. search needs)
     (λ c κs. search needs)
-    (λ c κs. search needs)
-    returns
-    (λ c κs. search needs)
+    (λ c. taken-back _ _ _ _ _ (sym (c .before .before .before .before .is-data .ensures) ∙ c .before .before .before .if1 .taken)
+    (c .before .if2 .taken) (c .back .ensures))
     (λ c κs. search needs)
     (λ c. search needs)
-    returns-2
+    (λ c. taken-passed _ _ _ _ _ _ (sym (c .before .before .before .before .before .before .before .is-data .ensures) ∙ c .before .before .before .before .before .before .if1 .taken)
+    (c .before .before .before .before .if2 .left) (c .before .before .pass-data .ensures))
     (λ c κs. search needs)
     (λ c κs. search needs)
-    returns-3
+    (λ c. taken-command _ _ _ _ _ (sym (c .before .before .before .before .is-data .ensures) ∙ c .before .before .before .if1 .left)
+    (sym (c .before .before .control .ensures) ∙ c .before .if3 .taken) (c .command .ensures))
     (λ c κs. search needs)
+    (λ c. taken-ready _ _ _ _ _ (sym (c .before .before .before .before .before .is-data .ensures) ∙ c .before .before .before .before .if1 .left)
+    (λ e. c .before .before .if3 .left (c .before .before .before .control .ensures ∙ e))
+    (sym (c .before .before .before .control .ensures) ∙ c .before .if4 .taken) (c .readied .ensures))
     (λ c κs. search needs)
-    returns-4
-    (λ c κs. search needs)
-    (λ c κs. search needs)
-    returns-5)
+    (λ c. taken-identify _ _ _ _ _ (sym (c .before .before .before .before .before .is-data .ensures) ∙ c .before .before .before .before .if1 .left)
+    (λ e. c .before .before .if3 .left (c .before .before .before .control .ensures ∙ e))
+    (λ e. c .before .if4 .left (c .before .before .before .control .ensures ∙ e)) (identify-met _ _ _ (c .serviced .ensures))))
