@@ -51,11 +51,11 @@ def every_function(room):
 def layers(room):
     """Crates without a layer, in two, in a wrong one; a new product."""
     new = [("crates/mailbox/src/lib.rt", "pub fn fetch(x: u8) -> u8\n    requires { ⌜ x < 8 ⌝ }\n    ensures { λ r. ⌜ r ≡ x ⌝ }\n{\n    x\n}\n")]
-    line = ("crates.txt", "bridge: ", "mailbox: cases\nbridge: ")
+    line = ("crates.txt", "bridge: ", "mailbox: branches\nbridge: ")
     room.finds(TOOL, "mailbox stands in 0 layers", line, *new)
     room.finds(TOOL, "mailbox has no line of its own", *new)
     room.finds(TOOL, "laws has no line of its own, or no folder", ("crates.txt", "\nlaws:", "\n# laws:"))
-    text = room.text("crates.txt").replace("\nbridge: ", "\nmailbox: cases\nbridge: ").replace("# layer uses: ", "# layer uses: mailbox ")
+    text = room.text("crates.txt").replace("\nbridge: ", "\nmailbox: branches\nbridge: ").replace("# layer uses: ", "# layer uses: mailbox ")
     room.finds(TOOL, "mailbox/src/lib.rt: fetch has a requires", ("crates.txt", text.replace("# products: ", "# products: mailbox ")), *new)
     room.finds(TOOL, "role stands in 2 layers", ("crates.txt", "# layer store: ", "# layer store: role "))
     room.finds(TOOL, "the layers are", ("crates.txt", "# layer store: ", "# layer stores: "))
@@ -67,7 +67,7 @@ def layers(room):
 
 def names(room):
     """Names of the library that mean something else."""
-    spec = "crates/role/specs/Fit.antt"
+    spec = "crates/role/specs/RoleFit.antt"
     first = room.text(spec).index("use ")
     for line, said in (
         ("use lib.Other.{length}\n", "length is taken from lib.Other"),

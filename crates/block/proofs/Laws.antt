@@ -8,11 +8,11 @@ use native.Mathlib.Omega.{arith}
 use lib.ListN.{length}
 use lib.Dec.{leb}
 use borrow.Author.Tests.{leb-true}
-use Rattle.cases.proofs.Cases.{and-left, and-right}
-use Rattle.registers.specs.Fit.{values, valueIn, valueOf}
+use Rattle.branches.proofs.Branches.{and-left, and-right}
+use Rattle.registers.specs.RegistersFit.{values, valueIn, valueOf}
 use Rattle.registers.specs.Table.{startRegisters}
 use Rattle.registers.proofs.Fits.{fit-byte, fit-start}
-use Rattle.talker.specs.Fit as talker-fit
+use Rattle.talker.specs.TalkerFit as talker-fit
 use Rattle.talker.proofs.FitLaws.{fit-true}
 use Rattle.state.specs.declared.State.{State}
 use Rattle.state.specs.Sizes.{sizesObeyed, startState, fits, RxFits, TxFits}

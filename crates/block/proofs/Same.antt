@@ -6,7 +6,7 @@ use mathlib.Core.List.{List, [], _∷_}
 use borrow.Author.Tests.{eq-eqb, ne-eqb, eqb-true}
 use lib.ListN.{length, getD}
 use lib.Dec.{eqb, leb}
-use Rattle.cases.proofs.Cases.{and-left, and-right, cond-true, cond-false}
+use Rattle.branches.proofs.Branches.{and-left, and-right, cond-true, cond-false}
 use Rattle.store.specs.Bytes.{Bytes}
 use Rattle.block.specs.Places.{At, at-self, at-all}
 use Rattle.block.specs.Packed.{blockLen, version, layout, packed, unpacked}

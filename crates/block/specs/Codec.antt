@@ -9,7 +9,7 @@ use lib.ListN.{length, getD, length-append}
 use lib.Dec.{eqb, leb}
 use mir.Val.{boolByte}
 use borrow.Author.Tests.{eqb-true, eq-eqb}
-use Rattle.cases.proofs.Cases.{and-left, and-right}
+use Rattle.branches.proofs.Branches.{and-left, and-right}
 use Rattle.store.specs.Bytes.{Bytes}
 use Rattle.block.specs.Places.{At, at-one, one-at, at-first, at-second, at-both, at-four, four-at, bytes-both, bytes-one, bytes-four}
 use Rattle.block.specs.Places.{flag-kept, flag-read, flag-right, flag-byte}

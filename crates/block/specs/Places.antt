@@ -11,7 +11,7 @@ use lib.Seq.{getD-append-add, ext-getD}
 use lib.Dec.{eqb, leb}
 use mir.Val.{boolByte}
 use borrow.Author.Tests.{leb-true}
-use Rattle.cases.proofs.Cases.{split}
+use Rattle.branches.proofs.Branches.{split}
 use Rattle.store.specs.Bytes.{Bytes}
 
 -- these bytes stand in b from place i

@@ -29,7 +29,7 @@ noState = startState 0 0 0
 unfoldable pub meaning : List ℕ → State
 meaning b = cond (isState b) (unpacked b) noState
 
--- a block is "a fitting state" for stores of these lengths
+-- a block is a state that fits stores of these lengths
 unfoldable pub fittingBlock : List ℕ → ℕ → ℕ → Bool
 fittingBlock b rx tx = isState b && fits (unpacked b) rx tx
 

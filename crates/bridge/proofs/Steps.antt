@@ -13,10 +13,10 @@ use Rattle.answers.specs.declared.Answer.{Answer}
 use Rattle.state.specs.declared.Out.{Out}
 use Rattle.answers.specs.Answers.{said}
 use Rattle.state.specs.Sizes.{sizesObeyed, startState, fits}
-use Rattle.loops.specs.LoopToLine.{busy}
-use Rattle.loops.specs.Frames.{deviceClear, Framed}
-use Rattle.line.specs.HoldingOff.{nextOut, goneState, outAnswer}
-use Rattle.state.specs.Status.{settled}
+use Rattle.loopside.specs.LoopToLine.{busy}
+use Rattle.loopside.specs.Frames.{deviceClear, Framed}
+use Rattle.line.specs.HoldingOff.{nextOut, afterGiving, outAnswer}
+use Rattle.state.specs.Conditions.{settled}
 use Rattle.bridge.specs.Calls.{OnState, world, Did, did, handed, checksOn, checks, doneWith, refusedWith, outcome, settledOutcome, settledBy, rxAfter, txAfter, shown, notRefused, refusedOr, step, unmade, nextLineByte, loopFrame, create, show, on}
 
 pub settled-met : (s : State) (o : Outcome) (t : State) → t ≡ settled s (o .state) → record { state = t; answer = o .answer } ≡ settledOutcome s o
@@ -54,7 +54,7 @@ module _ (s : State) (rx tx : List ℕ) (e : fits s (length rx) (length tx) ≡ 
   unfolding notRefused
   done-met c o rx′ tx′ t h a b x y q = fit-met c (did o rx′ tx′) h (rw (q, b, x, y, ← a))
 
-  pub next-done : (o : Outcome) (x : Out) (a : Answer) (t : State) → x ≡ nextOut s tx → a ≡ outAnswer x → t ≡ goneState s x →
+  pub next-done : (o : Outcome) (x : Out) (a : Answer) (t : State) → x ≡ nextOut s tx → a ≡ outAnswer x → t ≡ afterGiving s x →
       o ≡ settledOutcome s (record { state = t; answer = a }) → did o rx tx ≡ step (on nextLineByte) (world s rx tx)
   unfolding checksOn notRefused outcome settledBy rxAfter txAfter
   next-done o x a t p q r z = fit-met nextLineByte (did o rx tx) refl (rw (z, r, q, p))

@@ -13,10 +13,10 @@ use Rattle.state.specs.declared.Outcome.{Outcome}
 use Rattle.answers.specs.declared.Answer.the-variants as answer
 use Rattle.answers.specs.Answers.{Said, said, refused, part}
 use Rattle.state.specs.Sizes.{sizesObeyed, startState, fits}
-use Rattle.loops.specs.LoopToLine.{busy}
-use Rattle.line.specs.HoldingOff.{lineState, lineBytes, afterWrite, nextOut, goneState, outAnswer}
-use Rattle.state.specs.Status.{settled, breakState, keyState}
-use Rattle.loops.specs.Frames.{deviceClear, frameTaken, frameBytes}
+use Rattle.loopside.specs.LoopToLine.{busy}
+use Rattle.line.specs.HoldingOff.{lineState, lineBytes, afterWrite, nextOut, afterGiving, outAnswer}
+use Rattle.state.specs.Conditions.{settled, breakState, keyState}
+use Rattle.loopside.specs.Frames.{deviceClear, frameTaken, frameBytes}
 
 -- What is built, calls: seven are made on a state
 pub data OnState : Type 0 where
@@ -139,7 +139,7 @@ outcome (write n v) w = doneWith (afterWrite (w .state) n (written (w .state .re
 outcome (lineByte b) w = doneWith (lineState (w .state) b)
 outcome lineBreak w = doneWith (breakState (w .state))
 outcome key w = doneWith (keyState (w .state))
-outcome nextLineByte w = record { state = goneState (w .state) (nextOut (w .state) (w .tx)); answer = outAnswer (nextOut (w .state) (w .tx)) }
+outcome nextLineByte w = record { state = afterGiving (w .state) (nextOut (w .state) (w .tx)); answer = outAnswer (nextOut (w .state) (w .tx)) }
 outcome (loopFrame f) w = frameTaken (w .state) (w .rx) f
 
 -- an outcome with the request that the call on this state began

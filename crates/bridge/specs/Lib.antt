@@ -1,6 +1,9 @@
--- The calls. The paper's other headings have their definitions below, in its order:
--- "Sizes and refusals": Sizes of the crate state, and store; "Registers": the crate registers; "Frames": Frames of the crate loops,
--- and the crates frame, role and talker; "The reading rule": Steps of the crate reading; a send: Sending of loops, and the crate sending;
--- "Loop to line": LoopToLine of loops; "Holding the line off": HoldingOff of the crate line; "Status byte": Status of state, and the
--- crate status; the counts: Counts of state. What an answer is in the paper: Answers of state.
+-- The calls. The paper's other headings have their definitions in the crates below, here in its order:
+-- - Sizes and refusals: Sizes of the crate state, Ring of store, Refusals and Answers of answers
+-- - Registers: Table, Bits, Meanings, Writing and RegistersFit of registers
+-- - Frames: Frame of frame; Orders, Commands, Remote and ReadyFrames of role; the crate talker; Frames of loopside
+-- - The reading rule: Steps of reading; a send from the receive store: Sending of sending, and Sends of loopside
+-- - Loop to line: LoopToLine of loopside
+-- - Holding the line off: HoldingOff of line
+-- - Status byte: Status of status, Conditions of state; its counts: Counts of state
 pub mod Calls

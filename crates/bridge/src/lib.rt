@@ -124,7 +124,7 @@ pub fn next_line_byte(s: State, rx: &[u8], tx: &[u8]) -> Outcome
     }
     let o = line::next_out(s, tx);
     let a = line::out_answer(o);
-    let t = line::gone(s, tx, o);
+    let t = line::after_giving(s, tx, o);
     settled(
         s,
         Outcome {
@@ -145,11 +145,11 @@ pub fn loop_frame(s: State, rx: &[u8], tx: &mut [u8], frame: u32) -> Outcome
         return refused(s, 3);
     }
     let f = frame as u16;
-    if loops::busy(s, f) {
+    if loopside::busy(s, f) {
         return refused(s, 4);
     }
-    let o = loops::frame_taken(s, rx, tx, f);
-    if loops::device_clear(s, f) {
+    let o = loopside::frame_taken(s, rx, tx, f);
+    if loopside::device_clear(s, f) {
         return o;
     }
     settled(s, o)

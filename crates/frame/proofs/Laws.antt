@@ -5,7 +5,7 @@ use mathlib.Core.Bool.{true, false}
 use native.Mathlib.Omega.{arith}
 use lib.Dec.{eqb}
 use borrow.Author.Tests.{eqb-true, eqb-false, eq-eqb, ltb-true, lt-ltb}
-use Rattle.cases.proofs.Cases.{same-test}
+use Rattle.branches.proofs.Branches.{same-test}
 use Rattle.frame.specs.Frame.{controlOf, dataOf, made, isData, isEnd, hasService, stripped, withService, sameApart}
 
 -- ---- parts

@@ -6,7 +6,7 @@ use native.Mathlib.Omega.{arith}
 use lib.Bits.{bitAnd, bitOr, and-high, or-add-and, or-shifted}
 use lib.Dec.{eqb}
 use borrow.Author.Tests.{eqb-true, eqb-false, eq-eqb, ne-eqb}
-use Rattle.cases.proofs.Cases.{same-test}
+use Rattle.branches.proofs.Branches.{same-test}
 use Rattle.frame.specs.Frame.{made, isEnd, hasService, stripped, withService, sameApart}
 
 -- the mask of the service bit

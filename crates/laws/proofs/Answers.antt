@@ -13,14 +13,14 @@ use Rattle.state.specs.declared.Out.{Out}
 use Rattle.state.specs.declared.Out.the-variants as out
 use Rattle.answers.specs.Answers.{Said, frame, refused, said, isRefusal, byteOrRefused, frameOrRefused}
 use Rattle.line.specs.HoldingOff.{nextOut, outAnswer}
-use Rattle.loops.specs.Sending.{ended, sendState, sendFrom, sendStatus}
-use Rattle.loops.specs.Frames.{frameTaken}
+use Rattle.loopside.specs.Sends.{ended, sendState, sendFrom, sendStatus}
+use Rattle.loopside.specs.Frames.{frameTaken}
 use Rattle.bridge.specs.Calls.{Call, create, show, on, reset, write, lineByte, lineBreak}
 use Rattle.bridge.specs.Calls.{key, nextLineByte, loopFrame, World, outcome, checks, notRefused, step}
 use Rattle.laws.specs.Bridges.{bridge}
 use Rattle.laws.specs.Observers.{isFrame}
 use Rattle.answers.specs.Refusing.{Refuses}
-use Rattle.laws.specs.Answers.{canAnswer, AnswersSo, RefusedExactly}
+use Rattle.laws.specs.Answering.{canAnswer, AnswersSo, RefusedExactly}
 use Rattle.laws.proofs.Refusing.{by-refusal}
 use Rattle.laws.proofs.Ways.{Way, isNext, isBack, isLast, isDamaged, isStored, isPassed, isCleared}
 use Rattle.laws.proofs.Ways.{isObeyed, isAssigned, isSendAsked, isTold, isFinishing, isReady, isIdentified, way}

@@ -8,10 +8,10 @@ use lib.Dec.{eqb, ltb}
 use lib.ListN.{length}
 use borrow.Author.Tests.{leb-true, leb-false, ltb-false, lt-leb}
 use Rattle.answers.specs.Refusals.{firstRefusal}
-use Rattle.cases.proofs.Cases.{by-cond}
+use Rattle.branches.proofs.Branches.{by-cond}
 use Rattle.machine.specs.Machine.{Obeys}
 use Rattle.frame.specs.Frame.{isData}
-use Rattle.role.specs.Parts.{isActive}
+use Rattle.role.specs.Role.{isActive}
 use Rattle.talker.proofs.FitLaws as talker-laws
 use Rattle.store.specs.declared.Ring.{Ring}
 use Rattle.store.specs.Ring.{full, emptyRing, putBytes, putsRing, putsBytes}
@@ -21,12 +21,12 @@ use Rattle.state.specs.declared.State.{State}
 use Rattle.state.specs.declared.Out.{Out}
 use Rattle.state.specs.declared.Out.the-variants as out
 use Rattle.state.specs.Sizes.{startState, RxFits, TxFits}
-use Rattle.state.specs.Status.{settled, breakState, keyState}
+use Rattle.state.specs.Conditions.{settled, breakState, keyState}
 use Rattle.state.proofs.Fits.{tests, rx-fits, tx-fits}
-use Rattle.line.specs.HoldingOff.{isGoOrStop, flowed, lostState, storedWith, storedState, lineState, lineBytes, setAfresh, afterWrite, nextOut, goneState}
-use Rattle.line.proofs.Parts.{gone-some}
-use Rattle.loops.specs.LoopToLine.{adds, busy, addedBytes}
-use Rattle.loops.specs.Frames.{frameTaken, deviceClear, addsBytes, frameBytes}
+use Rattle.line.specs.HoldingOff.{isGoOrStop, flowed, lostState, storedWith, storedState, lineState, lineBytes, setAfresh, afterWrite, nextOut, afterGiving}
+use Rattle.line.proofs.Parts.{given-some}
+use Rattle.loopside.specs.LoopToLine.{adds, busy, addedBytes}
+use Rattle.loopside.specs.Frames.{frameTaken, deviceClear, addsBytes, frameBytes}
 use Rattle.bridge.specs.Calls.{reset, write, lineByte, lineBreak, key, nextLineByte, loopFrame, Call, create, show, on}
 use Rattle.bridge.specs.Calls.{World, world, Did, outcome, settledBy, rxAfter, txAfter, notRefused, checks, step}
 use Rattle.answers.specs.Answers.{refused, said}
@@ -79,16 +79,16 @@ module _ (w : World) (e : Fits w) where
 
   -- ---- a byte to the line
 
-  gone-rx : (o : Out) → goneState (w .state) o .rx ≡ w .state .rx
-  unfolding goneState
+  gone-rx : (o : Out) → afterGiving (w .state) o .rx ≡ w .state .rx
+  unfolding afterGiving
   gone-rx (out.Own b) = refl
   gone-rx (out.Held b) = refl
   gone-rx out.Nothing = refl
 
-  gone-tx : (o : Out) → o ≡ nextOut (w .state) (w .tx) → nextPlace (length (w .tx)) (goneState (w .state) o .tx) ≡ nextPlace (length (w .tx)) (w .state .tx)
-  unfolding goneState
+  gone-tx : (o : Out) → o ≡ nextOut (w .state) (w .tx) → nextPlace (length (w .tx)) (afterGiving (w .state) o .tx) ≡ nextPlace (length (w .tx)) (w .state .tx)
+  unfolding afterGiving
   gone-tx (out.Own b) h = refl
-  gone-tx (out.Held b) h = left (w .tx) (w .state .tx) 1 (g .ring) (gone-some (w .state) (w .tx) b h)
+  gone-tx (out.Held b) h = left (w .tx) (w .state .tx) 1 (g .ring) (given-some (w .state) (w .tx) b h)
   gone-tx out.Nothing h = refl
 
   -- ---- a frame

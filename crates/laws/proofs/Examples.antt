@@ -5,17 +5,17 @@ use Rattle.reading.specs.Reading.{inCuts, byCuts}
 use Rattle.reading.specs.Steps.{cut}
 use Rattle.registers.specs.Table as registers-table
 use Rattle.registers.specs.Bits.{tooLarge, bitNotCarried, inRange}
-use Rattle.registers.specs.Fit.{values, allInRange, registersFit}
+use Rattle.registers.specs.RegistersFit.{values, allInRange, registersFit}
 use Rattle.registers.specs.Writing.{written}
 use Rattle.role.specs.ReadyFrames.{readyOf}
 use Rattle.store.specs.Ring.{fitTest}
-use Rattle.talker.specs.Fit as talker-fit
+use Rattle.talker.specs.TalkerFit as talker-fit
 use Rattle.answers.specs.Answers.{said}
 use Rattle.state.specs.Sizes.{sizesObeyed, startState, fits}
-use Rattle.state.specs.Status.{conditions, enabledBy, asking, settled, shows, serviced}
-use Rattle.loops.specs.LoopToLine.{adds, busy}
-use Rattle.loops.specs.Sending.{ruleOf}
-use Rattle.loops.specs.Frames.{readied, ready, frameTaken, deviceClear, frameBytes, addsBytes}
+use Rattle.state.specs.Conditions.{conditions, enabledBy, asking, settled, shows, serviced}
+use Rattle.loopside.specs.LoopToLine.{adds, busy}
+use Rattle.loopside.specs.Sends.{ruleOf}
+use Rattle.loopside.specs.Frames.{readied, ready, frameTaken, deviceClear, frameBytes, addsBytes}
 use Rattle.bridge.specs.Calls.{checksOn, checks, outcome, settledBy, rxAfter, txAfter, notRefused, refusedOr, step}
 
 pub examples : AllAsThePaperSays

@@ -8,7 +8,7 @@ use lib.Dec.{eqb}
 use lib.ListN.{length}
 use borrow.Author.Tests.{eqb-true, leb-true}
 use Rattle.answers.specs.Refusals.{firstRefusal}
-use Rattle.cases.proofs.Cases.{and-right, by-cond}
+use Rattle.branches.proofs.Branches.{and-right, by-cond}
 use Rattle.machine.specs.Machine.{Obeys}
 use Rattle.frame.specs.Frame.{made, dataOf}
 use Rattle.registers.specs.Writing.{writeChecks, written}
@@ -20,7 +20,7 @@ use Rattle.store.proofs.Several.{puts-cap, puts-fit, puts-size}
 use Rattle.sending.specs.declared.Given.{Given}
 use Rattle.sending.specs.declared.Given.the-variants.{Nothing, One}
 use Rattle.sending.specs.Sending.{givenOf, sendHeld, sentRing}
-use Rattle.talker.specs.Sending.{talking}
+use Rattle.talker.specs.UnderWay.{talking}
 use Rattle.state.specs.declared.State.{State}
 use Rattle.state.specs.declared.Outcome.{Outcome}
 use Rattle.state.specs.declared.Out.{Out}
@@ -28,14 +28,14 @@ use Rattle.state.specs.declared.Out.the-variants as out
 use Rattle.answers.specs.Answers.{done}
 use Rattle.state.specs.State.{withRegisters, withTalker, withRx, withTx}
 use Rattle.state.specs.Sizes.{sizesObeyed, fits}
-use Rattle.state.specs.Status.{settled, conditions, shows, statusOf, afterStatus, afterStatusBack, breakState, keyState}
+use Rattle.state.specs.Conditions.{settled, conditions, shows, statusOf, afterStatus, afterStatusBack, breakState, keyState}
 use Rattle.state.proofs.Fits.{Tests, tests, rx-fits, tx-fits}
 use Rattle.line.specs.HoldingOff.{isGoOrStop, flowed, storedWith, storedState, lostState, lineState}
-use Rattle.line.specs.HoldingOff.{lineBytes, resumed, setAfresh, afterWrite, nextOut, goneState}
-use Rattle.line.proofs.Parts.{gone-some}
-use Rattle.loops.specs.LoopToLine.{adds, addedState, addedBytes}
-use Rattle.loops.specs.Sending.{ruleOf, ended, removedState, sendState, sendFrom, sendStatus}
-use Rattle.loops.specs.Frames.{orderIn, frameTaken, deviceClear, addsBytes, frameBytes}
+use Rattle.line.specs.HoldingOff.{lineBytes, resumed, setAfresh, afterWrite, nextOut, afterGiving}
+use Rattle.line.proofs.Parts.{given-some}
+use Rattle.loopside.specs.LoopToLine.{adds, addedState, addedBytes}
+use Rattle.loopside.specs.Sends.{ruleOf, ended, removedState, sendState, sendFrom, sendStatus}
+use Rattle.loopside.specs.Frames.{orderIn, frameTaken, deviceClear, addsBytes, frameBytes}
 use Rattle.bridge.specs.Calls.{OnState, reset, write, lineByte, lineBreak, key, nextLineByte, loopFrame, Call, create, show, on}
 use Rattle.bridge.specs.Calls.{ofFrame, World, Did, outcome, settledBy, rxAfter, txAfter, notRefused, checks, step}
 use Rattle.laws.specs.Bridges.{ByteOn, ByteCall, bridge}
@@ -141,12 +141,12 @@ module _ (rx tx : List ℕ) where
         changed : G (withRegisters s (written (s .regs) n v))
         changed = good _ (with-registers s (length rx) (length tx) t (written (s .regs) n v) (fit-written (s .regs) n v (t .regs) h))
 
-    gone-good : (o : Out) → o ≡ nextOut s tx → G (goneState s o)
-    unfolding goneState
+    gone-good : (o : Out) → o ≡ nextOut s tx → G (afterGiving s o)
+    unfolding afterGiving
     gone-good (out.Own x) h = unfold fits in e
     gone-good (out.Held x) h =
         fits-with-tx (store-ring.dropRing (s .tx) 1)
-        (store-laws.drop-fit tx (s .tx) 1 (tx-fits s rx tx e .ring) (gone-some s tx x h))
+        (store-laws.drop-fit tx (s .tx) 1 (tx-fits s rx tx e .ring) (given-some s tx x h))
     gone-good out.Nothing h = e
 
     left-good : (f : ℕ) → G (addedState s f)

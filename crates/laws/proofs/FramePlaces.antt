@@ -14,13 +14,13 @@ use Rattle.sending.specs.declared.Given.the-variants.{Nothing, One}
 use Rattle.sending.specs.Sending.{givenOf, sendHeld, sentRing}
 use Rattle.state.specs.declared.State.{State}
 use Rattle.state.specs.declared.Outcome.{Outcome}
-use Rattle.state.specs.Status.{afterStatus, afterStatusBack}
+use Rattle.state.specs.Conditions.{afterStatus, afterStatusBack}
 use Rattle.line.specs.HoldingOff.{resumed}
-use Rattle.loops.specs.LoopToLine.{adds, addedState}
-use Rattle.talker.specs.Sending.{talking}
-use Rattle.loops.specs.Sending.{ruleOf, ended, removedState, sendState, sendFrom, sendStatus}
-use Rattle.loops.specs.Frames.{isClear, orderIn, cleared, obeyed, frameTaken, deviceClear, addsBytes}
-use Rattle.loops.proofs.Clears.{clear-order}
+use Rattle.loopside.specs.LoopToLine.{adds, addedState}
+use Rattle.talker.specs.UnderWay.{talking}
+use Rattle.loopside.specs.Sends.{ruleOf, ended, removedState, sendState, sendFrom, sendStatus}
+use Rattle.loopside.specs.Frames.{isClear, orderIn, cleared, obeyed, frameTaken, deviceClear, addsBytes}
+use Rattle.loopside.proofs.Clears.{clear-order}
 use Rattle.laws.specs.Places.{nextPlace}
 use Rattle.laws.proofs.OneStore.{left}
 use Rattle.laws.proofs.Ways.{Returning, Readying, Way, way}

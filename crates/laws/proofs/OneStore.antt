@@ -6,7 +6,7 @@ use mathlib.Core.Bool.{true, false, false≢true}
 use mathlib.Core.List.{List, [], _∷_}
 use mathlib.Core.Logic.{⊎-elim}
 use lib.ListN.{length}
-use Rattle.cases.proofs.Cases.{split}
+use Rattle.branches.proofs.Branches.{split}
 use Rattle.store.specs.declared.Ring.{Ring}
 use Rattle.store.specs.Ring.{Fit, wrap, emptyRing, putRing, putBytes, putsRing, putsBytes, dropRing}
 use Rattle.store.proofs.Laws.{wrap-low, wrap-high, put-size, put-cap, put-fit, ring-len}

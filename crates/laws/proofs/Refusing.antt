@@ -6,10 +6,10 @@ use mathlib.Core.Bool.{Bool, true, false, cond, not, false≢true}
 use lib.Dec.{eqb, ltb}
 use borrow.Author.Tests.{eqb-true, eqb-false}
 use Rattle.answers.specs.Refusals.{firstRefusal}
-use Rattle.cases.proofs.Cases.{by-cond}
+use Rattle.branches.proofs.Branches.{by-cond}
 use Rattle.registers.specs.Writing.{writeChecks}
 use Rattle.answers.specs.Answers.{refused}
-use Rattle.loops.specs.LoopToLine.{busy}
+use Rattle.loopside.specs.LoopToLine.{busy}
 use Rattle.bridge.specs.Calls.{OnState, write, loopFrame, Call, on, World, Did, checksOn, checks, notRefused, refusedOr, step}
 use Rattle.laws.specs.Observers.{taken}
 use Rattle.laws.specs.Fitting.{Fits}

@@ -7,7 +7,7 @@ use mathlib.Core.Bool.{Bool, true, false, cond}
 use mathlib.Core.List.{List, [], _∷_}
 use lib.ListN.{length, getD, drop, set, List·getD-eq-default}
 use lib.Seq.{getD-drop}
-use Rattle.cases.proofs.Cases.{split, by-cond}
+use Rattle.branches.proofs.Branches.{split, by-cond}
 use Rattle.store.specs.declared.Ring.{Ring}
 use Rattle.store.specs.Ring.{Fit, held, wrap, full, putBytes}
 use Rattle.store.proofs.Laws.{held-at, held-length}

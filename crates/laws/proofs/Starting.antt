@@ -10,7 +10,7 @@ use Rattle.store.proofs.Laws.{fit-cap}
 use Rattle.state.specs.declared.State.{State}
 use Rattle.answers.specs.Answers.{said, refused}
 use Rattle.state.specs.Sizes.{sizesObeyed, startState, fits}
-use Rattle.state.specs.Status.{conditions, enabledBy, asking, settled}
+use Rattle.state.specs.Conditions.{conditions, enabledBy, asking, settled}
 use Rattle.state.proofs.Fits.{tests}
 use Rattle.bridge.specs.Calls.{reset, write, lineByte, lineBreak, key, nextLineByte, loopFrame, Call, create, show, on}
 use Rattle.bridge.specs.Calls.{is, World, world, Did, outcome, settledBy, rxAfter, txAfter, notRefused, step}

@@ -5,14 +5,14 @@ use mathlib.Core.Path.{_≡_, refl, sym, _∙_}
 use mathlib.Core.Bool.{true}
 use borrow.Author.Tests.{eq-eqb, lt-ltb, le-leb}
 use Rattle.registers.specs.declared.Registers.{Registers}
-use Rattle.registers.specs.Fit.{registersFit}
+use Rattle.registers.specs.RegistersFit.{registersFit}
 use Rattle.registers.proofs.Fits.{fit-start}
 use Rattle.role.specs.declared.Order.{Order}
 use Rattle.talker.specs.declared.Talker.{Talker}
-use Rattle.talker.specs.Parts.{startTalker}
-use Rattle.talker.specs.ReadyFrames.{assignedTalker, finishingTalker}
-use Rattle.talker.specs.Sending.{talking}
-use Rattle.talker.specs.Fit as talker-fit
+use Rattle.talker.specs.Talker.{startTalker}
+use Rattle.talker.specs.Readied.{assignedTalker, finishingTalker}
+use Rattle.talker.specs.UnderWay.{talking}
+use Rattle.talker.specs.TalkerFit as talker-fit
 use Rattle.talker.proofs.FitLaws as talker-laws
 use Rattle.store.specs.declared.Ring.{Ring}
 use Rattle.store.specs.Ring as store-ring
@@ -23,7 +23,7 @@ use Rattle.state.specs.State.{withRegisters, withTalker, withRx, withTx}
 use Rattle.state.specs.Sizes.{sizesObeyed, startState, fits}
 use Rattle.state.proofs.Fits.{Obeyed, sizes-hold, Tests}
 use Rattle.state.proofs.Parts.{fits-met}
-use Rattle.loops.specs.Frames.{cleared, obeyed}
+use Rattle.loopside.specs.Frames.{cleared, obeyed}
 
 -- the tests of a state make it fit
 pub tested : (s : State) (a b : ℕ) → Tests s a b → fits s a b ≡ true

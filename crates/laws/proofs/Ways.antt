@@ -5,22 +5,22 @@ use mathlib.Core.Path.{_≡_}
 use mathlib.Core.Bool.{true, false, _&&_}
 use mathlib.Core.List.{List}
 use lib.Dec.{eqb}
-use Rattle.cases.proofs.Cases.{by-cond}
+use Rattle.branches.proofs.Branches.{by-cond}
 use Rattle.frame.specs.Frame.{controlOf, dataOf, made, isData, sameApart}
 use Rattle.role.specs.declared.Ready.{Ready}
-use Rattle.role.specs.Parts.{isActive}
+use Rattle.role.specs.Role.{isActive}
 use Rattle.role.specs.ReadyFrames.{givesAddress, readyOf}
 use Rattle.talker.specs.declared.Return.{Return}
-use Rattle.talker.specs.ReadyFrames.{assignedTalker, finishingTalker}
+use Rattle.talker.specs.Readied.{assignedTalker, finishingTalker}
 use Rattle.talker.specs.Returns.{returnOf}
 use Rattle.state.specs.declared.State.{State}
 use Rattle.state.specs.declared.Outcome.{Outcome}
 use Rattle.state.specs.State.{withTalker}
-use Rattle.state.specs.Status.{serviced, afterStatusBack}
-use Rattle.loops.specs.LoopToLine.{addedState}
-use Rattle.loops.specs.Sending.{sendFrom, sendStatus, ended}
-use Rattle.loops.specs.Frames.{passed, isClear, orderIn, obeyed, cleared, commandState, command}
-use Rattle.loops.specs.Frames.{readied, ready, judged, returned, dataPassed, identify, frameTaken}
+use Rattle.state.specs.Conditions.{serviced, afterStatusBack}
+use Rattle.loopside.specs.LoopToLine.{addedState}
+use Rattle.loopside.specs.Sends.{sendFrom, sendStatus, ended}
+use Rattle.loopside.specs.Frames.{passed, isClear, orderIn, obeyed, cleared, commandState, command}
+use Rattle.loopside.specs.Frames.{readied, ready, judged, returned, dataPassed, identify, frameTaken}
 
 -- a data frame that is a return, one that is not, a command, a ready frame, and any other
 pub record Returning (s : State) (f : ℕ) : Type 0 where

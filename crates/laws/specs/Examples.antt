@@ -8,7 +8,7 @@ use Rattle.reading.specs.Reading.{frames, leftOver}
 use Rattle.reading.specs.Steps.{cut}
 use Rattle.registers.specs.Table.{startRegisters}
 use Rattle.registers.specs.Writing.{written}
-use Rattle.loops.specs.Sending.{ruleOf}
+use Rattle.loopside.specs.Sends.{ruleOf}
 use Rattle.answers.specs.Answers.{Said, frame}
 use Rattle.state.specs.Sizes.{startState}
 use Rattle.bridge.specs.Calls.{on, Did, loopFrame, world, step}
@@ -50,22 +50,22 @@ crlf xs fs rest = record { trial = held 13 10 xs; wanted = reads fs rest }
 -- the pair is 13, 10 where none is said, and R10 bit 3 is on
 unfoldable pub table : List Example
 table =
-    -- "no bytes; 50; 50 13: no frames"
+    -- what is undecided waits
     crlf [] [] []
     ∷ crlf (50 ∷ []) [] (50 ∷ [])
     ∷ crlf (50 ∷ 13 ∷ []) [] (50 ∷ 13 ∷ [])
-    -- "50 46: 0,50"; "50 13 10: 2,50"; "13 10: no frames, nothing left"
+    -- a byte with another behind it, an end byte, and a pair alone, of which nothing is left
     ∷ crlf (50 ∷ 46 ∷ []) (frame 0 50 ∷ []) (46 ∷ [])
     ∷ crlf (50 ∷ 13 ∷ 10 ∷ []) (frame 2 50 ∷ []) []
     ∷ crlf (13 ∷ 10 ∷ []) [] []
-    -- "50 13 46: 0,50 and 0,13"; "13 13 10: 2,13"
+    -- half a pair is data, also before a whole one
     ∷ crlf (50 ∷ 13 ∷ 46 ∷ []) (frame 0 50 ∷ frame 0 13 ∷ []) (46 ∷ [])
     ∷ crlf (13 ∷ 13 ∷ 10 ∷ []) (frame 2 13 ∷ []) []
-    -- "50 13 10 13 10 46 13 10: 2,50 and 2,46"
+    -- an empty line between two others is removed
     ∷ crlf (50 ∷ 13 ∷ 10 ∷ 13 ∷ 10 ∷ 46 ∷ 13 ∷ 10 ∷ []) (frame 2 50 ∷ frame 2 46 ∷ []) []
-    -- "pair 10, 10; 50 10 10 10 46 53: 2,50, 0,10, 0,46"
+    -- a pair of two equal characters
     ∷ record { trial = held 10 10 (50 ∷ 10 ∷ 10 ∷ 10 ∷ 46 ∷ 53 ∷ []); wanted = reads (frame 2 50 ∷ frame 0 10 ∷ frame 0 46 ∷ []) (53 ∷ []) }
-    -- "unassigned, 5,158 in: 5,159 out, address 30"
+    -- the last address that can be taken
     ∷ record { trial = taken 5 158; wanted = answers (frame 5 159) 30 }
     ∷ []
 

@@ -1,7 +1,7 @@
 -- Every law of a bridge in one list: a bridge that is right obeys them all, and so does what opens to it.
 use mathlib.Core.List.{List, [], _∷_}
 use Rattle.laws.specs.Bridges.{Law}
-use Rattle.laws.specs.Answers.{AnswersSo, RefusedExactly}
+use Rattle.laws.specs.Answering.{AnswersSo, RefusedExactly}
 use Rattle.laws.specs.CallPlaces.{Places}
 use Rattle.laws.specs.Fitting.{KeepsFit, CreateMakesFit, KeepsStores}
 use Rattle.laws.specs.Starting.{StartsSo, MarginRecorded, SizesStay, ResetGivesStart}

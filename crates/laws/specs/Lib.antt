@@ -4,7 +4,7 @@ pub mod Bridges
 pub mod Observers
 pub mod Fitting
 pub mod OneResult
-pub mod Answers
+pub mod Answering
 pub mod Order
 pub mod Places
 pub mod CallPlaces

@@ -6,11 +6,11 @@ use mathlib.Core.List.{List, [], _∷_}
 use lib.Dec.{eqb, ltb}
 use Rattle.frame.specs.Frame.{controlOf, dataOf, made, isData, isEnd, stripped, sameApart}
 use Rattle.registers.specs.Bits.{bit}
-use Rattle.role.specs.Parts.{addressed, activeData, isActive}
+use Rattle.role.specs.Role.{addressed, activeData, isActive}
 use Rattle.store.specs.Ring.{full}
 use Rattle.state.specs.declared.State.{State}
 use Rattle.answers.specs.Answers.{Said, done, none, byte, frame, refused, part, isRefusal}
-use Rattle.loops.specs.Frames.{deviceClear}
+use Rattle.loopside.specs.Frames.{deviceClear}
 use Rattle.bridge.specs.Calls.{OnState, reset, nextLineByte, Call, create, show, on, onState, ofFrame, ofLineByte, ofWrite, is, World}
 
 -- ---- answers

@@ -19,7 +19,7 @@ use Rattle.state.specs.declared.Out.the-variants.{Own, Held, Nothing}
 use Rattle.answers.specs.declared.Answer.the-variants as answer
 use Rattle.state.specs.State.{withRegisters, withLine, withRx, withTx, withNotes, withCounts}
 use Rattle.state.specs.Counts.{counted}
-use Rattle.line.specs.HoldingOff.{isGoOrStop, flowed, storedWith, lostState, lineState, lineBytes, Taken, resumed, setAfresh, afterWrite, owed, nextOut, goneState, outAnswer}
+use Rattle.line.specs.HoldingOff.{isGoOrStop, flowed, storedWith, lostState, lineState, lineBytes, Taken, resumed, setAfresh, afterWrite, owed, nextOut, afterGiving, outAnswer}
 
 -- ---- a line byte
 
@@ -93,9 +93,9 @@ module _ (s : State) (tx : List ℕ) where
       go false true e h = absurd (false≢true (sym h))
       go false false e h = omega (arith, eqb-false (s .tx .len) 0 e)
 
-  pub gone-some : (b : ℕ) → Held b ≡ nextOut s tx → 1 ≤ s .tx .len
+  pub given-some : (b : ℕ) → Held b ≡ nextOut s tx → 1 ≤ s .tx .len
   unfolding nextOut
-  gone-some b e = go (owed (s .line)) (s .line .forbidden || eqb (s .tx .len) 0) refl e
+  given-some b e = go (owed (s .line)) (s .line .forbidden || eqb (s .tx .len) 0) refl e
     where
       go : (w t : Bool) → (s .line .forbidden || eqb (s .tx .len) 0) ≡ t →
           Held b ≡ cond w (Own (cond (s .line .holding) (stop (s .regs)) (s .regs .c04))) (cond t Nothing (Held (getD (held tx (s .tx)) 0 0))) → 1 ≤ s .tx .len
@@ -103,20 +103,20 @@ module _ (s : State) (tx : List ℕ) where
       go false true h e = let z : _≡_ {A = ℕ} 0 1 = cc in absurd (omega arith)
       go false false h e = some-held h
 
--- ---- a line byte gone
+-- ---- a line byte given
 
 module _ (s : State) (o : Out) where
-  pub gone-own : (b : ℕ) → o ≡ Own b → withLine s (record { holding = s .line .holding; forbidden = s .line .forbidden; stopped = s .line .holding }) ≡ goneState s o
-  unfolding goneState
-  gone-own b e = rw e
+  pub given-own : (b : ℕ) → o ≡ Own b → withLine s (record { holding = s .line .holding; forbidden = s .line .forbidden; stopped = s .line .holding }) ≡ afterGiving s o
+  unfolding afterGiving
+  given-own b e = rw e
 
-  pub gone-held : (b : ℕ) (r : Ring) → o ≡ Held b → Dropped (s .tx) 1 r → withTx s r ≡ goneState s o
-  unfolding goneState
-  gone-held b r e d = rw e (ap (withTx s) (d .ring))
+  pub given-held : (b : ℕ) (r : Ring) → o ≡ Held b → Dropped (s .tx) 1 r → withTx s r ≡ afterGiving s o
+  unfolding afterGiving
+  given-held b r e d = rw e (ap (withTx s) (d .ring))
 
-  pub gone-none : o ≡ Nothing → s ≡ goneState s o
-  unfolding goneState
-  gone-none e = rw e
+  pub given-none : o ≡ Nothing → s ≡ afterGiving s o
+  unfolding afterGiving
+  given-none e = rw e
 
 -- ---- the smaller parts
 

@@ -1,4 +1,4 @@
--- "Holding the line off": line bytes in, and line bytes out.
+-- Holding the line off: line bytes in, and line bytes out.
 use Prim.Native.Nat.{ℕ, _*_}
 use mathlib.Core.Path.{_≡_}
 use mathlib.Core.Bool.{Bool, true, false, cond, _&&_, _||_, not}
@@ -20,11 +20,11 @@ use Rattle.state.specs.Counts.{storedMore, lostMore}
 
 -- ---- line bytes in
 
--- "With R11 bit 3 on, a line byte equal to go or stop is never stored"
+-- Holding the line off, first: with the protocol on, go and stop are no data
 unfoldable pub isGoOrStop : Registers → ℕ → Bool
 isGoOrStop g b = protocolOn g && (eqb b (go g) || eqb b (stop g))
 
--- "it permits or forbids our sending"
+-- Holding the line off, first: go permits our sending, stop forbids it
 unfoldable pub flowed : State → ℕ → State
 flowed s b = withLine s (record { holding = s .line .holding; forbidden = eqb b (stop (s .regs)); stopped = s .line .stopped })
 
@@ -32,17 +32,18 @@ flowed s b = withLine s (record { holding = s .line .holding; forbidden = eqb b 
 abbrev pub withHolding : State → Bool → State
 withHolding s h = withLine s (record { holding = h; forbidden = s .line .forbidden; stopped = s .line .stopped })
 
--- "Any other byte is stored"; "Holding off begins, only with R11 bit 3 on, when a stored byte leaves m free or fewer"
+-- Holding the line off, it begins: with the protocol on, where a stored byte leaves the margin or less
 abbrev pub begun : State → State
 begun s = withHolding s (s .line .holding || (protocolOn (s .regs) && leb (room (s .rx)) (s .margin)))
 
+-- Holding the line off, second: a byte is stored, which left this ring
 unfoldable pub storedWith : State → Ring → State
 storedWith s ring = begun (storedMore (withRx s ring))
 
 abbrev pub storedState : State → State
 storedState s = storedWith s (putRing (s .rx))
 
--- "or lost exactly when the receive store is full; a loss sets overrun"; and the note that it happened again
+-- Holding the line off, second: a byte is lost, which sets overrun and the note that it happened again
 unfoldable pub lostState : State → State
 lostState s =
     lostMore
@@ -66,36 +67,36 @@ pub record Taken (s : State) (rx : List ℕ) (b : ℕ) (rx′ : List ℕ) (t : S
   pub bytes : rx′ ≡ lineBytes s rx b
   pub size : length rx′ ≡ length rx
 
--- "and ends when a send leaves 2m free or more"
+-- Holding the line off, it ends: where a send leaves twice the margin or more
 unfoldable pub resumed : State → State
 resumed s = withHolding s (s .line .holding && not (leb (2 * s .margin) (room (s .rx))))
 
--- "Writing R11 sets it afresh: held off exactly if bit 3 is on and m or fewer are free"; "Writing R11 lets our sending start again at once"
+-- Holding the line off, R11 written: held off by what is free now; Registers, last: and the other end's stop is lifted
 unfoldable pub setAfresh : State → State
 setAfresh s = withLine s (record { holding = protocolOn (s .regs) && leb (room (s .rx)) (s .margin); forbidden = false; stopped = s .line .stopped })
 
--- a register written: "Writing R11" does more than change the register
+-- a register written; R11 does more than change the register
 unfoldable pub afterWrite : State → ℕ → Registers → State
 afterWrite s n g = cond (eqb n 11) (setAfresh (withRegisters s g)) (withRegisters s g)
 
 -- ---- line bytes out
 
--- "If the last of go and stop we sent (at start: go) differs from what holds"
+-- Holding the line off, last: what we sent last, go or stop, is not what holds now
 abbrev pub owed : Line → Bool
 owed l = (l .holding && not (l .stopped)) || (l .stopped && not (l .holding))
 
--- "the next line byte is that character, before all else, also with the protocol since off or our sending forbidden"
+-- Holding the line off, last: a character that is owed goes before all else; then what is held, unless the other end forbids it
 unfoldable pub nextOut : State → List ℕ → Out
 nextOut s tx =
     cond (owed (s .line)) (Own (cond (s .line .holding) (stop (s .regs)) (go (s .regs))))
     (cond (s .line .forbidden || eqb (s .tx .len) 0) Nothing
     (Held (getD (held tx (s .tx)) 0 0)))
 
--- the state when that byte is gone
-unfoldable pub goneState : State → Out → State
-goneState s (Own b) = withLine s (record { holding = s .line .holding; forbidden = s .line .forbidden; stopped = s .line .holding })
-goneState s (Held b) = withTx s (dropRing (s .tx) 1)
-goneState s Nothing = s
+-- the state when that byte has been given
+unfoldable pub afterGiving : State → Out → State
+afterGiving s (Own b) = withLine s (record { holding = s .line .holding; forbidden = s .line .forbidden; stopped = s .line .holding })
+afterGiving s (Held b) = withTx s (dropRing (s .tx) 1)
+afterGiving s Nothing = s
 
 -- the answer for that byte
 unfoldable pub outAnswer : Out → Answer

@@ -3,7 +3,7 @@ ghost use mathlib.Core.Path.{_≡_};
 ghost use Prim.Native.Nat.{_≤_};
 ghost use Rattle.store.specs.Ring.{Within, room};
 ghost use Rattle.state.specs.Sizes.{RxFits, TxFits};
-ghost use Rattle.line.specs.HoldingOff.{isGoOrStop, flowed, storedWith, lostState, Taken, resumed, afterWrite, nextOut, goneState, outAnswer};
+ghost use Rattle.line.specs.HoldingOff.{isGoOrStop, flowed, storedWith, lostState, Taken, resumed, afterWrite, nextOut, afterGiving, outAnswer};
 use answers::Answer;
 use registers::Registers;
 use state::Out;
@@ -133,11 +133,11 @@ pub fn out_answer(o: Out) -> Answer
     }
 }
 
-// The state when that byte is gone.
-pub fn gone(s: State, tx: &[u8], o: Out) -> State
+// The state when that byte has been given.
+pub fn after_giving(s: State, tx: &[u8], o: Out) -> State
     requires { ⌜ TxFits s (now tx) ⌝ }
     requires { ⌜ o ≡ nextOut s (now tx) ⌝ }
-    ensures { λ r. ⌜ r ≡ goneState s o ⌝ }
+    ensures { λ r. ⌜ r ≡ afterGiving s o ⌝ }
 {
     let mut t = s;
     match o {

@@ -24,8 +24,8 @@ use Rattle.bridge.specs.Calls.{OnState, create, show, on, World, Did, world, di
 use Rattle.laws.specs.OneResult.{CreatedAnywhere}
 use Rattle.laws.proofs.OneResult.{create-takes-no-state}
 use Rattle.answers.specs.Word.{word, kindOf, valueOf}
-use Rattle.raftershim.specs.Word.{placeWord, placeOf, storeOf, shownWord}
-use Rattle.raftershim.specs.Calls.{lent, cDid, opened, blockAfter, closed, createdFor, cStep}
+use Rattle.raftershim.specs.ShownWord.{placeWord, placeOf, storeOf, shownWord}
+use Rattle.raftershim.specs.CCalls.{lent, cDid, opened, blockAfter, closed, createdFor, cStep}
 
 -- ---- a state that does not fit is refused
 
@@ -51,8 +51,8 @@ module _ (c : OnState) (b rx tx rx′ tx′ : List ℕ) (s : State) (o : Outcome
           let none : s ≡ noState = m ∙ sym (means-none b false (sym q) refl) in
           let misfits : fits s (length rx) (length tx) ≡ false =
           ap (λ (x : State). fits x (length rx) (length tx)) none ∙ no-state-misfits (length rx) (length tx) in
-          let told : said (o .answer) ≡ refused 2 = ap (λ (d : Did). d .said) (e ∙ misfit-step c (world s rx tx) misfits) in
-          absurd (true≢false (sym (ap isRefusal told) ∙ h))
+          let answerOf : said (o .answer) ≡ refused 2 = ap (λ (d : Did). d .said) (e ∙ misfit-step c (world s rx tx) misfits) in
+          absurd (true≢false (sym (ap isRefusal answerOf) ∙ h))
 
   pub written : (r : ℕ) (b′ : List ℕ) → (r ≡ word (said (o .answer))) × (b′ ≡ blockAfter b (said (o .answer)) (o .state)) →
       cDid r b′ rx′ tx′ ≡ closed (lent b rx tx) (step (on c) (opened (lent b rx tx)))

@@ -7,7 +7,7 @@ use mathlib.Core.List.{List}
 use lib.ListN.{length}
 use lib.Dec.{eqb}
 use borrow.Author.Tests.{eqb-true}
-use Rattle.cases.proofs.Cases.{and-left, by-cond}
+use Rattle.branches.proofs.Branches.{and-left, by-cond}
 use Rattle.answers.specs.Answers.{said, done, refused, isRefusal}
 use Rattle.state.specs.Sizes.{sizesObeyed}
 use Rattle.block.specs.Packed.{blockLen}
@@ -18,8 +18,8 @@ use Rattle.bridge.specs.Calls.{Call, create, show, on, World, checks, notRefuse
 use Rattle.laws.specs.Fitting.{Fits, SameStores}
 use Rattle.laws.proofs.Fitting.{keeps-fit, create-fits-so, stores-stay}
 use Rattle.answers.specs.Word.{word, kindOf, valueOf}
-use Rattle.raftershim.specs.Calls.{Lent, CDid, opened, closed, cStep}
-use Rattle.raftershim.specs.Fitting.{FitsStores, BlockKeepsFit, CreateFits, SameLengths, LengthsStay}
+use Rattle.raftershim.specs.CCalls.{Lent, CDid, opened, closed, cStep}
+use Rattle.raftershim.specs.CFitting.{FitsStores, BlockKeepsFit, CreateFits, SameLengths, LengthsStay}
 use Rattle.raftershim.proofs.Laws.{refusal-keeps, misfit-refused, wrong-block-refused}
 use Rattle.raftershim.proofs.Opened.{create-call, closed-world, call-means}
 

@@ -6,7 +6,7 @@ use mathlib.Core.Bool.{Bool, true, false, _&&_}
 use mathlib.Core.List.{List}
 use lib.ListN.{length}
 use lib.Dec.{eqb}
-use Rattle.cases.proofs.Cases.{by-cond}
+use Rattle.branches.proofs.Branches.{by-cond}
 use Rattle.frame.specs.Frame.{dataOf, isEnd}
 use Rattle.registers.specs.Meanings.{endInserted}
 use Rattle.registers.specs.Writing.{written}
@@ -20,11 +20,11 @@ use Rattle.state.specs.declared.Out.{Out}
 use Rattle.state.specs.declared.Out.the-variants as out
 use Rattle.state.specs.Counts.{counted}
 use Rattle.state.specs.Sizes.{sizesObeyed, startState, fits}
-use Rattle.state.specs.Status.{settled, afterStatusBack, afterStatus, breakState, keyState}
-use Rattle.line.specs.HoldingOff.{isGoOrStop, flowed, storedWith, lostState, lineState, resumed, setAfresh, afterWrite, nextOut, goneState}
-use Rattle.loops.specs.LoopToLine.{adds, addedState, addedBytes}
-use Rattle.loops.specs.Sending.{ended, ruleOf, removedState, sendState, sendFrom, sendStatus}
-use Rattle.loops.specs.Frames.{cleared, obeyed, deviceClear, addsBytes, frameBytes}
+use Rattle.state.specs.Conditions.{settled, afterStatusBack, afterStatus, breakState, keyState}
+use Rattle.line.specs.HoldingOff.{isGoOrStop, flowed, storedWith, lostState, lineState, resumed, setAfresh, afterWrite, nextOut, afterGiving}
+use Rattle.loopside.specs.LoopToLine.{adds, addedState, addedBytes}
+use Rattle.loopside.specs.Sends.{ended, ruleOf, removedState, sendState, sendFrom, sendStatus}
+use Rattle.loopside.specs.Frames.{cleared, obeyed, deviceClear, addsBytes, frameBytes}
 use Rattle.laws.specs.Bridges.{ByteCall}
 use Rattle.laws.proofs.Fitting.{keeps-fit, keeps-bytes}
 use Rattle.laws.proofs.Small.{put-bytes}
@@ -36,7 +36,7 @@ use Rattle.bridge.specs.Calls.{show, World, Did, checks, outcome, settledBy, tx
 use Rattle.laws.proofs.Refusing.{by-refusal}
 use Rattle.laws.proofs.Ways.{Way, isNext, isBack, isLast, isDamaged, isStored, isPassed, isCleared}
 use Rattle.laws.proofs.Ways.{isObeyed, isAssigned, isSendAsked, isTold, isFinishing, isReady, isIdentified, way}
-use Rattle.raftershim.specs.Runs.{Typed}
+use Rattle.raftershim.specs.CRuns.{Typed}
 use Rattle.raftershim.proofs.Closing.{misfit-step}
 
 -- ---- counts
@@ -71,11 +71,11 @@ line-counts s b k =
     (λ e. record { stored = k .stored; lost = counted-ranged (s .counts .lost); sent = k .sent })
     (λ e. record { stored = counted-ranged (s .counts .stored); lost = k .lost; sent = k .sent }))
 
-gone-counts : (s : State) (o : Out) → Counted s → Counted (goneState s o)
-unfolding goneState
-gone-counts s (out.Own b) k = k
-gone-counts s (out.Held b) k = k
-gone-counts s out.Nothing k = k
+giving-counts : (s : State) (o : Out) → Counted s → Counted (afterGiving s o)
+unfolding afterGiving
+giving-counts s (out.Own b) k = k
+giving-counts s (out.Held b) k = k
+giving-counts s out.Nothing k = k
 
 removed-counts : (s : State) (rx : List ℕ) → Counted s → Counted (removedState s rx)
 unfolding removedState resumed
@@ -115,7 +115,7 @@ accepted-counts (on (write n v)) w k = settled-counts (w .state) _ (write-counts
 accepted-counts (on (lineByte b)) w k = settled-counts (w .state) _ (line-counts (w .state) b k)
 accepted-counts (on lineBreak) w k = settled-counts (w .state) (breakState (w .state)) k
 accepted-counts (on key) w k = settled-counts (w .state) (keyState (w .state)) k
-accepted-counts (on nextLineByte) w k = settled-counts (w .state) _ (gone-counts (w .state) (nextOut (w .state) (w .tx)) k)
+accepted-counts (on nextLineByte) w k = settled-counts (w .state) _ (giving-counts (w .state) (nextOut (w .state) (w .tx)) k)
 accepted-counts (on (loopFrame f)) w k =
     by-cond Counted (deviceClear (w .state) f) _ _
     (λ e. frame-counts (w .state) (w .rx) f _ (way (w .state) (w .rx) f) k)

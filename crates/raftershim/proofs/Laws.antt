@@ -1,5 +1,5 @@
 -- The laws of one C call. Assumes nothing.
-use Prim.Native.Nat.{ℕ, _/_, _%_}
+use Prim.Native.Nat.{ℕ, _/_, _%_, _<_}
 use native.Mathlib.Omega.{arith}
 use mathlib.Core.Path.{_≡_, refl, sym, ap, _∙_}
 use mathlib.Core.Bool.{Bool, true, false, cond}
@@ -7,19 +7,19 @@ use mathlib.Core.List.{List, [], _∷_}
 use lib.ListN.{length, take, drop}
 use lib.Dec.{eqb}
 use borrow.Author.Tests.{eqb-false, eqb-true}
-use Rattle.cases.proofs.Cases.{by-cond, cond-false}
+use Rattle.branches.proofs.Branches.{by-cond, cond-false}
 use Rattle.state.specs.Sizes.{fits}
 use Rattle.block.specs.Packed.{blockLen, packed}
 use Rattle.block.specs.States.{Ranged}
 use Rattle.block.proofs.Laws.{packed-length, packed-means, meaning-fits}
 use Rattle.bridge.specs.Calls.{Call, create, show, on, World, Did, checks, notRefused, refusedOr, step, shown}
-use Rattle.answers.specs.Answers.{part, isRefusal}
+use Rattle.answers.specs.Answers.{Said, done, none, byte, frame, refused, part, isRefusal}
 use Rattle.laws.proofs.Answers.{refusal-leaves}
-use Rattle.answers.specs.Word.{word}
-use Rattle.raftershim.specs.Word.{placeWord, placeOf, storeOf, shownWord}
-use Rattle.raftershim.specs.Calls.{Lent, lent, CDid, cDid, opened, closed, createdFor, cStep}
-use Rattle.raftershim.specs.Runs.{packedWorld, answerWord}
-use Rattle.raftershim.specs.Laws.{OneResultInC, WordTells, ShownPlace, MisfitShowsNothing, MisfitRefused, WrongBlockRefused, SameCall}
+use Rattle.answers.specs.Word.{word, kindOf}
+use Rattle.raftershim.specs.ShownWord.{placeWord, placeOf, storeOf, shownWord}
+use Rattle.raftershim.specs.CCalls.{Lent, lent, CDid, cDid, opened, closed, createdFor, cStep}
+use Rattle.raftershim.specs.CRuns.{packedWorld, answerWord}
+use Rattle.raftershim.specs.CLaws.{OneResultInC, WordTells, ReservedZero, ShownPlace, MisfitShowsNothing, MisfitRefused, WrongBlockRefused, SameCall}
 use Rattle.raftershim.proofs.Closing.{misfit-step, part-word, Shown, shown-part}
 
 -- ---- the answer
@@ -29,9 +29,23 @@ one-result-in-c c l n m b b′ rx rx′ tx tx′ p q =
     let e = p ∙ sym q in
     (ap (λ (r : CDid). r .word) e, (ap (λ (r : CDid). r .lent .block) e, (ap (λ (r : CDid). r .lent .rx) e, ap (λ (r : CDid). r .lent .tx) e)))
 
+-- there are five kinds of answer
+few-kinds : (a : Said) → kindOf a < 5
+unfolding kindOf
+few-kinds done = omega arith
+few-kinds none = omega arith
+few-kinds (byte b) = omega arith
+few-kinds (frame c d) = omega arith
+few-kinds (refused n) = omega arith
+few-kinds (part xs) = omega arith
+
 pub word-tells : WordTells
 unfolding word
-word-tells a h = (omega arith, omega arith)
+word-tells a h = (omega (arith, few-kinds a), omega arith)
+
+pub reserved-zero : ReservedZero
+unfolding word
+reserved-zero a h = omega (arith, few-kinds a)
 
 -- ---- refusals
 

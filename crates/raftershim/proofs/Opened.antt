@@ -7,7 +7,7 @@ use mathlib.Core.List.{List, [], _∷_}
 use lib.ListN.{length}
 use lib.Dec.{eqb}
 use borrow.Author.Tests.{eq-eqb}
-use Rattle.cases.proofs.Cases.{by-cond, cond-true}
+use Rattle.branches.proofs.Branches.{by-cond, cond-true}
 use Rattle.block.specs.Packed.{blockLen, packed}
 use Rattle.block.specs.States.{isState, meaning, Ranged}
 use Rattle.store.specs.Bytes.{Bytes}
@@ -18,9 +18,9 @@ use Rattle.answers.specs.Answers.{isRefusal}
 use Rattle.machine.specs.Machine.{finally}
 use Rattle.laws.specs.Bridges.{bridge, ByteCall}
 use Rattle.answers.specs.Word.{word}
-use Rattle.raftershim.specs.Calls.{Lent, CDid, opened, closed, createdFor, cStep}
-use Rattle.raftershim.specs.Runs.{answerWord, words, cWords, Typed, OfBytes, Whole}
-use Rattle.raftershim.specs.Laws.{Means, CallMeans, RunMeans, RunsMean}
+use Rattle.raftershim.specs.CCalls.{Lent, CDid, opened, closed, createdFor, cStep}
+use Rattle.raftershim.specs.CRuns.{answerWord, words, cWords, Typed, OfBytes, Whole}
+use Rattle.raftershim.specs.CLaws.{Means, CallMeans, RunMeans, RunsMean}
 use Rattle.raftershim.proofs.Kept.{tx-kept, ranged-kept, typed-kept}
 use Rattle.raftershim.proofs.Laws.{refusal-keeps}
 

@@ -17,12 +17,12 @@ use Rattle.bridge.specs.Calls.{OnState, Call, create, show, on, World, checks, 
 use Rattle.answers.specs.Refusing.{Refuses}
 use Rattle.laws.proofs.Answers as bridge-answers
 use Rattle.answers.specs.Word.{word, kindOf, valueOf}
-use Rattle.raftershim.specs.Calls.{Lent, CDid, opened, cStep}
-use Rattle.raftershim.specs.Told.{told, saidBy, toldPart, cAnswer}
-use Rattle.raftershim.specs.Laws.{refusedBy}
-use Rattle.raftershim.specs.Refusals.{cChecks, RefusedExactlyInC}
+use Rattle.raftershim.specs.CCalls.{Lent, CDid, opened, cStep}
+use Rattle.raftershim.specs.Numbers.{answerOf, saidBy, partOf, cAnswer}
+use Rattle.raftershim.specs.CLaws.{refusedBy}
+use Rattle.raftershim.specs.CRefusals.{cChecks, RefusedExactlyInC}
 use Rattle.raftershim.proofs.Laws.{misfit-refused, wrong-block-refused}
-use Rattle.raftershim.proofs.Told.{answers-told, refusal-keeps-all}
+use Rattle.raftershim.proofs.Numbers.{answers-told, refusal-keeps-all}
 
 -- ---- a block of the one length: the checks are those of the call
 
@@ -47,11 +47,11 @@ same-first c l e = each c
 -- ---- a block of another length: the first check is given
 
 -- the number tells its refusal
-told-one : told (word (refused 1)) ≡ refused 1
-told-one = unfold told word kindOf valueOf saidBy in refl
+told-one : answerOf (word (refused 1)) ≡ refused 1
+told-one = unfold answerOf word kindOf valueOf saidBy in refl
 
-told-two : told (word (refused 2)) ≡ refused 2
-told-two = unfold told word kindOf valueOf saidBy in refl
+told-two : answerOf (word (refused 2)) ≡ refused 2
+told-two = unfold answerOf word kindOf valueOf saidBy in refl
 
 -- a call that is refused by the first of its checks
 refuses : (a : Said) (k : Lent) (n : ℕ) (l : Lent) → (n ≡ 0 → ⊥) → a ≡ refused n → k ≡ l → Refuses a k n l
@@ -78,14 +78,14 @@ module _ (l : Lent) (e : eqb (length (l .block)) blockLen ≡ false) where
       let t : Bool = sizesObeyed m (length (l .rx)) (length (l .tx)) in
       let n : firstRefusal (cChecks (create m) l) ≡ 1 = ap (λ (b : Bool). firstRefusal (check 1 (not t || not b) ∷ [])) e ∙ either t in
       subst (λ (k : ℕ). Refuses (cAnswer (create m) l) (cStep (create m) l .lent) k l) (sym n)
-      (refuses _ _ 1 l (λ z. omega arith) (ap (λ (x : CDid). told (x .word)) r ∙ told-one) (ap (λ (x : CDid). x .lent) r))
+      (refuses _ _ 1 l (λ z. omega arith) (ap (λ (x : CDid). answerOf (x .word)) r ∙ told-one) (ap (λ (x : CDid). x .lent) r))
     where
       either : (t : Bool) → firstRefusal (check 1 (not t || true) ∷ []) ≡ 1
       either true = refl
       either false = refl
 
   showing : (side : ℕ) → Right (show side)
-  unfolding cAnswer cStep toldPart cChecks
+  unfolding cAnswer cStep partOf cChecks
   showing side = record { when = λ m q. cc; given = λ z. absurd (z refl); accepts = λ z. refl; leaves = λ q. refl }
 
   calling : (c : OnState) → Right (on c)
@@ -93,7 +93,7 @@ module _ (l : Lent) (e : eqb (length (l .block)) blockLen ≡ false) where
   calling c =
       let r : cStep (on c) l ≡ refusedBy 2 l = misfit-refused c l misfits in
       subst (λ (k : ℕ). Refuses (cAnswer (on c) l) (cStep (on c) l .lent) k l) (sym (rw misfits))
-      (refuses _ _ 2 l (λ z. omega arith) (ap (λ (x : CDid). told (x .word)) r ∙ told-two) (ap (λ (x : CDid). x .lent) r))
+      (refuses _ _ 2 l (λ z. omega arith) (ap (λ (x : CDid). answerOf (x .word)) r ∙ told-two) (ap (λ (x : CDid). x .lent) r))
 
   other-length : (c : Call) → Right c
   other-length (create m) = creating m

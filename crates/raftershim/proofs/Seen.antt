@@ -5,10 +5,10 @@ use Rattle.bridge.specs.Calls.{step}
 use Rattle.laws.specs.Bridges.{bridge}
 use Rattle.laws.specs.Laws.{laws}
 use Rattle.runs.proofs.Laws.{all-obeyed}
-use Rattle.raftershim.specs.Calls.{opened}
-use Rattle.raftershim.specs.Seen.{cFunctions, CIsTheBridge, LawsHoldInC, AllLawsInC}
+use Rattle.raftershim.specs.CCalls.{opened}
+use Rattle.raftershim.specs.CSeen.{cFunctions, CIsTheBridge, LawsHoldInC, AllLawsInC}
 use Rattle.raftershim.proofs.Opened.{whole-kept, call-means}
-use Rattle.raftershim.proofs.Told.{answers-told}
+use Rattle.raftershim.proofs.Numbers.{answers-told}
 
 pub c-is-the-bridge : CIsTheBridge
 c-is-the-bridge =

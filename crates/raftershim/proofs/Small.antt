@@ -7,7 +7,7 @@ use mathlib.Core.List.{List, [], _∷_}
 use lib.Dec.{eqb}
 use borrow.Author.Tests.{ltb-false}
 use Rattle.answers.specs.Refusals.{Check, firstRefusal}
-use Rattle.cases.proofs.Cases.{by-cond}
+use Rattle.branches.proofs.Branches.{by-cond}
 use Rattle.frame.specs.Frame.{controlOf, dataOf, made}
 use Rattle.registers.specs.Writing.{writeChecks}
 use Rattle.store.specs.Ring.{Fit}
@@ -17,7 +17,7 @@ use Rattle.answers.specs.declared.Answer.the-variants as answer
 use Rattle.answers.specs.Answers.{Said, said, done, none, byte, frame, refused}
 use Rattle.state.proofs.Fits.{rx-fits, tx-fits}
 use Rattle.line.specs.HoldingOff.{owed, nextOut, outAnswer}
-use Rattle.loops.specs.Frames.{frameTaken}
+use Rattle.loopside.specs.Frames.{frameTaken}
 use Rattle.block.specs.States.{Ranged}
 use Rattle.store.specs.Bytes.{Bytes}
 use Rattle.bridge.specs.Calls.{OnState, reset, write, lineByte, lineBreak, key, nextLineByte, loopFrame, Call, create}
@@ -27,7 +27,7 @@ use Rattle.laws.proofs.Ways.{way}
 use Rattle.runs.proofs.ElevenBits.{SmallFrame, frame-small}
 use Rattle.laws.proofs.Small.{held-bytes}
 use Rattle.answers.specs.Word.{word, kindOf, valueOf}
-use Rattle.raftershim.specs.Told.{saidBy, told}
+use Rattle.raftershim.specs.Numbers.{saidBy, answerOf}
 use Rattle.raftershim.proofs.Laws.{word-tells}
 
 -- ---- answers of 16 bits
@@ -40,10 +40,10 @@ Small (answer.Frame f) = f < 65536
 Small (answer.Refused n) = n < 65536
 
 abbrev pub Tells : Said → Type 0
-Tells a = told (word a) ≡ a
+Tells a = answerOf (word a) ≡ a
 
 by-word : (a : Said) → valueOf a < 65536 → saidBy (kindOf a) (valueOf a) ≡ a → Tells a
-unfolding told
+unfolding answerOf
 by-word a h e = let w = word-tells a h in (λ i. saidBy (w .0 i) (w .1 i)) ∙ e
 
 small-tells : (a : Answer) → Small a → Tells (said a)

@@ -23,11 +23,11 @@ module _ (r : Rule) (xs : List ℕ) where
   pub send-removed : decision r xs ≡ Removed → send (cut r) xs ≡ send (cut r) (drop 2 xs)
   send-removed = send-decided Removed
 
-  -- "an end byte; all three go"
+  -- step 2
   pub send-end : decision r xs ≡ End → send (cut r) xs ≡ one (made 2 (getD xs 0 0)) (drop 3 xs)
   send-end = send-decided End
 
-  -- "a data frame; the byte goes"
+  -- step 4
   pub send-data : decision r xs ≡ Data → send (cut r) xs ≡ one (made 0 (getD xs 0 0)) (drop 1 xs)
   send-data = send-decided Data
 

@@ -6,13 +6,13 @@ use mathlib.Core.List.{List, [], _∷_}
 use lib.Dec.{eqb, ltb}
 use borrow.Author.Tests.{eqb-true, eqb-false, not-true}
 use Rattle.answers.specs.Refusals.{firstRefusal}
-use Rattle.cases.proofs.Cases.{and-left, and-right}
+use Rattle.branches.proofs.Branches.{and-left, and-right}
 use Rattle.registers.specs.declared.Registers.{Registers}
 use Rattle.registers.specs.Table.{character, table, rowIn, hasRow, carriedOf, startOf, startRegisters}
 use Rattle.registers.specs.Bits.{controlMost, characterMost, tooLarge, bitNotCarried, inRange}
 use Rattle.registers.specs.Meanings.{go, stop}
 use Rattle.registers.specs.Writing.{written, goIsStop, writeChecks}
-use Rattle.registers.specs.Fit.{Held, values, valueIn, valueOf, allInRange, registersFit}
+use Rattle.registers.specs.RegistersFit.{Held, values, valueIn, valueOf, allInRange, registersFit}
 use Rattle.registers.proofs.Rows.{test-row}
 use Rattle.registers.proofs.Refusals.{accepted, small-byte}
 use Rattle.registers.proofs.Writes.{replaced, values-written, written-same}

@@ -8,7 +8,7 @@ use Rattle.registers.specs.declared.Registers.{Registers}
 use Rattle.registers.specs.Table.{character, table, rowIn, carriedOf}
 use Rattle.registers.specs.Bits.{characterMost, tooLarge, bitNotCarried, inRange}
 use Rattle.registers.specs.Writing.{goIsStop}
-use Rattle.registers.specs.Fit.{values, allInRange, registersFit}
+use Rattle.registers.specs.RegistersFit.{values, allInRange, registersFit}
 
 byte : (x : ℕ) → x < 256 → inRange character x ≡ true
 unfolding tooLarge bitNotCarried inRange

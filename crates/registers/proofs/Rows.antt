@@ -7,9 +7,9 @@ use mathlib.Core.List.{List, [], _∷_, List·Memᴰ, List·Memᴰ·not-nil, Lis
 use mathlib.Core.Logic.{⊎-elim}
 use lib.Dec.{eqb, ltb, leb}
 use borrow.Author.Tests.{eqb-true, ne-eqb, ltb-true, leb-true}
-use Rattle.cases.proofs.Cases.{and-left, and-right}
+use Rattle.branches.proofs.Branches.{and-left, and-right}
 use Rattle.registers.specs.Table.{nothing, Row, table, rowIn, hasRow, carriedOf, startOf, startRegisters}
-use Rattle.registers.specs.Fit.{values, valueIn, valueOf}
+use Rattle.registers.specs.RegistersFit.{values, valueIn, valueOf}
 
 -- a test that every row passes
 every : (Row → Bool) → List Row → Bool

@@ -8,7 +8,7 @@ use borrow.Author.Tests.{eqb-true, ne-eqb}
 use Rattle.registers.specs.declared.Registers.{Registers}
 use Rattle.registers.specs.Table.{table, hasRow}
 use Rattle.registers.specs.Writing.{written}
-use Rattle.registers.specs.Fit.{Held, held, values, valueIn, valueOf}
+use Rattle.registers.specs.RegistersFit.{Held, held, values, valueIn, valueOf}
 
 -- the values with that of one number replaced
 unfoldable pub replaced : ℕ → ℕ → List Held → List Held

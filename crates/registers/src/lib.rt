@@ -6,7 +6,7 @@ ghost use Rattle.answers.specs.Refusals.{firstRefusal};
 ghost use Rattle.registers.specs.Table.{carriedOf, startRegisters};
 ghost use Rattle.registers.specs.Bits.{tooLarge, bitNotCarried, inRange};
 ghost use Rattle.registers.specs.Writing.{writeChecks, written};
-ghost use Rattle.registers.specs.Fit.{registersFit};
+ghost use Rattle.registers.specs.RegistersFit.{registersFit};
 
 pub mod meanings;
 

@@ -6,13 +6,13 @@ use mathlib.Core.Path.{_≡_, refl}
 use mathlib.Core.Bool.{false, cond}
 use lib.Dec.{leb}
 use borrow.Author.Tests.{leb-false}
-use Rattle.cases.proofs.Cases.{by-cond}
+use Rattle.branches.proofs.Branches.{by-cond}
 use Rattle.role.specs.declared.Role.{Role}
 use Rattle.role.specs.declared.Order.{Order}
 use Rattle.role.specs.declared.Order.the-variants.{Unlisten, Listen, Untalk, Talk, Clear, Deselect, Enable, Disable, Local, Unassign, Nothing}
 use Rattle.role.specs.Orders.{orderOf}
 use Rattle.role.specs.Commands.{merelyAddressed, changedRole, obeyedRole, afterCommand}
-use Rattle.role.specs.Fit.{Apart, Fit}
+use Rattle.role.specs.RoleFit.{Apart, Fit}
 use Rattle.role.proofs.OrderLaws.{order-63, order-95}
 
 -- a merely addressed talker is not active, an idle one stays idle, and nothing else changes

@@ -7,8 +7,8 @@ use mathlib.Core.Bool.{Bool, true, false, _&&_, not, false≢true, and-eq-true-i
 use lib.Dec.{leb}
 use borrow.Author.Tests.{leb-true, leb-false, le-leb, not-true}
 use Rattle.role.specs.declared.Role.{Role}
-use Rattle.role.specs.Parts.{startRole, withAddress, withPhase}
-use Rattle.role.specs.Fit.{Apart, Fit, fitTest}
+use Rattle.role.specs.Role.{startRole, withAddress, withPhase}
+use Rattle.role.specs.RoleFit.{Apart, Fit, fitTest}
 
 -- a listener is no talker, as a test and as a fact
 apart-true : (t : ℕ) (l : Bool) → not (leb 1 t && l) ≡ true → l ≡ true → t ≡ 0

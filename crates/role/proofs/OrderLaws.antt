@@ -6,11 +6,11 @@ use mathlib.Core.Path.{_≡_, refl, _∙_}
 use mathlib.Core.Bool.{Bool, _&&_, _||_, and-false, and-not-self}
 use lib.Dec.{eqb}
 use borrow.Author.Tests.{eqb-true}
-use Rattle.cases.proofs.Cases.{by-cond}
+use Rattle.branches.proofs.Branches.{by-cond}
 use Rattle.role.specs.declared.Role.{Role}
 use Rattle.role.specs.Orders.{ownAddress, numberOf, baseOf, listenOrder, talkOrder, otherOrder, orderOf}
 use Rattle.role.specs.Commands.{merelyAddressed}
-use Rattle.role.specs.Laws.{Order63, Order95, Silent, UnassignedSilent}
+use Rattle.role.specs.NobodysAddress.{Order63, Order95, Silent, UnassignedSilent}
 
 -- with home address 31 our address is the address field
 pub own-31 : (r : Role) → ownAddress 31 r ≡ r .address

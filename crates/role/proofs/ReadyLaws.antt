@@ -6,14 +6,14 @@ use mathlib.Core.Path.{_≡_}
 use mathlib.Core.Bool.{true, false, _&&_, and-eq-true-iff}
 use lib.Dec.{eqb, leb}
 use borrow.Author.Tests.{eqb-true, eq-eqb, le-leb, leb-true}
-use Rattle.cases.proofs.Cases.{by-cond}
+use Rattle.branches.proofs.Branches.{by-cond}
 use Rattle.role.specs.declared.Role.{Role}
 use Rattle.role.specs.declared.Ready.{Ready}
 use Rattle.role.specs.declared.Ready.the-variants.{Pass, Address, Data, Status, Finish}
-use Rattle.role.specs.Parts.{withAddress}
+use Rattle.role.specs.Role.{withAddress}
 use Rattle.role.specs.Orders.{numberOf, baseOf}
 use Rattle.role.specs.ReadyFrames.{givesAddress, readyOf, assignedRole, afterReady}
-use Rattle.role.specs.Fit.{Apart, Fit}
+use Rattle.role.specs.RoleFit.{Apart, Fit}
 use Rattle.role.proofs.FitLaws.{fit-address}
 
 -- a byte, a talker phase, and no address taken

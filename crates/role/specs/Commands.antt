@@ -4,7 +4,7 @@ use mathlib.Core.Bool.{true, false, cond}
 use Rattle.role.specs.declared.Role.{Role}
 use Rattle.role.specs.declared.Order.{Order}
 use Rattle.role.specs.declared.Order.the-variants.{Unlisten, Listen, Untalk, Talk, Clear, Deselect, Enable, Disable, Local, Unassign, Nothing}
-use Rattle.role.specs.Parts.{unassigned, idle, addressed, isActive, withAddress, withPhase, withListener}
+use Rattle.role.specs.Role.{unassigned, idle, addressed, isActive, withAddress, withPhase, withListener}
 use Rattle.role.specs.Orders.{orderOf}
 
 -- Frames, commands, what comes first: no talker stays active

@@ -1,7 +1,7 @@
-pub mod Parts
+pub mod Role
 pub mod Orders
 pub mod Commands
 pub mod Remote
 pub mod ReadyFrames
-pub mod Fit
-pub mod Laws
+pub mod RoleFit
+pub mod NobodysAddress

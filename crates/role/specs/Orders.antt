@@ -5,7 +5,7 @@ use lib.Dec.{eqb}
 use Rattle.role.specs.declared.Role.{Role}
 use Rattle.role.specs.declared.Order.{Order}
 use Rattle.role.specs.declared.Order.the-variants.{Unlisten, Listen, Untalk, Talk, Clear, Deselect, Enable, Disable, Local, Unassign, Nothing}
-use Rattle.role.specs.Parts.{isUnassigned}
+use Rattle.role.specs.Role.{isUnassigned}
 
 -- Frames, commands, our address a: as assigned, and the home address of the device while unassigned
 unfoldable pub ownAddress : ℕ → Role → ℕ

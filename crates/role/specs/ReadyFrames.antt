@@ -5,7 +5,7 @@ use lib.Dec.{eqb, leb}
 use Rattle.role.specs.declared.Role.{Role}
 use Rattle.role.specs.declared.Ready.{Ready}
 use Rattle.role.specs.declared.Ready.the-variants.{Pass, Address, Data, Status, Finish}
-use Rattle.role.specs.Parts.{addressed, activeData, isUnassigned, withAddress}
+use Rattle.role.specs.Role.{addressed, activeData, isUnassigned, withAddress}
 use Rattle.role.specs.Orders.{numberOf, baseOf}
 
 -- Frames, ready 128+n: 31 is no address, and an address is taken once

@@ -1,10 +1,10 @@
 // What commands and ready frames do to a device's role on the loop; stores and registers are not known here.
 ghost use mathlib.Core.Path.{_≡_};
-ghost use Rattle.role.specs.Parts.{startRole, withPhase};
+ghost use Rattle.role.specs.Role.{startRole, withPhase};
 ghost use Rattle.role.specs.Orders.{ownAddress, listenOrder, talkOrder, otherOrder, orderOf};
 ghost use Rattle.role.specs.Commands.{merelyAddressed, changedRole, obeyedRole};
 ghost use Rattle.role.specs.ReadyFrames.{readyOf, assignedRole};
-ghost use Rattle.role.specs.Fit.{fitTest};
+ghost use Rattle.role.specs.RoleFit.{fitTest};
 
 pub mod remote;
 

@@ -6,7 +6,7 @@ use Rattle.answers.specs.Refusals.{firstRefusal}
 use Rattle.machine.specs.Machine.{Obeys}
 use Rattle.status.specs.declared.Events.{Events}
 use Rattle.answers.specs.Answers.{refused}
-use Rattle.state.specs.Status.{settled, breakState, keyState}
+use Rattle.state.specs.Conditions.{settled, breakState, keyState}
 use Rattle.bridge.specs.Calls.{OnState, reset, write, lineByte, lineBreak, key, nextLineByte, loopFrame, Call, create, show}
 use Rattle.bridge.specs.Calls.{on, is, World, Did, checks, outcome, settledBy, rxAfter, txAfter, notRefused, step}
 use Rattle.laws.specs.Bridges.{Saw}

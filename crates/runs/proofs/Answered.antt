@@ -5,14 +5,14 @@ use mathlib.Core.Path.{_≡_, refl, ap, _∙_}
 use mathlib.Core.Bool.{Bool, true, false, cond}
 use mathlib.Core.List.{[], _∷_}
 use borrow.Author.Tests.{lt-ltb}
-use Rattle.cases.proofs.Cases.{cond-true}
+use Rattle.branches.proofs.Branches.{cond-true}
 use Rattle.frame.specs.Frame.{controlOf, made, isData, stripped, withService}
 use Rattle.frame.proofs.Laws.{made-parts, kind-service, stripped-service}
 use Rattle.status.specs.Status.{statusByte}
 use Rattle.state.specs.declared.State.{State}
 use Rattle.answers.specs.declared.Answer.the-variants.{Frame}
 use Rattle.answers.specs.Answers.{said}
-use Rattle.state.specs.Status.{conditions, shows, serviced, statusOf}
+use Rattle.state.specs.Conditions.{conditions, shows, serviced, statusOf}
 use Rattle.laws.specs.Observers.{dataFrame}
 
 -- the service bit leaves the rest of a frame alone

@@ -6,12 +6,12 @@ use mathlib.Core.Bool.{Bool, true, false, cond, _&&_, _||_, not, false≢true, a
 use mathlib.Core.List.{List, [], _∷_}
 use lib.Dec.{eqb}
 use borrow.Author.Tests.{eqb-true, ne-eqb, le-leb}
-use Rattle.cases.proofs.Cases.{by-cond, and-left, and-right}
+use Rattle.branches.proofs.Branches.{by-cond, and-left, and-right}
 use Rattle.answers.specs.Refusals.{firstRefusal}
 use Rattle.frame.specs.Frame.{controlOf, dataOf, made, isData, stripped, sameApart}
 use Rattle.frame.proofs.Laws.{same-stripped, stripped-same, stripped-twice}
 use Rattle.registers.specs.Writing.{written}
-use Rattle.role.specs.Parts.{isActive}
+use Rattle.role.specs.Role.{isActive}
 use Rattle.store.specs.Ring.{full}
 use Rattle.status.specs.declared.Events.{Events}
 use Rattle.status.specs.Status.{showed, stays, acknowledged}
@@ -24,14 +24,14 @@ use Rattle.state.specs.declared.Out.the-variants as out
 use Rattle.answers.specs.declared.Answer.the-variants.{Frame}
 use Rattle.answers.specs.Answers.{Said, said, done, refused}
 use Rattle.state.specs.Sizes.{startState}
-use Rattle.state.specs.Status.{settled, breakState, keyState, statusOf}
-use Rattle.state.specs.Status as status
-use Rattle.line.specs.HoldingOff.{isGoOrStop, flowed, lostState, storedWith, storedState, lineState, setAfresh, afterWrite, nextOut, goneState}
-use Rattle.loops.specs.LoopToLine.{addedState}
-use Rattle.talker.specs.Sending.{talking}
+use Rattle.state.specs.Conditions.{settled, breakState, keyState, statusOf}
+use Rattle.state.specs.Conditions as status
+use Rattle.line.specs.HoldingOff.{isGoOrStop, flowed, lostState, storedWith, storedState, lineState, setAfresh, afterWrite, nextOut, afterGiving}
+use Rattle.loopside.specs.LoopToLine.{addedState}
+use Rattle.talker.specs.UnderWay.{talking}
 use Rattle.talker.specs.Returns.{returnOf}
-use Rattle.loops.specs.Sending.{sendStatus, ended}
-use Rattle.loops.specs.Frames.{cleared, judged, returned, frameTaken, deviceClear}
+use Rattle.loopside.specs.Sends.{sendStatus, ended}
+use Rattle.loopside.specs.Frames.{cleared, judged, returned, frameTaken, deviceClear}
 use Rattle.bridge.specs.Calls.{Call, on, create, reset, write, lineByte, lineBreak, key, nextLineByte}
 use Rattle.bridge.specs.Calls.{loopFrame, show, World, Did, checks, outcome, settledBy, refusedOr, step}
 use Rattle.bridge.specs.Calls as calls
@@ -39,7 +39,7 @@ use Rattle.laws.specs.Observers.{taken, isFrame, dataFrame, equalReturn, isSend
 use Rattle.laws.specs.StatusWay.{endsWay, statusBack}
 use Rattle.laws.specs.Events.{Event, broken, overrun, pressed, bitOf, happens, noted}
 use Rattle.laws.specs.Cleared.{NotInvented, NotAtStart, Clears}
-use Rattle.runs.proofs.Bits.{worth, event-shown}
+use Rattle.runs.proofs.Bits.{weightOf, event-shown}
 use Rattle.runs.proofs.Answered.{status-small, status-frame}
 use Rattle.runs.proofs.Runs.{first-not}
 use Rattle.runs.proofs.Refused.{frame-answers, frame-taken}
@@ -171,8 +171,8 @@ module _ (e : Event) (w : World) (f : ℕ) where
 unmoved : (e : Event) (s : State) → On e s s
 unmoved e s = record { talker = refl; frame = refl; seen = refl; again = refl }
 
-gone-noted : (e : Event) (w : World) (a : Said) (o : Out) → Noted e (on nextLineByte) w a (settled (w .state) (goneState (w .state) o))
-unfolding goneState settled restarts clears
+gone-noted : (e : Event) (w : World) (a : Said) (o : Out) → Noted e (on nextLineByte) w a (settled (w .state) (afterGiving (w .state) o))
+unfolding afterGiving settled restarts clears
 gone-noted e w a (out.Own b) = kept e (on nextLineByte) w a _ refl (record { talker = refl; frame = refl; seen = refl; again = refl })
 gone-noted e w a (out.Held b) = kept e (on nextLineByte) w a _ refl (record { talker = refl; frame = refl; seen = refl; again = refl })
 gone-noted e w a out.Nothing = kept e (on nextLineByte) w a _ refl (record { talker = refl; frame = refl; seen = refl; again = refl })
@@ -257,7 +257,7 @@ stays-shown : (x : Bool) → stays x x false ≡ false
 stays-shown true = refl
 stays-shown false = refl
 
-told-of : (e : Event) (x y : Events) (d : ℕ) → noted e x ≡ showed d (worth e) → noted e y ≡ false → noted e (acknowledged x y d) ≡ false
+told-of : (e : Event) (x y : Events) (d : ℕ) → noted e x ≡ showed d (weightOf e) → noted e y ≡ false → noted e (acknowledged x y d) ≡ false
 told-of broken x y d p q = (λ i. stays (x .brk) (sym p i) (q i)) ∙ stays-shown (x .brk)
 told-of overrun x y d p q = (λ i. stays (x .overrun) (sym p i) (q i)) ∙ stays-shown (x .overrun)
 told-of pressed x y d p q = (λ i. stays (x .key) (sym p i) (q i)) ∙ stays-shown (x .key)
@@ -267,7 +267,7 @@ module _ (e : Event) (g : ℕ) where
   record Way (s : State) : Type 0 where
     talker : eqb (s .talker .role .phase) 3 ≡ true
     frame : g ≡ stripped (s .talker .under .frame)
-    shown : noted e (s .notes .seen) ≡ showed (dataOf (s .talker .under .frame)) (worth e)
+    shown : noted e (s .notes .seen) ≡ showed (dataOf (s .talker .under .frame)) (weightOf e)
     again : noted e (s .notes .again) ≡ false
 
   way-on : (s t : State) → On e s t → Way s → Way t
@@ -275,7 +275,7 @@ module _ (e : Event) (g : ℕ) where
       record {
         talker = ap (λ (n : ℕ). eqb n 3) (o .talker) ∙ y .talker;
         frame = y .frame ∙ ap stripped (sym (o .frame));
-        shown = o .seen ∙ y .shown ∙ ap (λ (n : ℕ). showed (dataOf n) (worth e)) (sym (o .frame));
+        shown = o .seen ∙ y .shown ∙ ap (λ (n : ℕ). showed (dataOf n) (weightOf e)) (sym (o .frame));
         again = o .again ∙ y .again;
       }
 
@@ -321,7 +321,7 @@ status-way e g s q =
     record {
       talker = refl;
       frame = cc;
-      shown = sym (event-shown e s) ∙ ap (λ (n : ℕ). showed n (worth e)) (sym d);
+      shown = sym (event-shown e s) ∙ ap (λ (n : ℕ). showed n (weightOf e)) (sym d);
       again = none-noted e;
     }
 

@@ -9,13 +9,13 @@ use Rattle.sending.specs.Sending.{sendHeld}
 use Rattle.state.specs.declared.Counts.{Counts}
 use Rattle.state.specs.Sizes.{startState}
 use Rattle.line.specs.HoldingOff.{storedWith}
-use Rattle.loops.specs.Sending.{ruleOf}
+use Rattle.loopside.specs.Sends.{ruleOf}
 use Rattle.bridge.specs.Calls.{Call, World}
 use Rattle.store.specs.Bytes.{Bytes}
 use Rattle.laws.specs.Observers.{accepted, lost, sent, startsAnew}
 use Rattle.laws.specs.Worlds.{heldToSend}
 use Rattle.laws.specs.Counts.{wrapped, Small, CountsGo, CountsSince}
-use Rattle.runs.proofs.Shapes.{Seen, seen, Heart, heart, Shape, isStill, isBegun, isWritten}
+use Rattle.runs.proofs.Shapes.{Seen, seen, Core, core, Shape, isStill, isBegun, isWritten}
 use Rattle.runs.proofs.Shapes.{isCleared, isStored, isLost, isSent, isNone, isLeft, isHanded}
 use Rattle.runs.proofs.View.{view}
 use Rattle.runs.proofs.Bytes.{sent-plain, held-all}
@@ -45,7 +45,7 @@ module _ (w : World) (S : Small w) where
         sent = none-more _ (S .sent) ∙ ap (λ k. wrapped (w .state .counts .sent + length k)) (sym s);
       }
 
-  stepped : (x : Seen) (h : Heart) (rx tx : List ℕ) → Shape w x h rx tx → x .startsAnew ≡ false → Bytes (heldToSend w) →
+  stepped : (x : Seen) (h : Core) (rx tx : List ℕ) → Shape w x h rx tx → x .startsAnew ≡ false → Bytes (heldToSend w) →
       Stepped x (w .state .counts) (h .counts)
   unfolding storedWith sendHeld
   stepped x h rx tx isStill n B = same x refl refl refl
@@ -67,7 +67,7 @@ module _ (w : World) (S : Small w) where
 
 step-counts : (c : Call) (w : World) → startsAnew c w (answer c w) ≡ false → Bytes (heldToSend w) → Small w →
     Stepped (seen c w (answer c w)) (w .state .counts) (after c w .state .counts)
-step-counts c w n B S = stepped w S (seen c w (answer c w)) (heart (after c w .state)) (after c w .rx) (after c w .tx) (view c w) n B
+step-counts c w n B S = stepped w S (seen c w (answer c w)) (core (after c w .state)) (after c w .rx) (after c w .tx) (view c w) n B
 
 -- one call, and then the rest
 small-wrapped : (n k : ℕ) → n ≡ wrapped k → n < 2 ^ 32
@@ -93,12 +93,12 @@ counts-go (c ∷ cs) w B k n S =
 
 -- ---- from a create or reset
 
-record Zero (h : Heart) : Type 0 where
+record Zero (h : Core) : Type 0 where
   stored : h .counts .stored ≡ 0
   lost : h .counts .lost ≡ 0
   sent : h .counts .sent ≡ 0
 
-begun-zero : (w : World) (x : Seen) (h : Heart) (rx tx : List ℕ) → Shape w x h rx tx → x .startsAnew ≡ true → Zero h
+begun-zero : (w : World) (x : Seen) (h : Core) (rx tx : List ℕ) → Shape w x h rx tx → x .startsAnew ≡ true → Zero h
 unfolding startState
 begun-zero w x h rx tx isStill n = absurd (false≢true n)
 begun-zero w x h rx tx (isBegun m) n = record { stored = refl; lost = refl; sent = refl }
@@ -113,7 +113,7 @@ begun-zero w x h rx tx (isHanded F e) n = absurd (false≢true n)
 
 pub counts-since : Obeys ours CountsSince
 counts-since c cs w B j q b n =
-    let z = begun-zero w (seen c w (answer c w)) (heart (after c w .state)) (after c w .rx) (after c w .tx) (view c w) b in
+    let z = begun-zero w (seen c w (answer c w)) (core (after c w .state)) (after c w .rx) (after c w .tx) (view c w) b in
     let r =
     counts-go cs (after c w) (keeps-bytes c w j B) q n
     (record { stored = omega (arith, z .stored); lost = omega (arith, z .lost); sent = omega (arith, z .sent) }) in

@@ -6,7 +6,7 @@ use mathlib.Core.List.{List}
 use mathlib.Core.Bool.{true, _&&_}
 use borrow.Author.Tests.{lt-ltb, ltb-false}
 use Rattle.answers.specs.Refusals.{firstRefusal}
-use Rattle.cases.proofs.Cases.{by-cond}
+use Rattle.branches.proofs.Branches.{by-cond}
 use Rattle.machine.specs.Machine.{Obeys}
 use Rattle.frame.specs.Frame.{controlOf, dataOf, made}
 use Rattle.frame.proofs.Laws.{service-small}
@@ -22,11 +22,11 @@ use Rattle.state.specs.declared.Out.the-variants as out
 use Rattle.answers.specs.declared.Answer.{Answer}
 use Rattle.answers.specs.declared.Answer.the-variants as answer
 use Rattle.answers.specs.Answers.{said}
-use Rattle.state.specs.Status.{shows, serviced, statusOf}
+use Rattle.state.specs.Conditions.{shows, serviced, statusOf}
 use Rattle.state.proofs.Fits.{rx-fits}
 use Rattle.line.specs.HoldingOff.{nextOut, outAnswer}
-use Rattle.loops.specs.Sending.{ruleOf, ended, removedState, sendState, sendFrom, sendStatus}
-use Rattle.loops.specs.Frames.{frameTaken}
+use Rattle.loopside.specs.Sends.{ruleOf, ended, removedState, sendState, sendFrom, sendStatus}
+use Rattle.loopside.specs.Frames.{frameTaken}
 use Rattle.bridge.specs.Calls.{reset, write, lineByte, lineBreak, key, nextLineByte, loopFrame, Call}
 use Rattle.bridge.specs.Calls.{create, show, on, World, Did, checks, outcome, notRefused}
 use Rattle.laws.specs.Demands.{isEleven, ElevenBits}

@@ -5,12 +5,12 @@ use mathlib.Core.Bool.{Bool, true, false, cond, _||_, not, false≢true}
 use mathlib.Core.Logic.{_⊎_, inl, inr, ⊎-elim}
 use mathlib.Core.List.{List, [], _∷_}
 use lib.Dec.{eqb}
-use Rattle.cases.proofs.Cases.{by-cond}
+use Rattle.branches.proofs.Branches.{by-cond}
 use Rattle.frame.specs.Frame.{stripped}
 use Rattle.store.specs.Ring.{full}
 use Rattle.state.specs.declared.State.{State}
 use Rattle.answers.specs.Answers.{Said, said, refused}
-use Rattle.state.specs.Status.{settled, breakState, keyState}
+use Rattle.state.specs.Conditions.{settled, breakState, keyState}
 use Rattle.line.specs.HoldingOff.{isGoOrStop, flowed, lostState, storedState, lineState}
 use Rattle.bridge.specs.Calls.{Call, on, create, reset, write, lineByte, lineBreak, key, nextLineByte}
 use Rattle.bridge.specs.Calls.{loopFrame, show, World, Did, outcome, settledBy, refusedOr, step}

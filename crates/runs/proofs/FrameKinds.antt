@@ -7,13 +7,13 @@ use mathlib.Core.List.{List, []}
 use lib.Dec.{eqb, ltb}
 use lib.ListN.{length}
 use borrow.Author.Tests.{eqb-true, eqb-false, eq-eqb, ne-eqb, leb-true, ltb-true, le-ltb}
-use Rattle.cases.proofs.Cases.{and-left, and-right, cond-false}
+use Rattle.branches.proofs.Branches.{and-left, and-right, cond-false}
 use Rattle.frame.specs.Frame.{controlOf, dataOf, made, isData, sameApart}
 use Rattle.role.specs.declared.Role.{Role}
-use Rattle.role.specs.Parts.{isActive}
+use Rattle.role.specs.Role.{isActive}
 use Rattle.role.specs.ReadyFrames.{givesAddress}
-use Rattle.role.specs.Fit as role-fit
-use Rattle.talker.specs.ReadyFrames.{assignedTalker, finishingTalker}
+use Rattle.role.specs.RoleFit as role-fit
+use Rattle.talker.specs.Readied.{assignedTalker, finishingTalker}
 use Rattle.talker.proofs.FitLaws as talker-laws
 use Rattle.reading.specs.Reading.{Sent, none, one}
 use Rattle.sending.specs.Sending.{givenOf, sendHeld}
@@ -22,18 +22,18 @@ use Rattle.state.specs.declared.Outcome.{Outcome}
 use Rattle.answers.specs.declared.Answer.the-variants.{Frame}
 use Rattle.state.specs.State.{withTalker}
 use Rattle.answers.specs.Answers.{said}
-use Rattle.state.specs.Status.{serviced, afterStatusBack}
+use Rattle.state.specs.Conditions.{serviced, afterStatusBack}
 use Rattle.state.proofs.Fits.{tests}
 use Rattle.line.specs.HoldingOff.{resumed}
-use Rattle.loops.specs.LoopToLine.{addedState}
-use Rattle.talker.specs.Sending.{talking}
-use Rattle.loops.specs.Sending.{ruleOf, removedState, sendState, sendFrom, sendStatus, ended}
-use Rattle.loops.specs.Frames.{passed, isClear, orderIn, obeyed, cleared, frameTaken, deviceClear}
+use Rattle.loopside.specs.LoopToLine.{addedState}
+use Rattle.talker.specs.UnderWay.{talking}
+use Rattle.loopside.specs.Sends.{ruleOf, removedState, sendState, sendFrom, sendStatus, ended}
+use Rattle.loopside.specs.Frames.{passed, isClear, orderIn, obeyed, cleared, frameTaken, deviceClear}
 use Rattle.bridge.specs.Calls.{World}
-use Rattle.loops.proofs.Clears.{clear-order}
+use Rattle.loopside.proofs.Clears.{clear-order}
 use Rattle.laws.specs.Observers.{dataFrame, equalReturn, isSend, asksStatus, passesOn}
 use Rattle.laws.proofs.Ways as ways
-use Rattle.runs.proofs.Shapes.{Fits, heart}
+use Rattle.runs.proofs.Shapes.{Fits, core}
 use Rattle.runs.proofs.Answered.{serviced-kind}
 
 -- what a frame is to us: a send, an asking for the status byte, one that passes, a device clear, one that a listener stores
@@ -47,7 +47,7 @@ pub record Marks (s : State) (f : ℕ) (x y p c l : Bool) : Type 0 where
 -- the state t, where x is answered: the stores, the line and the notes stay; x is a data frame only where one passes, p; what is under way
 -- stays but at a data frame or command
 pub record Other (s : State) (f : ℕ) (p : Bool) (t : State) (x : ℕ) : Type 0 where
-  pub heart : heart t ≡ heart s
+  pub core : core t ≡ core s
   pub line : t .line ≡ s .line
   pub notes : t .notes ≡ s .notes
   pub answer : p ≡ false → isData x ≡ false
@@ -119,14 +119,14 @@ module _ (s : State) (f : ℕ) where
   not-asked n h = λ i. ne-eqb (dataOf f) n h i && eqb (s .talker .role .phase) 1
 
   kept : (p : Bool) (x : ℕ) → (p ≡ false → isData x ≡ false) → Other s f p s x
-  kept p x e = record { heart = refl; line = refl; notes = refl; answer = e; way = λ _. (refl, refl) }
+  kept p x e = record { core = refl; line = refl; notes = refl; answer = e; way = λ _. (refl, refl) }
 
   ended-other : ways.Returning s f → (d : ℕ) → d < 256 → Other s f false (ended s d .state) (made 5 d)
   unfolding ended talking
   ended-other r d h =
       let on : (isData f || eqb (controlOf f) 4) ≡ true = λ i. r .isdata i || eqb (controlOf f) 4 in
       record {
-        heart = refl;
+        core = refl;
         line = refl;
         notes = refl;
         answer = λ _. le-ltb (controlOf (made 5 d)) 4 (omega arith);
@@ -162,17 +162,17 @@ module _ (s : State) (f : ℕ) where
     frame-kind rx o (ways.isCleared r c) = isCleared (order-marks r true c) (r .four)
     frame-kind rx o (ways.isObeyed r c) =
         isOther (obeyed s (orderIn s f)) f false (order-marks r false c)
-        (record { heart = refl; line = refl; notes = refl; answer = λ _. r .isdata; way = λ n. absurd (false≢true (sym n ∙ (λ i. r .isdata i || r .four i))) })
+        (record { core = refl; line = refl; notes = refl; answer = λ _. r .isdata; way = λ n. absurd (false≢true (sym n ∙ (λ i. r .isdata i || r .four i))) })
     frame-kind rx o (ways.isAssigned r a) =
         isOther (withTalker s (assignedTalker (s .talker) (dataOf f))) (made 5 (dataOf f + 1)) false
         (ready-marks r false false (not-asked 96 (address-high (s .talker .role) (dataOf f) 96 (omega arith) a))
         (not-asked 97 (address-high (s .talker .role) (dataOf f) 97 (omega arith) a)))
-        (record { heart = refl; line = refl; notes = refl; answer = λ _. le-ltb (controlOf (made 5 (dataOf f + 1))) 4 (omega arith); way = λ _. (refl, refl) })
+        (record { core = refl; line = refl; notes = refl; answer = λ _. le-ltb (controlOf (made 5 (dataOf f + 1))) 4 (omega arith); way = λ _. (refl, refl) })
     frame-kind rx o (ways.isSendAsked r a x) = isSent (ready-marks r true false x (not-asked 97 (λ h. omega (arith, eqb-true (dataOf f) 96 (and-left _ _ x)))))
     frame-kind rx o (ways.isTold r a x y) = isStatus (ready-marks r false true x y)
     frame-kind rx o (ways.isFinishing r a x y z) =
         isOther (withTalker s (finishingTalker (s .talker))) f false (ready-marks r false false x y)
-        (record { heart = refl; line = refl; notes = refl; answer = λ _. r .isdata; way = λ _. (refl, refl) })
+        (record { core = refl; line = refl; notes = refl; answer = λ _. r .isdata; way = λ _. (refl, refl) })
     frame-kind rx o (ways.isReady r a x y z) = isOther s f false (ready-marks r false false x y) (kept false f (λ _. r .isdata))
     frame-kind rx o (ways.isIdentified r) =
         isOther s (serviced s f) (ltb 5 (controlOf f))

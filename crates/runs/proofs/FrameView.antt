@@ -9,45 +9,45 @@ use lib.ListN.{length}
 use borrow.Author.Tests.{eqb-true, ltb-false, le-ltb, lt-leb}
 use Rattle.frame.specs.Frame.{controlOf, made, isData}
 use Rattle.registers.specs.Meanings.{go}
-use Rattle.role.specs.Parts.{isActive}
+use Rattle.role.specs.Role.{isActive}
 use Rattle.reading.specs.Reading.{Sent, none, one}
 use Rattle.sending.specs.Sending.{givenOf, sendHeld}
 use Rattle.state.specs.declared.State.{State}
 use Rattle.state.specs.declared.Outcome.{Outcome}
 use Rattle.answers.specs.declared.Answer.the-variants.{Frame}
 use Rattle.answers.specs.Answers.{said}
-use Rattle.state.specs.Status.{settled}
-use Rattle.state.specs.Status as status
+use Rattle.state.specs.Conditions.{settled}
+use Rattle.state.specs.Conditions as status
 use Rattle.store.specs.Ring as store-ring
 use Rattle.state.proofs.Fits.{tx-fits}
 use Rattle.line.specs.HoldingOff.{resumed}
-use Rattle.loops.specs.LoopToLine.{adds, busy, addedState, addedBytes}
-use Rattle.talker.specs.Sending.{talking}
-use Rattle.loops.specs.Sending.{ruleOf, removedState, sendState, sendFrom, sendStatus, ended}
-use Rattle.loops.specs.Frames.{obeyed, cleared, frameTaken, deviceClear, addsBytes, frameBytes}
+use Rattle.loopside.specs.LoopToLine.{adds, busy, addedState, addedBytes}
+use Rattle.talker.specs.UnderWay.{talking}
+use Rattle.loopside.specs.Sends.{ruleOf, removedState, sendState, sendFrom, sendStatus, ended}
+use Rattle.loopside.specs.Frames.{obeyed, cleared, frameTaken, deviceClear, addsBytes, frameBytes}
 use Rattle.bridge.specs.Calls.{on, loopFrame, World, outcome, settledBy, rxAfter, txAfter}
 use Rattle.bridge.specs.Calls as calls
 use Rattle.laws.specs.Observers.{dataFrame, arrived, sent, added, handedOut, restarts, writes, clears}
-use Rattle.runs.proofs.Shapes.{seen, Heart, heart, frames, Fits, Shape, isStill, isCleared, isSent, isNone, isLeft}
-use Rattle.runs.proofs.Quiet.{Shaped, quietly}
+use Rattle.runs.proofs.Shapes.{seen, Core, core, frames, Fits, Shape, isStill, isCleared, isSent, isNone, isLeft}
+use Rattle.runs.proofs.Quiet.{Shaped, none-arrives}
 use Rattle.runs.proofs.FrameKinds.{Marks, Kind, no-data, role-fits, kind-of}
 use Rattle.runs.proofs.FrameKinds as kinds
 
 -- an outcome of a frame has a shape, with these bytes of the transmit store
 abbrev FrameShaped : (w : World) → ℕ → List ℕ → Outcome → Type 0
-FrameShaped w f tx o = Shape w (seen (on (loopFrame f)) w (said (o .answer))) (heart (o .state)) (w .rx) tx
+FrameShaped w f tx o = Shape w (seen (on (loopFrame f)) w (said (o .answer))) (core (o .state)) (w .rx) tx
 
 module _ (w : World) (f : ℕ) where
   -- what is seen to be sent, by the marks
   abbrev SentSo : ℕ → Bool → Bool → Bool → Type 0
   SentSo n x y p = cond (p || y) [] (dataFrame (said (Frame n))) ≡ cond x (dataFrame (said (Frame n))) []
 
-  marked : (n : ℕ) (x y p c l : Bool) (h : Heart) (tx : List ℕ) → Marks (w .state) f x y p c l → SentSo n x y p →
+  marked : (n : ℕ) (x y p c l : Bool) (h : Core) (tx : List ℕ) → Marks (w .state) f x y p c l → SentSo n x y p →
       Shape w (frames (cond x (dataFrame (said (Frame n))) []) (cond l (adds (w .state .regs) f) []) c) h (w .rx) tx →
       Shape w (seen (on (loopFrame f)) w (said (Frame n))) h (w .rx) tx
   unfolding arrived sent added adds handedOut restarts writes clears said
   marked n x y p c l h tx m q sh =
-      quietly (on (loopFrame f)) w (said (Frame n)) h (w .rx) tx refl
+      none-arrives (on (loopFrame f)) w (said (Frame n)) h (w .rx) tx refl
       (subst (λ z. Shape w z h (w .rx) tx)
       (λ i. frames ((sym q ∙ (λ j. cond (sym (m .passes) j || sym (m .status) j) [] (dataFrame (said (Frame n))))) i)
       (cond (sym (m .adds) i) (adds (w .state .regs) f) []) (sym (m .clear) i))
@@ -101,7 +101,7 @@ module _ (w : World) (F : Fits w) (f : ℕ) (B : busy (w .state) f ≡ false) wh
       rw (m .adds) (marked w f _ _ _ _ _ _ _ _ m (no-data f (le-ltb (controlOf f) 4 (omega (arith, eqb-true (controlOf f) 4 c)))) isCleared)
   by-kind o (kinds.isKept m d l) = rw (m .adds) (marked w f _ _ _ _ _ _ _ _ m refl (isLeft (adds (w .state .regs) f) F (room d l)))
   by-kind o (kinds.isOther t n p m x) =
-      rw (m .adds) (subst (λ z. Shape w (seen (on (loopFrame f)) w (said (Frame n))) z (w .rx) (w .tx)) (sym (x .heart))
+      rw (m .adds) (subst (λ z. Shape w (seen (on (loopFrame f)) w (said (Frame n))) z (w .rx) (w .tx)) (sym (x .core))
       (marked w f n _ _ p _ _ _ _ m (other-sent t n p x) isStill))
 
   frame-taken : FrameShaped w f (frameBytes (w .state) (w .tx) f) (frameTaken (w .state) (w .rx) f)
@@ -118,7 +118,7 @@ module _ (w : World) (F : Fits w) (f : ℕ) (B : busy (w .state) f ≡ false) wh
       o = frameTaken (w .state) (w .rx) f
 
       by-clear : (t : Bool) → FrameShaped w f (frameBytes (w .state) (w .tx) f) o →
-          Shape w (seen (on (loopFrame f)) w (said (o .answer))) (heart (cond t (o .state) (settled (w .state) (o .state)))) (w .rx)
+          Shape w (seen (on (loopFrame f)) w (said (o .answer))) (core (cond t (o .state) (settled (w .state) (o .state)))) (w .rx)
           (frameBytes (w .state) (w .tx) f)
       by-clear true x = x
       by-clear false x = x

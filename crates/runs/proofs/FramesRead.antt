@@ -12,14 +12,14 @@ use Rattle.reading.proofs.Lawful.{lawful}
 use Rattle.sending.specs.Sending.{sendHeld, sentRing}
 use Rattle.state.proofs.Fits.{rx-fits}
 use Rattle.line.specs.HoldingOff.{storedWith}
-use Rattle.loops.specs.Sending.{ruleOf}
+use Rattle.loopside.specs.Sends.{ruleOf}
 use Rattle.bridge.specs.Calls.{Call, World}
 use Rattle.store.specs.Bytes.{Bytes}
 use Rattle.laws.proofs.Fitting.{keeps-bytes}
 use Rattle.laws.specs.Observers.{changes}
 use Rattle.laws.specs.Worlds.{heldToSend, reading}
 use Rattle.laws.specs.Demands.{lineToLoop, FramesRead}
-use Rattle.runs.proofs.Shapes.{Seen, seen, Heart, heart, Fits, Shape, isStill, isBegun}
+use Rattle.runs.proofs.Shapes.{Seen, seen, Core, core, Fits, Shape, isStill, isBegun}
 use Rattle.runs.proofs.Shapes.{isWritten, isCleared, isStored, isLost, isSent, isNone, isLeft, isHanded}
 use Rattle.runs.proofs.View.{view}
 use Rattle.runs.proofs.Bytes.{held-all, sent-plain}
@@ -55,7 +55,7 @@ module _ (w : World) where
       ∙ (λ i. sentFrames (e i) ++ reading w (sentRest (e i) ++ ys))
       ∙ ap (λ l. sentFrames x ++ reading w (l ++ ys)) (sym (held-after x F e))
 
-  keeps : (x : Seen) (h : Heart) (rx tx : List ℕ) → Shape w x h rx tx → x .changes ≡ false → Bytes (heldToSend w) → (ys : List ℕ) →
+  keeps : (x : Seen) (h : Core) (rx tx : List ℕ) → Shape w x h rx tx → x .changes ≡ false → Bytes (heldToSend w) → (ys : List ℕ) →
       reading w (heldToSend w ++ (x .accepted ++ ys)) ≡ x .sent ++ frames (cut (ruleOf (h .regs))) (held rx (h .rx) ++ ys)
   unfolding storedWith sendHeld ruleOf
   keeps x h rx tx isStill n B ys = refl
@@ -78,7 +78,7 @@ unfolding course ruleOf
 turns [] w B k n = tt
 turns (c ∷ cs) w B k n =
     let m = first-not changes c cs w n in (
-      keeps w (seen c w (answer c w)) (heart (after c w .state)) (after c w .rx) (after c w .tx) (view c w) (m .0) (held-all w B),
+      keeps w (seen c w (answer c w)) (core (after c w .state)) (after c w .rx) (after c w .tx) (view c w) (m .0) (held-all w B),
       turns cs (after c w) (keeps-bytes c w (k .0) B) (k .1) (m .1),
     )
 

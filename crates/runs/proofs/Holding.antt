@@ -18,14 +18,14 @@ use Rattle.state.specs.declared.Out.the-variants as out
 use Rattle.state.specs.State.{withRegisters}
 use Rattle.answers.specs.Answers.{Said, said, done, refused}
 use Rattle.state.specs.Sizes.{startState}
-use Rattle.state.specs.Status.{settled, breakState, keyState}
-use Rattle.state.specs.Status as state-status
+use Rattle.state.specs.Conditions.{settled, breakState, keyState}
+use Rattle.state.specs.Conditions as state-status
 use Rattle.line.specs.HoldingOff.{isGoOrStop, flowed, lostState, storedWith, storedState, lineState}
-use Rattle.line.specs.HoldingOff.{lineBytes, resumed, setAfresh, afterWrite, nextOut, goneState, outAnswer}
-use Rattle.loops.specs.LoopToLine.{addedState}
-use Rattle.talker.specs.Sending.{talking}
-use Rattle.loops.specs.Sending.{ruleOf, removedState, sendState, sendFrom, sendStatus, ended}
-use Rattle.loops.specs.Frames.{cleared, frameTaken, deviceClear}
+use Rattle.line.specs.HoldingOff.{lineBytes, resumed, setAfresh, afterWrite, nextOut, afterGiving, outAnswer}
+use Rattle.loopside.specs.LoopToLine.{addedState}
+use Rattle.talker.specs.UnderWay.{talking}
+use Rattle.loopside.specs.Sends.{ruleOf, removedState, sendState, sendFrom, sendStatus, ended}
+use Rattle.loopside.specs.Frames.{cleared, frameTaken, deviceClear}
 use Rattle.bridge.specs.Calls.{Call, on, create, reset, write, lineByte, lineBreak, key, nextLineByte, loopFrame}
 use Rattle.bridge.specs.Calls.{show, World, Did, outcome, settledBy, rxAfter, txAfter, refusedOr, step}
 use Rattle.bridge.specs.Calls as calls
@@ -82,8 +82,8 @@ goes-or c w n d = or-refused (Goes c w) n d w (same c w (record { said = refused
 -- a byte to the line
 gone-goes : (w : World) (o : Out) →
     Goes (on nextLineByte) w
-    (record { said = said (outAnswer o); world = record { state = settled (w .state) (goneState (w .state) o); rx = w .rx; tx = w .tx } })
-unfolding goneState outAnswer said settled arrived restarts clears sends afterByte
+    (record { said = said (outAnswer o); world = record { state = settled (w .state) (afterGiving (w .state) o); rx = w .rx; tx = w .tx } })
+unfolding afterGiving outAnswer said settled arrived restarts clears sends afterByte
 gone-goes w (out.Own b) = same (on nextLineByte) w _ (record { empties = refl; arrived = refl; sends = refl; writes = refl; byte = refl }) refl refl
 gone-goes w (out.Held b) = same (on nextLineByte) w _ (record { empties = refl; arrived = refl; sends = refl; writes = refl; byte = refl }) refl refl
 gone-goes w out.Nothing = same (on nextLineByte) w _ (record { empties = refl; arrived = refl; sends = refl; writes = refl; byte = refl }) refl refl

@@ -6,7 +6,7 @@ use mathlib.Core.List.{List, [], _∷_}
 use lib.Dec.{eqb}
 use lib.ListN.{getD, length}
 use borrow.Author.Tests.{eq-eqb, ne-eqb}
-use Rattle.cases.proofs.Cases.{by-cond}
+use Rattle.branches.proofs.Branches.{by-cond}
 use Rattle.registers.specs.declared.Registers.{Registers}
 use Rattle.registers.specs.Meanings.{go, stop}
 use Rattle.registers.specs.Writing.{written}
@@ -22,14 +22,14 @@ use Rattle.state.specs.declared.Out.{Out}
 use Rattle.state.specs.declared.Out.the-variants.{Own, Held, Nothing}
 use Rattle.answers.specs.Answers.{said, refused}
 use Rattle.state.specs.Sizes.{startState}
-use Rattle.state.specs.Status.{settled, breakState, keyState}
-use Rattle.state.specs.Status as status
+use Rattle.state.specs.Conditions.{settled, breakState, keyState}
+use Rattle.state.specs.Conditions as status
 use Rattle.state.proofs.Fits.{tests}
-use Rattle.line.specs.HoldingOff.{isGoOrStop, flowed, lostState, storedWith, lineState, resumed, setAfresh, afterWrite, owed, nextOut, goneState, outAnswer}
-use Rattle.loops.specs.LoopToLine.{addedState}
-use Rattle.talker.specs.Sending.{talking}
-use Rattle.loops.specs.Sending.{ruleOf, removedState, sendState, sendFrom, sendStatus, ended}
-use Rattle.loops.specs.Frames.{obeyed, cleared, deviceClear}
+use Rattle.line.specs.HoldingOff.{isGoOrStop, flowed, lostState, storedWith, lineState, resumed, setAfresh, afterWrite, owed, nextOut, afterGiving, outAnswer}
+use Rattle.loopside.specs.LoopToLine.{addedState}
+use Rattle.talker.specs.UnderWay.{talking}
+use Rattle.loopside.specs.Sends.{ruleOf, removedState, sendState, sendFrom, sendStatus, ended}
+use Rattle.loopside.specs.Frames.{obeyed, cleared, deviceClear}
 use Rattle.bridge.specs.Calls.{Call, on, create, reset, write, lineByte, lineBreak, key, nextLineByte}
 use Rattle.bridge.specs.Calls.{loopFrame, show, World, Did, outcome, settledBy, refusedOr, step}
 use Rattle.bridge.specs.Calls as calls
@@ -93,10 +93,10 @@ own-character false x y d = sym (ne-eqb x y d)
 
 module _ (w : World) where
   abbrev NextKept : Out → Type 0
-  NextKept o = goneState (w .state) o .line .stopped ≡ lastOf (recorded w) (on nextLineByte) w (said (outAnswer o))
+  NextKept o = afterGiving (w .state) o .line .stopped ≡ lastOf (recorded w) (on nextLineByte) w (said (outAnswer o))
 
   next-same : Fits w → NextKept (nextOut (w .state) (w .tx))
-  unfolding nextOut goneState outAnswer said lastOf
+  unfolding nextOut afterGiving outAnswer said lastOf
   next-same F =
       by-tests (owed (w .state .line)) (w .state .line .forbidden || eqb (w .state .tx .len) 0) refl
     where

@@ -15,7 +15,7 @@ use Rattle.bridge.specs.Calls.{Call, World}
 use Rattle.laws.specs.Observers.{added, empties}
 use Rattle.laws.specs.Worlds.{heldForLine}
 use Rattle.laws.specs.LineBytes.{loopToLine, LineKept, LineSince}
-use Rattle.runs.proofs.Shapes.{Seen, seen, Heart, heart, Fits, Shape, isStill, isBegun}
+use Rattle.runs.proofs.Shapes.{Seen, seen, Core, core, Fits, Shape, isStill, isBegun}
 use Rattle.runs.proofs.Shapes.{isWritten, isCleared, isStored, isLost, isSent, isNone, isLeft, isHanded}
 use Rattle.runs.proofs.View.{view}
 use Rattle.runs.proofs.Runs.{first-not}
@@ -42,7 +42,7 @@ module _ (w : World) (F : Fits w) where
       ∙ ap (λ l. getD (heldForLine w) 0 0 ∷ l)
       (sym (held-drop (w .tx) (w .state .tx) 1 (f .ring) (omega arith)))
 
-keeps : (w : World) (x : Seen) (h : Heart) (rx tx : List ℕ) → Shape w x h rx tx → x .empties ≡ false → (ys : List ℕ) →
+keeps : (w : World) (x : Seen) (h : Core) (rx tx : List ℕ) → Shape w x h rx tx → x .empties ≡ false → (ys : List ℕ) →
     heldForLine w ++ (x .left ++ ys) ≡ x .handed ++ (held tx (h .tx) ++ ys)
 unfolding storedWith
 keeps w x h rx tx isStill n ys = refl
@@ -62,13 +62,13 @@ unfolding course
 turns [] w n = tt
 turns (c ∷ cs) w n =
     let m = first-not empties c cs w n in
-    (keeps w (seen c w (answer c w)) (heart (after c w .state)) (after c w .rx) (after c w .tx) (view c w) (m .0), turns cs (after c w) (m .1))
+    (keeps w (seen c w (answer c w)) (core (after c w .state)) (after c w .rx) (after c w .tx) (view c w) (m .0), turns cs (after c w) (m .1))
 
 pub line-kept : Obeys ours LineKept
 line-kept cs w B k n = from-turns loopToLine ours cs w (turns cs w n)
 
 -- nothing is held after a create, a reset or a device clear
-emptied : (w : World) (x : Seen) (h : Heart) (rx tx : List ℕ) → Shape w x h rx tx → x .empties ≡ true → held tx (h .tx) ≡ []
+emptied : (w : World) (x : Seen) (h : Core) (rx tx : List ℕ) → Shape w x h rx tx → x .empties ≡ true → held tx (h .tx) ≡ []
 unfolding startState
 emptied w x h rx tx isStill n = absurd (false≢true n)
 emptied w x h rx tx (isBegun m) n = held-empty (w .tx) _
@@ -84,4 +84,4 @@ emptied w x h rx tx (isHanded F e) n = absurd (false≢true n)
 pub line-since : Obeys ours LineSince
 line-since c cs w B j k e n =
     from-turns loopToLine ours cs (after c w) (turns cs (after c w) n)
-    ∙ ap (λ l. l ++ all added cs (after c w)) (emptied w (seen c w (answer c w)) (heart (after c w .state)) (after c w .rx) (after c w .tx) (view c w) e)
+    ∙ ap (λ l. l ++ all added cs (after c w)) (emptied w (seen c w (answer c w)) (core (after c w .state)) (after c w .rx) (after c w .tx) (view c w) e)

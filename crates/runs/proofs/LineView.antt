@@ -14,22 +14,22 @@ use Rattle.state.specs.declared.Out.{Out}
 use Rattle.state.specs.declared.Out.the-variants.{Own, Held, Nothing}
 use Rattle.state.specs.State.{withRegisters}
 use Rattle.answers.specs.Answers.{said, done}
-use Rattle.line.specs.HoldingOff.{isGoOrStop, flowed, lostState, storedState, lineState, lineBytes, setAfresh, afterWrite, owed, nextOut, goneState, outAnswer}
+use Rattle.line.specs.HoldingOff.{isGoOrStop, flowed, lostState, storedState, lineState, lineBytes, setAfresh, afterWrite, owed, nextOut, afterGiving, outAnswer}
 use Rattle.line.proofs.Parts.{some-held}
 use Rattle.bridge.specs.Calls.{on, write, lineByte, nextLineByte, World}
 use Rattle.laws.specs.Observers.{isFlow, arrived, accepted, lost, sent, added, handedOut, restarts, writes, clears}
-use Rattle.runs.proofs.Shapes.{seen, heart, Fits, Shape, isStill, isWritten, isStored, isLost, isHanded}
-use Rattle.runs.proofs.Quiet.{quiet, quietly}
+use Rattle.runs.proofs.Shapes.{seen, core, Fits, Shape, isStill, isWritten, isStored, isLost, isHanded}
+use Rattle.runs.proofs.Quiet.{quiet, none-arrives}
 
 -- ---- line bytes in
 
 module _ (w : World) (F : Fits w) (b : ℕ) where
-  pub line-shape : Shape w (seen (on (lineByte b)) w done) (heart (lineState (w .state) b)) (lineBytes (w .state) (w .rx) b) (w .tx)
+  pub line-shape : Shape w (seen (on (lineByte b)) w done) (core (lineState (w .state) b)) (lineBytes (w .state) (w .rx) b) (w .tx)
   unfolding arrived accepted lost sent added isFlow isGoOrStop handedOut restarts writes clears lineState lineBytes flowed lostState
   line-shape = by-tests (isGoOrStop (w .state .regs) b) (full (w .state .rx)) refl refl
     where
       by-tests : (t u : Bool) → isGoOrStop (w .state .regs) b ≡ t → full (w .state .rx) ≡ u →
-          Shape w (seen (on (lineByte b)) w done) (heart (cond t (flowed (w .state) b) (cond u (lostState (w .state)) (storedState (w .state)))))
+          Shape w (seen (on (lineByte b)) w done) (core (cond t (flowed (w .state) b) (cond u (lostState (w .state)) (storedState (w .state)))))
           (cond t (w .rx) (putBytes (w .rx) (w .state .rx) b)) (w .tx)
       by-tests true true f e = simp (f, e) isStill
       by-tests true false f e = simp (f, e) isStill
@@ -42,10 +42,10 @@ module _ (w : World) (F : Fits w) (b : ℕ) where
 
 module _ (w : World) (F : Fits w) where
   pub next-shape : Shape w (seen (on nextLineByte) w (said (outAnswer (nextOut (w .state) (w .tx)))))
-      (heart (goneState (w .state) (nextOut (w .state) (w .tx)))) (w .rx) (w .tx)
-  unfolding arrived sent added handedOut restarts writes clears nextOut goneState outAnswer said
+      (core (afterGiving (w .state) (nextOut (w .state) (w .tx)))) (w .rx) (w .tx)
+  unfolding arrived sent added handedOut restarts writes clears nextOut afterGiving outAnswer said
   next-shape =
-      quietly (on nextLineByte) w _ _ _ _ refl (by-tests (owed (w .state .line)) (w .state .line .forbidden || eqb (w .state .tx .len) 0) refl refl)
+      none-arrives (on nextLineByte) w _ _ _ _ refl (by-tests (owed (w .state .line)) (w .state .line .forbidden || eqb (w .state .tx .len) 0) refl refl)
     where
       own : ℕ
       own = cond (w .state .line .holding) (stop (w .state .regs)) (go (w .state .regs))
@@ -55,7 +55,7 @@ module _ (w : World) (F : Fits w) where
           (cond u Nothing (Held (getD (held (w .tx) (w .state .tx)) 0 0)))
 
       by-tests : (t u : Bool) → owed (w .state .line) ≡ t → (w .state .line .forbidden || eqb (w .state .tx .len) 0) ≡ u →
-          Shape w (quiet (on nextLineByte) w (said (outAnswer (out t u)))) (heart (goneState (w .state) (out t u))) (w .rx) (w .tx)
+          Shape w (quiet (on nextLineByte) w (said (outAnswer (out t u)))) (core (afterGiving (w .state) (out t u))) (w .rx) (w .tx)
       by-tests true u o e = simp (o, eq-eqb own own refl) isStill
       by-tests false true o e = simp o isStill
       by-tests false false o e = simp o (isHanded F (some-held (w .state) (w .tx) e))
@@ -63,14 +63,14 @@ module _ (w : World) (F : Fits w) where
 -- ---- register writes
 
 pub write-shape : (w : World) (n v : ℕ) →
-    Shape w (seen (on (write n v)) w done) (heart (afterWrite (w .state) n (written (w .state .regs) n v))) (w .rx) (w .tx)
+    Shape w (seen (on (write n v)) w done) (core (afterWrite (w .state) n (written (w .state .regs) n v))) (w .rx) (w .tx)
 unfolding arrived sent added handedOut restarts writes clears afterWrite setAfresh
-write-shape w n v = quietly (on (write n v)) w done _ _ _ refl (by-test (eqb n 11))
+write-shape w n v = none-arrives (on (write n v)) w done _ _ _ refl (by-test (eqb n 11))
   where
     g : Registers
     g = written (w .state .regs) n v
 
     by-test : (t : Bool) →
-        Shape w (quiet (on (write n v)) w done) (heart (cond t (setAfresh (withRegisters (w .state) g)) (withRegisters (w .state) g))) (w .rx) (w .tx)
+        Shape w (quiet (on (write n v)) w done) (core (cond t (setAfresh (withRegisters (w .state) g)) (withRegisters (w .state) g))) (w .rx) (w .tx)
     by-test true = isWritten g _
     by-test false = isWritten g _

@@ -13,13 +13,13 @@ use Rattle.store.specs.Ring as store-ring
 use Rattle.sending.specs.Sending.{sentRing}
 use Rattle.state.proofs.Fits.{sizes-hold, tests, rx-fits}
 use Rattle.line.specs.HoldingOff.{storedWith, resumed}
-use Rattle.loops.specs.Sending.{ruleOf, removedState}
+use Rattle.loopside.specs.Sends.{ruleOf, removedState}
 use Rattle.bridge.specs.Calls.{Call, World}
 use Rattle.laws.specs.Observers.{arrived, lost, changes}
 use Rattle.laws.specs.Worlds.{holdsOff}
 use Rattle.laws.specs.Spells.{AtMost}
 use Rattle.laws.specs.Demands.{NoneLost}
-use Rattle.runs.proofs.Shapes.{Seen, seen, Heart, heart, Fits, Shape, isStill, isBegun}
+use Rattle.runs.proofs.Shapes.{Seen, seen, Core, core, Fits, Shape, isStill, isBegun}
 use Rattle.runs.proofs.Shapes.{isWritten, isCleared, isStored, isLost, isSent, isNone, isLeft, isHanded}
 use Rattle.runs.proofs.View.{view}
 use Rattle.runs.proofs.Sends.{sent-less, sent-cap}
@@ -46,7 +46,7 @@ Within true m k = k ≤ m
 Within false m k = Unit {0}
 
 -- the protocol is on, and there is room
-record Calm (m k : ℕ) (h : Heart) : Type 0 where
+record Calm (m k : ℕ) (h : Core) : Type 0 where
   on : protocolOn (h .regs) ≡ true
   margin : h .margin ≡ m
   room : Room (h .holding) m k (store-ring.room (h .rx))
@@ -82,7 +82,7 @@ some-margin : (w : World) → Fits w → 1 ≤ w .state .margin
 some-margin w F = sizes-hold (w .state .margin) (length (w .rx)) (length (w .tx)) (tests (w .state) (length (w .rx)) (length (w .tx)) F .sizes) .some
 
 -- what a send leaves free
-sent-room : (w : World) (m k : ℕ) → Fits w → Calm m k (heart (w .state)) →
+sent-room : (w : World) (m k : ℕ) → Fits w → Calm m k (core (w .state)) →
     Room (removedState (w .state) (w .rx) .line .holding) m (count (holdsOff w) k 0)
     (store-ring.room (sentRing (ruleOf (w .state .regs)) (w .rx) (w .state .rx)))
 unfolding removedState resumed
@@ -94,7 +94,7 @@ sent-room w m k F c =
     send-room (holdsOff w) m (w .state .margin) k (store-ring.room (w .state .rx)) (store-ring.room r) (omega (arith, some-margin w F, c .margin))
     (c .margin) (omega arith) (c .room)
 
-calm : (w : World) (x : Seen) (h : Heart) (rx tx : List ℕ) → Shape w x h rx tx → x .changes ≡ false → (m k : ℕ) → Calm m k (heart (w .state)) →
+calm : (w : World) (x : Seen) (h : Core) (rx tx : List ℕ) → Shape w x h rx tx → x .changes ≡ false → (m k : ℕ) → Calm m k (core (w .state)) →
     Within (holdsOff w) m (k + length (x .arrived)) → (x .lost ≡ []) × Calm m (count (holdsOff w) k (length (x .arrived))) h
 unfolding storedWith
 calm w x h rx tx isStill n m k c i = (refl, record { on = c .on; margin = c .margin; room = still-room (holdsOff w) m k (store-ring.room (w .state .rx)) (c .room) })
@@ -161,13 +161,13 @@ module _ (m k : ℕ) (c : Call) (cs : List Call) (w : World) where
   later true true e a = a
   later true false e a = no-spell m (k + more c w) cs (after c w) e (a .1)
 
-none-lost-from : (cs : List Call) (w : World) (m k : ℕ) → Without changes cs w → Calm m k (heart (w .state)) → AtMost m (spells k cs w) → all lost cs w ≡ []
+none-lost-from : (cs : List Call) (w : World) (m k : ℕ) → Without changes cs w → Calm m k (core (w .state)) → AtMost m (spells k cs w) → all lost cs w ≡ []
 unfolding course.all run.spells machine.course
 none-lost-from [] w m k n c a = refl
 none-lost-from (c ∷ cs) w m k n q a =
     let p = first-not changes c cs w n in
     let r =
-    calm w (seen c w (answer c w)) (heart (after c w .state)) (after c w .rx) (after c w .tx) (view c w) (p .0) m k q
+    calm w (seen c w (answer c w)) (core (after c w .state)) (after c w .rx) (after c w .tx) (view c w) (p .0) m k q
     (within m k c cs w (holdsOff w) (holdsOff (after c w)) refl a) in
     both (r .0) (none-lost-from cs (after c w) m (count (holdsOff w) k (more c w)) (p .1) (r .1) (later m k c cs w (holdsOff w) (holdsOff (after c w)) refl a))
   where

@@ -7,7 +7,7 @@ use mathlib.Core.List.{List, [], _∷_}
 use lib.Dec.{eqb}
 use lib.ListN.{length, getD}
 use borrow.Author.Tests.{ne-eqb}
-use Rattle.cases.proofs.Cases.{cond-true}
+use Rattle.branches.proofs.Branches.{cond-true}
 use Rattle.answers.specs.Refusals.{firstRefusal}
 use Rattle.registers.specs.Meanings.{go, stop}
 use Rattle.store.specs.Ring.{held}

@@ -6,7 +6,7 @@ use mathlib.Core.Bool.{Bool, true, false, cond, _&&_, _||_, not, and-false, fals
 use mathlib.Core.Logic.{_⊎_, inl, inr, ⊎-elim}
 use lib.Dec.{eqb, leb, ltb}
 use borrow.Author.Tests.{eqb-true, eqb-false, eq-eqb, ne-eqb, leb-true, le-leb, lt-leb, ltb-true, lt-ltb}
-use Rattle.cases.proofs.Cases.{by-cond, and-left, and-right, split}
+use Rattle.branches.proofs.Branches.{by-cond, and-left, and-right, split}
 use Rattle.role.specs.declared.Role.{Role}
 use Rattle.role.specs.declared.remote.Remote.{Remote}
 use Rattle.role.specs.declared.Order.{Order}

@@ -5,19 +5,19 @@ use mathlib.Core.Path.{_≡_, refl, sym, _∙_}
 use mathlib.Core.Bool.{true, false, _&&_, _||_, not, or-true, true≢false, false≢true}
 use lib.Dec.{eqb, leb, ltb}
 use borrow.Author.Tests.{eqb-true, eq-eqb, leb-true, le-leb, ltb-true, lt-ltb, le-ltb}
-use Rattle.cases.proofs.Cases.{and-left, and-right, same-test}
+use Rattle.branches.proofs.Branches.{and-left, and-right, same-test}
 use Rattle.answers.specs.Refusals.{firstRefusal}
 use Rattle.machine.specs.Machine.{Obeys, seen}
 use Rattle.frame.specs.Frame.{controlOf, dataOf, made}
 use Rattle.role.specs.declared.Role.{Role}
-use Rattle.role.specs.Parts.{isActive}
+use Rattle.role.specs.Role.{isActive}
 use Rattle.role.specs.ReadyFrames.{givesAddress}
 use Rattle.state.specs.declared.Outcome.{Outcome}
 use Rattle.answers.specs.Answers.{Said, said, frame}
-use Rattle.state.specs.Status.{serviced}
-use Rattle.state.specs.Status as state-status
+use Rattle.state.specs.Conditions.{serviced}
+use Rattle.state.specs.Conditions as state-status
 use Rattle.bridge.specs.Calls.{loopFrame, on, World, Did, checks, outcome, notRefused, step}
-use Rattle.loops.specs.Frames.{frameTaken}
+use Rattle.loopside.specs.Frames.{frameTaken}
 use Rattle.laws.specs.Observers.{taken, passesOn, isAsked}
 use Rattle.laws.specs.Roles.{assigns}
 use Rattle.laws.specs.Passing.{asFrame, PassedOn, FramesPass}

@@ -7,11 +7,11 @@ use Rattle.answers.specs.Answers.{Said}
 use Rattle.bridge.specs.Calls.{Call, World, Did}
 use Rattle.laws.specs.Observers.{arrived, accepted, lost, sent, added, handedOut, changes, empties, startsAnew}
 use Rattle.runs.proofs.Alike.{same-either}
-use Rattle.runs.proofs.Shapes.{Seen, seen, Heart, heart, Shape}
+use Rattle.runs.proofs.Shapes.{Seen, seen, Core, core, Shape}
 
 -- what a call did has a shape
 abbrev pub Shaped : (w : World) → Call → Did → Type 0
-Shaped w c d = Shape w (seen c w (d .said)) (heart (d .world .state)) (d .world .rx) (d .world .tx)
+Shaped w c d = Shape w (seen c w (d .said)) (core (d .world .state)) (d .world .rx) (d .world .tx)
 
 -- ---- nothing arrives
 
@@ -39,9 +39,9 @@ module _ (c : Call) (w : World) (a : Said) (e : arrived c w a ≡ []) where
   unfolding lost
   none-lost = rw e (same-either (full (w .state .rx)) [])
 
-pub quietly : (c : Call) (w : World) (a : Said) (h : Heart) (rx tx : List ℕ) → arrived c w a ≡ [] → Shape w (quiet c w a) h rx tx →
+pub none-arrives : (c : Call) (w : World) (a : Said) (h : Core) (rx tx : List ℕ) → arrived c w a ≡ [] → Shape w (quiet c w a) h rx tx →
     Shape w (seen c w a) h rx tx
-quietly c w a h rx tx e = subst (λ x. Shape w x h rx tx) same
+none-arrives c w a h rx tx e = subst (λ x. Shape w x h rx tx) same
   where
     same : quiet c w a ≡ seen c w a
     same = λ i.

@@ -4,7 +4,7 @@ use mathlib.Core.Path.{_≡_}
 use mathlib.Core.Bool.{true, false≢true}
 use lib.Dec.{eqb}
 use borrow.Author.Tests.{eqb-true}
-use Rattle.cases.proofs.Cases.{by-cond}
+use Rattle.branches.proofs.Branches.{by-cond}
 use Rattle.answers.specs.Refusals.{firstRefusal}
 use Rattle.answers.specs.Answers.{refused}
 use Rattle.bridge.specs.Calls.{on, nextLineByte, loopFrame, World, Did, checks, refusedOr}

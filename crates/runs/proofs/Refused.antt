@@ -12,8 +12,8 @@ use Rattle.state.specs.declared.Out.the-variants as out
 use Rattle.state.specs.declared.Outcome.{Outcome}
 use Rattle.answers.specs.Answers.{Said, said, done, none, byte, frame, refused, part}
 use Rattle.line.specs.HoldingOff.{nextOut, outAnswer}
-use Rattle.loops.specs.Sending.{sendState, sendFrom, sendStatus, ended}
-use Rattle.loops.specs.Frames.{frameTaken}
+use Rattle.loopside.specs.Sends.{sendState, sendFrom, sendStatus, ended}
+use Rattle.loopside.specs.Frames.{frameTaken}
 use Rattle.bridge.specs.Calls.{on, create, reset, write, lineByte, lineBreak, key, nextLineByte, loopFrame, show, World, Did, checks, outcome, refusedOr, step}
 use Rattle.bridge.specs.Calls as calls
 use Rattle.laws.specs.Observers.{taken, isFrame}

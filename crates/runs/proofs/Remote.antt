@@ -13,11 +13,11 @@ use Rattle.sending.specs.declared.Given.the-variants.{Nothing, One}
 use Rattle.sending.specs.Sending.{givenOf, sendHeld}
 use Rattle.state.specs.declared.State.{State}
 use Rattle.state.specs.declared.Outcome.{Outcome}
-use Rattle.state.specs.Status.{afterStatus, afterStatusBack}
+use Rattle.state.specs.Conditions.{afterStatus, afterStatusBack}
 use Rattle.line.specs.HoldingOff.{resumed}
-use Rattle.loops.specs.LoopToLine.{addedState}
-use Rattle.loops.specs.Sending.{ruleOf, ended, removedState, sendState, sendFrom, sendStatus}
-use Rattle.loops.specs.Frames.{orderIn, obeyed, cleared}
+use Rattle.loopside.specs.LoopToLine.{addedState}
+use Rattle.loopside.specs.Sends.{ruleOf, ended, removedState, sendState, sendFrom, sendStatus}
+use Rattle.loopside.specs.Frames.{orderIn, obeyed, cleared}
 use Rattle.bridge.specs.Calls.{World}
 use Rattle.laws.specs.Fitting.{Fits}
 use Rattle.laws.specs.Roles.{commandedRemote, remoteByFrame}

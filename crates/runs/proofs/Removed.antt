@@ -5,7 +5,7 @@ use mathlib.Core.Bool.{Bool, true, false, cond, _&&_, not, true≢false}
 use mathlib.Core.List.{List, [], _∷_, _++_, append-nil}
 use lib.Dec.{eqb}
 use borrow.Author.Tests.{leb-false, leb-true}
-use Rattle.cases.proofs.Cases.{by-cond}
+use Rattle.branches.proofs.Branches.{by-cond}
 use Rattle.answers.specs.Refusals.{firstRefusal}
 use Rattle.machine.specs.Machine.{Obeys}
 use Rattle.registers.specs.Writing.{written}
@@ -17,12 +17,12 @@ use Rattle.state.specs.declared.Outcome.{Outcome}
 use Rattle.state.specs.declared.Out.{Out}
 use Rattle.state.specs.declared.Out.the-variants as out
 use Rattle.answers.specs.Answers.{said, refused}
-use Rattle.state.specs.Status.{settled, breakState, keyState, afterStatus, afterStatusBack}
-use Rattle.line.specs.HoldingOff.{isGoOrStop, flowed, lostState, storedState, storedWith, lineState, lineBytes, setAfresh, afterWrite, nextOut, goneState}
-use Rattle.loops.specs.LoopToLine.{addedState}
-use Rattle.talker.specs.Sending.{talking}
-use Rattle.loops.specs.Sending.{ended, sendStatus}
-use Rattle.loops.specs.Frames.{deviceClear}
+use Rattle.state.specs.Conditions.{settled, breakState, keyState, afterStatus, afterStatusBack}
+use Rattle.line.specs.HoldingOff.{isGoOrStop, flowed, lostState, storedState, storedWith, lineState, lineBytes, setAfresh, afterWrite, nextOut, afterGiving}
+use Rattle.loopside.specs.LoopToLine.{addedState}
+use Rattle.talker.specs.UnderWay.{talking}
+use Rattle.loopside.specs.Sends.{ended, sendStatus}
+use Rattle.loopside.specs.Frames.{deviceClear}
 use Rattle.bridge.specs.Calls.{OnState, reset, write, lineByte, lineBreak, key, nextLineByte, loopFrame, Call, create}
 use Rattle.bridge.specs.Calls.{show, on, World, Did, checks, outcome, settledBy, rxAfter, notRefused}
 use Rattle.laws.specs.Observers.{onFrame, isSend, isFlow, arrived, accepted, restarts, clears, empties}
@@ -30,7 +30,7 @@ use Rattle.laws.specs.Worlds.{heldToSend}
 use Rattle.laws.specs.SendRule.{NoneRemoved}
 use Rattle.laws.proofs.Answers.{frame-not-refused}
 use Rattle.laws.proofs.Refusing.{by-refusal, fitting}
-use Rattle.runs.proofs.Shapes.{Fits, Heart}
+use Rattle.runs.proofs.Shapes.{Fits, Core}
 use Rattle.runs.proofs.FramesRead.{held-stored}
 use Rattle.runs.proofs.FrameKinds.{Kind, isSent, isStatus, isBack, isCleared, isKept, isOther, kind-of}
 use Rattle.runs.proofs.Steps.{ours}
@@ -53,10 +53,10 @@ frame-rx s rx f o (isStatus m) e c = refl
 frame-rx s rx f o (isBack m d) e c = refl
 frame-rx s rx f o (isCleared m k) e c = absurd (true≢false (sym (m .clear) ∙ c))
 frame-rx s rx f o (isKept m d l) e c = refl
-frame-rx s rx f o (isOther t n p m x) e c = ap (λ (h : Heart). h .rx) (x .heart)
+frame-rx s rx f o (isOther t n p m x) e c = ap (λ (h : Core). h .rx) (x .core)
 
-gone-rx : (s : State) (o : Out) → goneState s o .rx ≡ s .rx
-unfolding goneState
+gone-rx : (s : State) (o : Out) → afterGiving s o .rx ≡ s .rx
+unfolding afterGiving
 gone-rx s (out.Own b) = refl
 gone-rx s (out.Held b) = refl
 gone-rx s out.Nothing = refl

@@ -4,7 +4,7 @@ use mathlib.Core.Path.{_≡_, refl, sym, ap, subst, _∙_}
 use mathlib.Core.Bool.{Bool, true, false, cond, _&&_, _||_, not, and-true, and-false, or-false, false≢true}
 use mathlib.Core.List.{List, [], _∷_}
 use lib.Dec.{eqb}
-use Rattle.cases.proofs.Cases.{by-cond, and-right, cond-true, cond-false}
+use Rattle.branches.proofs.Branches.{by-cond, and-right, cond-true, cond-false}
 use Rattle.answers.specs.Refusals.{firstRefusal}
 use Rattle.frame.specs.Frame.{dataOf}
 use Rattle.store.specs.Ring.{full}
@@ -19,13 +19,13 @@ use Rattle.state.specs.declared.Out.{Out}
 use Rattle.state.specs.declared.Out.the-variants as out
 use Rattle.answers.specs.Answers.{Said, said, done, refused}
 use Rattle.state.specs.Sizes.{startState}
-use Rattle.state.specs.Status.{settled, asking, enabledBy, conditions, breakState, keyState}
-use Rattle.state.specs.Status as state-status
-use Rattle.line.specs.HoldingOff.{isGoOrStop, flowed, lostState, storedWith, lineState, setAfresh, afterWrite, nextOut, goneState}
-use Rattle.loops.specs.LoopToLine.{addedState}
-use Rattle.talker.specs.Sending.{talking}
-use Rattle.loops.specs.Sending.{sendFrom, sendStatus, ended}
-use Rattle.loops.specs.Frames.{passed, cleared, frameTaken, deviceClear}
+use Rattle.state.specs.Conditions.{settled, asking, enabledBy, conditions, breakState, keyState}
+use Rattle.state.specs.Conditions as state-status
+use Rattle.line.specs.HoldingOff.{isGoOrStop, flowed, lostState, storedWith, lineState, setAfresh, afterWrite, nextOut, afterGiving}
+use Rattle.loopside.specs.LoopToLine.{addedState}
+use Rattle.talker.specs.UnderWay.{talking}
+use Rattle.loopside.specs.Sends.{sendFrom, sendStatus, ended}
+use Rattle.loopside.specs.Frames.{passed, cleared, frameTaken, deviceClear}
 use Rattle.bridge.specs.Calls.{Call, on, create, reset, write, lineByte, lineBreak, key, nextLineByte}
 use Rattle.bridge.specs.Calls.{loopFrame, show, World, Did, checks, outcome, settledBy, refusedOr, step}
 use Rattle.bridge.specs.Calls as calls
@@ -78,8 +78,8 @@ goes-or : (c : Call) (w : World) (n : ℕ) (d : Did) → statusSent c w (refused
     empties c w (refusedOr n d w .said) ≡ false → Goes c w (refusedOr n d w)
 goes-or c w n d e = or-refused (λ (x : Did). empties c w (x .said) ≡ false → Goes c w x) n d w (λ _. still-goes c w (refused n) e)
 
-gone-kept : (s : State) (o : Out) → goneState s o .notes .request ≡ s .notes .request
-unfolding goneState
+gone-kept : (s : State) (o : Out) → afterGiving s o .notes .request ≡ s .notes .request
+unfolding afterGiving
 gone-kept s (out.Own b) = refl
 gone-kept s (out.Held b) = refl
 gone-kept s out.Nothing = refl

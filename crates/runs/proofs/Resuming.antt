@@ -21,16 +21,16 @@ use Rattle.store.proofs.Laws.{drop-len}
 use Rattle.sending.specs.Sending.{givenOf, sendHeld, sentRing}
 use Rattle.state.specs.declared.State.{State}
 use Rattle.state.specs.Sizes.{fits}
-use Rattle.state.specs.Status.{settled}
+use Rattle.state.specs.Conditions.{settled}
 use Rattle.state.proofs.Fits.{sizes-hold, tests, rx-fits}
 use Rattle.line.specs.HoldingOff.{resumed}
-use Rattle.talker.specs.Sending.{talking}
-use Rattle.loops.specs.Sending.{ruleOf, ended, removedState, sendState, sendFrom}
+use Rattle.talker.specs.UnderWay.{talking}
+use Rattle.loopside.specs.Sends.{ruleOf, ended, removedState, sendState, sendFrom}
 use Rattle.answers.specs.Refusals.{firstRefusal}
-use Rattle.cases.proofs.Cases.{cond-false}
+use Rattle.branches.proofs.Branches.{cond-false}
 use Rattle.state.specs.declared.Outcome.{Outcome}
 use Rattle.answers.specs.Answers.{said}
-use Rattle.loops.specs.Frames.{deviceClear}
+use Rattle.loopside.specs.Frames.{deviceClear}
 use Rattle.bridge.specs.Calls.{on, loopFrame, World, Did, checks, outcome, settledBy, step}
 use Rattle.bridge.specs.Calls as calls
 use Rattle.store.specs.Bytes.{Bytes}

@@ -7,26 +7,26 @@ use mathlib.Core.List.{List}
 use lib.Dec.{eqb}
 use borrow.Author.Tests.{eqb-true, ne-eqb}
 use Rattle.answers.specs.Refusals.{firstRefusal}
-use Rattle.cases.proofs.Cases.{and-left}
+use Rattle.branches.proofs.Branches.{and-left}
 use Rattle.machine.specs.Machine.{Obeys}
 use Rattle.frame.specs.Frame.{controlOf, dataOf, isData}
 use Rattle.role.specs.declared.Role.{Role}
-use Rattle.role.specs.Parts.{withAddress, withPhase}
+use Rattle.role.specs.Role.{withAddress, withPhase}
 use Rattle.role.specs.ReadyFrames.{givesAddress}
 use Rattle.store.specs.Bytes.{Bytes}
 use Rattle.reading.specs.Reading.{Sent, none, one}
 use Rattle.sending.specs.Sending.{givenOf, sendHeld}
 use Rattle.talker.specs.declared.Talker.{Talker}
-use Rattle.talker.specs.Commands.{obeyedTalker}
+use Rattle.talker.specs.Obeying.{obeyedTalker}
 use Rattle.state.specs.declared.State.{State}
 use Rattle.state.specs.declared.Outcome.{Outcome}
 use Rattle.answers.specs.Answers.{Said, said, refused}
-use Rattle.state.specs.Status.{settled, afterStatus, afterStatusBack}
+use Rattle.state.specs.Conditions.{settled, afterStatus, afterStatusBack}
 use Rattle.line.specs.HoldingOff.{resumed, nextOut}
-use Rattle.loops.specs.LoopToLine.{addedState}
-use Rattle.talker.specs.Sending.{talking}
-use Rattle.loops.specs.Sending.{ruleOf, ended, removedState, sendState, sendFrom, sendStatus}
-use Rattle.loops.specs.Frames.{orderIn, obeyed, cleared, deviceClear, frameTaken}
+use Rattle.loopside.specs.LoopToLine.{addedState}
+use Rattle.talker.specs.UnderWay.{talking}
+use Rattle.loopside.specs.Sends.{ruleOf, ended, removedState, sendState, sendFrom, sendStatus}
+use Rattle.loopside.specs.Frames.{orderIn, obeyed, cleared, deviceClear, frameTaken}
 use Rattle.bridge.specs.Calls.{reset, write, lineByte, lineBreak, key, nextLineByte, loopFrame, Call, create}
 use Rattle.bridge.specs.Calls.{show, on, World, Did, checks, outcome, settledBy, notRefused, step}
 use Rattle.laws.specs.Observers.{any, taken, dataFrame, onFrame, restarts}

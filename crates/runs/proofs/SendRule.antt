@@ -3,7 +3,7 @@ use Prim.Native.Nat.{ℕ}
 use mathlib.Core.Path.{_≡_, refl, sym, ap, subst, _∙_}
 use mathlib.Core.Bool.{Bool, true, false, cond}
 use mathlib.Core.List.{[], _∷_, _++_, append-nil}
-use Rattle.cases.proofs.Cases.{cond-false}
+use Rattle.branches.proofs.Branches.{cond-false}
 use Rattle.answers.specs.Refusals.{firstRefusal}
 use Rattle.reading.specs.Reading.{Sent, none, one, sentFrames, sentRest, send}
 use Rattle.reading.specs.Steps.{cut}
@@ -12,8 +12,8 @@ use Rattle.reading.proofs.Lawful.{lawful}
 use Rattle.sending.specs.Sending.{givenOf, sendHeld, sentRing}
 use Rattle.state.specs.declared.Outcome.{Outcome}
 use Rattle.answers.specs.Answers.{Said, said, frame}
-use Rattle.talker.specs.Sending.{talking}
-use Rattle.loops.specs.Sending.{ruleOf, removedState, sendState, sendFrom, ended}
+use Rattle.talker.specs.UnderWay.{talking}
+use Rattle.loopside.specs.Sends.{ruleOf, removedState, sendState, sendFrom, ended}
 use Rattle.bridge.specs.Calls.{on, loopFrame, World, Did, checks, outcome, step, settledBy, rxAfter}
 use Rattle.bridge.specs.Calls as calls
 use Rattle.store.specs.Bytes.{Bytes}
@@ -31,10 +31,10 @@ use Rattle.store.specs.Ring.{held}
 use Rattle.sending.specs.declared.Given.{Given}
 use Rattle.sending.specs.declared.Given.the-variants.{Nothing, One}
 use Rattle.state.specs.declared.State.{State}
-use Rattle.state.specs.Status.{settled}
+use Rattle.state.specs.Conditions.{settled}
 use Rattle.state.proofs.Fits.{rx-fits}
 use Rattle.line.specs.HoldingOff.{resumed}
-use Rattle.loops.specs.Frames.{deviceClear}
+use Rattle.loopside.specs.Frames.{deviceClear}
 use Rattle.laws.specs.Fitting.{Fits}
 
 module _ (w : World) (B : Bytes (heldToSend w)) where

@@ -5,7 +5,7 @@ use mathlib.Core.Path.{_≡_, sym, ap, _∙_}
 use mathlib.Core.List.{List, [], _∷_}
 use lib.Dec.{ltb}
 use lib.ListN.{length, drop}
-use Rattle.cases.proofs.Cases.{cond-true}
+use Rattle.branches.proofs.Branches.{cond-true}
 use Rattle.frame.specs.Frame.{controlOf, stripped}
 use Rattle.frame.proofs.Laws.{made-parts}
 use Rattle.store.specs.declared.Ring.{Ring}
@@ -20,7 +20,7 @@ use Rattle.sending.specs.Sending.{sendHeld, sentRing}
 use Rattle.state.specs.declared.State.{State}
 use Rattle.answers.specs.declared.Answer.the-variants.{Frame}
 use Rattle.answers.specs.Answers.{said}
-use Rattle.state.specs.Status.{serviced}
+use Rattle.state.specs.Conditions.{serviced}
 use Rattle.laws.specs.Observers.{dataFrame}
 use Rattle.runs.proofs.Answered.{serviced-kind, serviced-rest}
 use Rattle.runs.proofs.Bytes.{Plain}

@@ -5,19 +5,19 @@ use mathlib.Core.Path.{_≡_, refl, sym, ap, subst, _∙_}
 use mathlib.Core.Bool.{Bool, true, false, cond, _&&_, _||_, not, false≢true}
 use lib.Dec.{eqb, ltb}
 use borrow.Author.Tests.{eqb-true, eqb-false, ne-eqb, ltb-true, ltb-false, lt-ltb, le-ltb}
-use Rattle.cases.proofs.Cases.{by-cond, and-left}
+use Rattle.branches.proofs.Branches.{by-cond, and-left}
 use Rattle.frame.specs.Frame.{controlOf, dataOf, made, hasService, stripped, withService}
 use Rattle.frame.proofs.Laws.{service-set}
-use Rattle.role.specs.Parts.{isActive}
+use Rattle.role.specs.Role.{isActive}
 use Rattle.reading.specs.Reading.{Sent, none, one}
 use Rattle.sending.specs.Sending.{givenOf, sendHeld}
 use Rattle.state.specs.declared.State.{State}
 use Rattle.state.specs.declared.Outcome.{Outcome}
 use Rattle.answers.specs.declared.Answer.the-variants.{Frame}
 use Rattle.answers.specs.Answers.{Said, said, frame, refused}
-use Rattle.state.specs.Status.{shows, serviced, statusOf}
-use Rattle.loops.specs.Sending.{ruleOf, removedState, sendState, sendFrom, sendStatus, ended}
-use Rattle.loops.specs.Frames.{frameTaken}
+use Rattle.state.specs.Conditions.{shows, serviced, statusOf}
+use Rattle.loopside.specs.Sends.{ruleOf, removedState, sendState, sendFrom, sendStatus, ended}
+use Rattle.loopside.specs.Frames.{frameTaken}
 use Rattle.answers.specs.Refusals.{firstRefusal}
 use Rattle.bridge.specs.Calls.{on, loopFrame, World, Did, checks, outcome, refusedOr, step}
 use Rattle.bridge.specs.Calls as calls

@@ -4,7 +4,7 @@ use mathlib.Core.Path.{_≡_, refl, sym, ap}
 use mathlib.Core.Bool.{Bool, true, false, cond, true≢false}
 use mathlib.Core.List.{List, [], _∷_}
 use lib.Dec.{eqb}
-use Rattle.cases.proofs.Cases.{by-cond}
+use Rattle.branches.proofs.Branches.{by-cond}
 use Rattle.machine.specs.Machine.{Obeys}
 use Rattle.registers.specs.Writing.{written}
 use Rattle.store.specs.Ring.{full, putRing, dropRing}
@@ -17,12 +17,12 @@ use Rattle.state.specs.declared.Outcome.{Outcome}
 use Rattle.state.specs.declared.Out.{Out}
 use Rattle.state.specs.declared.Out.the-variants as out
 use Rattle.answers.specs.Answers.{said, refused}
-use Rattle.state.specs.Status.{settled, breakState, keyState, afterStatus, afterStatusBack}
-use Rattle.line.specs.HoldingOff.{isGoOrStop, flowed, lostState, storedWith, lineState, resumed, setAfresh, afterWrite, nextOut, goneState}
-use Rattle.loops.specs.LoopToLine.{addedState}
-use Rattle.talker.specs.Sending.{talking}
-use Rattle.loops.specs.Sending.{ruleOf, ended, removedState, sendState, sendFrom, sendStatus}
-use Rattle.loops.specs.Frames.{obeyed, cleared, deviceClear, frameTaken}
+use Rattle.state.specs.Conditions.{settled, breakState, keyState, afterStatus, afterStatusBack}
+use Rattle.line.specs.HoldingOff.{isGoOrStop, flowed, lostState, storedWith, lineState, resumed, setAfresh, afterWrite, nextOut, afterGiving}
+use Rattle.loopside.specs.LoopToLine.{addedState}
+use Rattle.talker.specs.UnderWay.{talking}
+use Rattle.loopside.specs.Sends.{ruleOf, ended, removedState, sendState, sendFrom, sendStatus}
+use Rattle.loopside.specs.Frames.{obeyed, cleared, deviceClear, frameTaken}
 use Rattle.bridge.specs.Calls.{reset, write, lineByte, lineBreak, key, nextLineByte, loopFrame, Call}
 use Rattle.bridge.specs.Calls.{create, show, on, World, Did, outcome, settledBy, notRefused}
 use Rattle.laws.specs.Observers.{taken, onWrite, restarts}
@@ -79,8 +79,8 @@ line-same s b =
     by-cond (Same s) (isGoOrStop (s .regs) b) _ _ (λ _. record { regs = refl; sizes = refl })
     (λ _. by-cond (Same s) (full (s .rx)) _ _ (λ _. record { regs = refl; sizes = refl }) (λ _. record { regs = refl; sizes = refl }))
 
-gone-same : (s : State) (o : Out) → Same s (goneState s o)
-unfolding goneState dropRing
+gone-same : (s : State) (o : Out) → Same s (afterGiving s o)
+unfolding afterGiving dropRing
 gone-same s (out.Own b) = record { regs = refl; sizes = refl }
 gone-same s (out.Held b) = record { regs = refl; sizes = refl }
 gone-same s out.Nothing = record { regs = refl; sizes = refl }

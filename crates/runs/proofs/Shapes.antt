@@ -15,9 +15,9 @@ use Rattle.answers.specs.declared.Answer.the-variants.{Frame}
 use Rattle.answers.specs.Answers.{Said, said}
 use Rattle.state.specs.Sizes.{startState, fits}
 use Rattle.state.specs.Counts.{counted}
-use Rattle.state.specs.Status.{serviced}
+use Rattle.state.specs.Conditions.{serviced}
 use Rattle.line.specs.HoldingOff.{storedState}
-use Rattle.loops.specs.Sending.{ruleOf, removedState}
+use Rattle.loopside.specs.Sends.{ruleOf, removedState}
 use Rattle.bridge.specs.Calls.{Call, World}
 use Rattle.laws.specs.Observers.{dataFrame, arrived, accepted, lost, sent, added, handedOut, changes, empties, startsAnew}
 
@@ -48,7 +48,7 @@ seen c w a =
     }
 
 -- the part of a state that runs are about
-pub record Heart : Type 0 where
+pub record Core : Type 0 where
   pub margin : ℕ
   pub regs : Registers
   pub rx : Ring
@@ -56,8 +56,8 @@ pub record Heart : Type 0 where
   pub holding : Bool
   pub counts : Counts
 
-abbrev pub heart : State → Heart
-heart s =
+abbrev pub core : State → Core
+core s =
     record {
       margin = s .margin;
       regs = s .regs;
@@ -91,7 +91,7 @@ begun x r =
 abbrev pub Fits : World → Type 0
 Fits w = fits (w .state) (length (w .rx)) (length (w .tx)) ≡ true
 
-abbrev pub withTransmit : State → Ring → Heart
+abbrev pub withTransmit : State → Ring → Core
 withTransmit s r =
     record {
       margin = s .margin;
@@ -102,7 +102,7 @@ withTransmit s r =
       counts = s .counts;
     }
 
-abbrev pub withReceive : State → Ring → Bool → Counts → Heart
+abbrev pub withReceive : State → Ring → Bool → Counts → Core
 withReceive s r h n =
     record {
       margin = s .margin;
@@ -113,9 +113,9 @@ withReceive s r h n =
       counts = n;
     }
 
-pub data Shape (w : World) : Seen → Heart → List ℕ → List ℕ → Type 0 where
-  isStill : Shape w still (heart (w .state)) (w .rx) (w .tx)
-  isBegun : (m : ℕ) → Shape w (begun true true) (heart (startState m (length (w .rx)) (length (w .tx)))) (w .rx) (w .tx)
+pub data Shape (w : World) : Seen → Core → List ℕ → List ℕ → Type 0 where
+  isStill : Shape w still (core (w .state)) (w .rx) (w .tx)
+  isBegun : (m : ℕ) → Shape w (begun true true) (core (startState m (length (w .rx)) (length (w .tx)))) (w .rx) (w .tx)
   isWritten : (g : Registers) (h : Bool) →
       Shape w (begun true false)
       (record {
@@ -140,7 +140,7 @@ pub data Shape (w : World) : Seen → Heart → List ℕ → List ℕ → Type 0
       (w .rx) (w .tx)
   isStored : (b : ℕ) → Fits w → w .state .rx .len < w .state .rx .cap →
       Shape w (takes (b ∷ []) (b ∷ []) [])
-      (heart (storedState (w .state)))
+      (core (storedState (w .state)))
       (putBytes (w .rx) (w .state .rx) b) (w .tx)
   isLost : (b : ℕ) → w .state .rx .cap ≤ w .state .rx .len →
       Shape w (takes (b ∷ []) [] (b ∷ []))

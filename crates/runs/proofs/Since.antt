@@ -10,7 +10,7 @@ use Rattle.bridge.specs.Calls.{World}
 use Rattle.laws.specs.Observers.{accepted}
 use Rattle.laws.specs.Worlds.{heldToSend, reading}
 use Rattle.laws.specs.SendRule.{FramesSince}
-use Rattle.runs.proofs.Shapes.{Seen, seen, Heart, heart, Shape, isStill, isBegun, isWritten}
+use Rattle.runs.proofs.Shapes.{Seen, seen, Core, core, Shape, isStill, isBegun, isWritten}
 use Rattle.runs.proofs.Shapes.{isCleared, isStored, isLost, isSent, isNone, isLeft, isHanded}
 use Rattle.runs.proofs.View.{view}
 use Rattle.runs.proofs.FramesRead.{frames-read}
@@ -18,7 +18,7 @@ use Rattle.runs.proofs.Steps.{answer, after, all, ours}
 use Rattle.machine.specs.Machine.{Obeys}
 use Rattle.laws.proofs.Fitting.{keeps-bytes}
 
-emptied : (w : World) (x : Seen) (h : Heart) (rx tx : List ℕ) → Shape w x h rx tx → x .empties ≡ true → held rx (h .rx) ≡ []
+emptied : (w : World) (x : Seen) (h : Core) (rx tx : List ℕ) → Shape w x h rx tx → x .empties ≡ true → held rx (h .rx) ≡ []
 unfolding startState
 emptied w x h rx tx isStill n = absurd (false≢true n)
 emptied w x h rx tx (isBegun m) n = held-empty (w .rx) _
@@ -37,4 +37,4 @@ frames-since c cs w B j k e n =
     ∙ ap (λ (l : List ℕ). reading (after c w) (l ++ all accepted cs (after c w))) none
   where
     none : heldToSend (after c w) ≡ []
-    none = emptied w (seen c w (answer c w)) (heart (after c w .state)) (after c w .rx) (after c w .tx) (view c w) e
+    none = emptied w (seen c w (answer c w)) (core (after c w .state)) (after c w .rx) (after c w .tx) (view c w) e

@@ -5,14 +5,14 @@ use mathlib.Core.Path.{_≡_, refl, sym, ap, subst, _∙_}
 use mathlib.Core.Bool.{Bool, true, false≢true, cond}
 use mathlib.Core.Logic.{⊎-elim}
 use mathlib.Core.List.{[], _∷_}
-use Rattle.cases.proofs.Cases.{cond-true}
+use Rattle.branches.proofs.Branches.{cond-true}
 use Rattle.answers.specs.Refusals.{firstRefusal}
 use Rattle.frame.specs.Frame.{made}
 use Rattle.state.specs.declared.Outcome.{Outcome}
 use Rattle.answers.specs.Answers.{said}
-use Rattle.state.specs.Status.{statusOf, conditions}
-use Rattle.state.specs.Status as state-status
-use Rattle.loops.specs.Sending.{sendStatus}
+use Rattle.state.specs.Conditions.{statusOf, conditions}
+use Rattle.state.specs.Conditions as state-status
+use Rattle.loopside.specs.Sends.{sendStatus}
 use Rattle.bridge.specs.Calls.{on, loopFrame, World, Did, checks, outcome, step}
 use Rattle.bridge.specs.Calls as calls
 use Rattle.laws.specs.Observers.{taken, asksStatus, dataFrame, statusSent}
@@ -28,7 +28,7 @@ use Rattle.runs.proofs.Steps.{after, end, ours, answer, at-call, at-lef
 use Rattle.machine.specs.Machine.{Obeys, finally}
 use Rattle.laws.specs.Fitting.{Fits}
 use Rattle.registers.specs.Bits.{bit}
-use Rattle.runs.proofs.Bits.{worth, event-shown, weighs}
+use Rattle.runs.proofs.Bits.{weightOf, event-shown, weighs}
 use Rattle.state.specs.declared.State.{State}
 use Rattle.laws.proofs.Refusing.{taken-fits}
 use Rattle.runs.proofs.Conditions.{empty-same, room-same, some-same, full-same}
@@ -72,7 +72,7 @@ shown e s = ap (bit (place e)) plain ∙ at e ∙ event-shown e s
     plain : made 0 (statusOf s) ≡ statusOf s
     plain = omega arith
 
-    at : (e : Event) → bit (place e) (statusOf s) ≡ showed (statusOf s) (worth e)
+    at : (e : Event) → bit (place e) (statusOf s) ≡ showed (statusOf s) (weightOf e)
     at broken = refl
     at overrun = refl
     at pressed = refl

@@ -6,14 +6,14 @@ use mathlib.Core.Bool.{Bool, true, false, cond, _&&_, and-false}
 use mathlib.Core.List.{[], _∷_}
 use lib.Dec.{eqb}
 use borrow.Author.Tests.{ne-eqb, leb-false}
-use Rattle.cases.proofs.Cases.{by-cond}
+use Rattle.branches.proofs.Branches.{by-cond}
 use Rattle.frame.specs.Frame.{controlOf, dataOf, made, isData, stripped, sameApart}
 use Rattle.frame.proofs.Laws.{same-stripped, stripped-same, stripped-twice}
 use Rattle.registers.specs.Writing.{written}
 use Rattle.role.specs.declared.Role.{Role}
 use Rattle.role.specs.declared.Order.{Order}
 use Rattle.role.specs.declared.Order.the-variants.{Unlisten, Listen, Untalk, Talk, Clear, Deselect, Enable, Disable, Local, Unassign, Nothing}
-use Rattle.role.specs.Parts.{addressed, isActive}
+use Rattle.role.specs.Role.{addressed, isActive}
 use Rattle.role.specs.Commands.{merelyAddressed, changedRole, obeyedRole}
 use Rattle.store.specs.Ring.{full}
 use Rattle.status.specs.declared.Events.{Events}
@@ -26,14 +26,14 @@ use Rattle.state.specs.declared.Out.{Out}
 use Rattle.state.specs.declared.Out.the-variants as out
 use Rattle.answers.specs.declared.Answer.the-variants.{Frame}
 use Rattle.answers.specs.Answers.{Said, said, refused}
-use Rattle.state.specs.Status.{settled, breakState, keyState}
-use Rattle.state.specs.Status as status
-use Rattle.line.specs.HoldingOff.{isGoOrStop, flowed, lostState, storedWith, lineState, resumed, setAfresh, afterWrite, nextOut, goneState}
-use Rattle.loops.specs.LoopToLine.{addedState}
-use Rattle.talker.specs.Commands.{obeyedTalker}
-use Rattle.talker.specs.Sending.{talking}
-use Rattle.loops.specs.Sending.{ruleOf, removedState, sendState, sendFrom, sendStatus, ended}
-use Rattle.loops.specs.Frames.{isClear, orderIn, obeyed, frameTaken, deviceClear}
+use Rattle.state.specs.Conditions.{settled, breakState, keyState}
+use Rattle.state.specs.Conditions as status
+use Rattle.line.specs.HoldingOff.{isGoOrStop, flowed, lostState, storedWith, lineState, resumed, setAfresh, afterWrite, nextOut, afterGiving}
+use Rattle.loopside.specs.LoopToLine.{addedState}
+use Rattle.talker.specs.Obeying.{obeyedTalker}
+use Rattle.talker.specs.UnderWay.{talking}
+use Rattle.loopside.specs.Sends.{ruleOf, removedState, sendState, sendFrom, sendStatus, ended}
+use Rattle.loopside.specs.Frames.{isClear, orderIn, obeyed, frameTaken, deviceClear}
 use Rattle.bridge.specs.Calls.{Call, on, create, reset, write, lineByte, lineBreak, key, nextLineByte}
 use Rattle.bridge.specs.Calls.{loopFrame, show, World, Did, outcome, settledBy, refusedOr, step}
 use Rattle.bridge.specs.Calls as calls
@@ -43,7 +43,7 @@ use Rattle.laws.specs.Events.{Event, broken, overrun, pressed, noted}
 use Rattle.runs.proofs.Refusals.{or-refused}
 use Rattle.runs.proofs.Alike.{same-either}
 use Rattle.runs.proofs.Answered.{status-frame}
-use Rattle.loops.proofs.Clears.{clear-order}
+use Rattle.loopside.proofs.Clears.{clear-order}
 use Rattle.laws.proofs.Ways as ways
 use Rattle.runs.proofs.FrameKinds.{address-high}
 use Rattle.runs.proofs.Steps.{answer, after}
@@ -222,8 +222,8 @@ line-left s b =
     (λ _. record { talker = refl; frame = refl; seen = noting overrun (s .notes .seen); again = noting overrun (s .notes .again) })
     (λ _. same s _ refl))
 
-gone-left : (s : State) (o : Out) → Left s (part (goneState s o))
-unfolding goneState
+gone-left : (s : State) (o : Out) → Left s (part (afterGiving s o))
+unfolding afterGiving
 gone-left s (out.Own b) = same s _ refl
 gone-left s (out.Held b) = same s _ refl
 gone-left s out.Nothing = same s _ refl

@@ -3,14 +3,14 @@ use Prim.Native.Nat.{ℕ}
 use mathlib.Core.Path.{_≡_, refl, _∙_}
 use mathlib.Core.Bool.{Bool, true, false, cond}
 use lib.Dec.{eqb}
-use Rattle.cases.proofs.Cases.{by-cond}
+use Rattle.branches.proofs.Branches.{by-cond}
 use Rattle.registers.specs.Writing.{written}
 use Rattle.store.specs.Ring.{full}
 use Rattle.state.specs.declared.State.{State}
 use Rattle.state.specs.declared.Out.{Out}
 use Rattle.state.specs.declared.Out.the-variants as out
-use Rattle.state.specs.Status.{settled, breakState, keyState}
-use Rattle.line.specs.HoldingOff.{isGoOrStop, flowed, lostState, storedWith, lineState, setAfresh, afterWrite, goneState}
+use Rattle.state.specs.Conditions.{settled, breakState, keyState}
+use Rattle.line.specs.HoldingOff.{isGoOrStop, flowed, lostState, storedWith, lineState, setAfresh, afterWrite, afterGiving}
 
 -- the talker and the remote flags
 pub record Untouched (s t : State) : Type 0 where
@@ -40,8 +40,8 @@ line-untouched s b =
     by-cond (Untouched s) (isGoOrStop (s .regs) b) _ _ (λ _. record { talker = refl; remote = refl })
     (λ _. by-cond (Untouched s) (full (s .rx)) _ _ (λ _. record { talker = refl; remote = refl }) (λ _. record { talker = refl; remote = refl }))
 
-pub gone-untouched : (s : State) (o : Out) → Untouched s (goneState s o)
-unfolding goneState
+pub gone-untouched : (s : State) (o : Out) → Untouched s (afterGiving s o)
+unfolding afterGiving
 gone-untouched s (out.Own b) = record { talker = refl; remote = refl }
 gone-untouched s (out.Held b) = record { talker = refl; remote = refl }
 gone-untouched s out.Nothing = record { talker = refl; remote = refl }

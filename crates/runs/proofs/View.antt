@@ -5,16 +5,16 @@ use mathlib.Core.Bool.{Bool, true, false, cond, _||_}
 use mathlib.Core.List.{[]}
 use Rattle.registers.specs.Meanings.{go}
 use Rattle.answers.specs.Answers.{said, done, refused}
-use Rattle.state.specs.Status.{settled, breakState, keyState}
+use Rattle.state.specs.Conditions.{settled, breakState, keyState}
 use Rattle.line.specs.HoldingOff.{owed}
 use Rattle.bridge.specs.Calls.{Call, on, create, reset, write, lineByte, lineBreak, key, nextLineByte, loopFrame}
 use Rattle.bridge.specs.Calls.{show, World, Did, checks, outcome, settledBy, rxAfter, txAfter, refusedOr, step}
 use Rattle.bridge.specs.Calls as calls
 use Rattle.laws.specs.Observers.{passesOn, asksStatus, arrived, sent, added, handedOut, restarts, writes, clears}
-use Rattle.runs.proofs.Shapes.{heart, frames, hands, Shape, isStill, isBegun}
+use Rattle.runs.proofs.Shapes.{core, frames, hands, Shape, isStill, isBegun}
 use Rattle.laws.proofs.Refusing.{fitting, frame-fitting}
 use Rattle.runs.proofs.Refusals.{or-refused}
-use Rattle.runs.proofs.Quiet.{Shaped, quietly}
+use Rattle.runs.proofs.Quiet.{Shaped, none-arrives}
 use Rattle.runs.proofs.LineView.{line-shape, next-shape, write-shape}
 use Rattle.runs.proofs.FrameView.{frame-shape}
 
@@ -23,23 +23,23 @@ use Rattle.runs.proofs.FrameView.{frame-shape}
 module _ (w : World) where
   refused-still : (c : Call) (n : ℕ) → Shaped w c (record { said = refused n; world = w })
   unfolding arrived sent added handedOut restarts writes clears
-  refused-still (create m) n = quietly (create m) w (refused n) _ _ _ refl isStill
-  refused-still (on reset) n = quietly (on reset) w (refused n) _ _ _ refl isStill
-  refused-still (on (write a v)) n = quietly (on (write a v)) w (refused n) _ _ _ refl isStill
-  refused-still (on (lineByte b)) n = quietly (on (lineByte b)) w (refused n) _ _ _ refl isStill
-  refused-still (on lineBreak) n = quietly (on lineBreak) w (refused n) _ _ _ refl isStill
-  refused-still (on key) n = quietly (on key) w (refused n) _ _ _ refl isStill
-  refused-still (on nextLineByte) n = quietly (on nextLineByte) w (refused n) _ _ _ refl (go (owed (w .state .line)))
+  refused-still (create m) n = none-arrives (create m) w (refused n) _ _ _ refl isStill
+  refused-still (on reset) n = none-arrives (on reset) w (refused n) _ _ _ refl isStill
+  refused-still (on (write a v)) n = none-arrives (on (write a v)) w (refused n) _ _ _ refl isStill
+  refused-still (on (lineByte b)) n = none-arrives (on (lineByte b)) w (refused n) _ _ _ refl isStill
+  refused-still (on lineBreak) n = none-arrives (on lineBreak) w (refused n) _ _ _ refl isStill
+  refused-still (on key) n = none-arrives (on key) w (refused n) _ _ _ refl isStill
+  refused-still (on nextLineByte) n = none-arrives (on nextLineByte) w (refused n) _ _ _ refl (go (owed (w .state .line)))
     where
-      go : (t : Bool) → Shape w (hands (cond t [] [])) (heart (w .state)) (w .rx) (w .tx)
+      go : (t : Bool) → Shape w (hands (cond t [] [])) (core (w .state)) (w .rx) (w .tx)
       go true = isStill
       go false = isStill
-  refused-still (on (loopFrame f)) n = quietly (on (loopFrame f)) w (refused n) _ _ _ refl (go (passesOn (w .state) f || asksStatus (w .state) f))
+  refused-still (on (loopFrame f)) n = none-arrives (on (loopFrame f)) w (refused n) _ _ _ refl (go (passesOn (w .state) f || asksStatus (w .state) f))
     where
-      go : (t : Bool) → Shape w (frames (cond t [] []) [] false) (heart (w .state)) (w .rx) (w .tx)
+      go : (t : Bool) → Shape w (frames (cond t [] []) [] false) (core (w .state)) (w .rx) (w .tx)
       go true = isStill
       go false = isStill
-  refused-still (show side) n = quietly (show side) w (refused n) _ _ _ refl isStill
+  refused-still (show side) n = none-arrives (show side) w (refused n) _ _ _ refl isStill
 
   refused-or : (c : Call) (n : ℕ) (d : Did) → (n ≡ 0 → Shaped w c d) → Shaped w c (refusedOr n d w)
   refused-or c n d = or-refused (Shaped w c) n d w (refused-still c n)
@@ -48,13 +48,13 @@ module _ (w : World) where
 
 pub view : (c : Call) (w : World) → Shaped w c (step c w)
 unfolding step checks calls.notRefused outcome settledBy rxAfter txAfter settled said arrived sent added handedOut restarts writes clears breakState keyState
-view (create m) w = refused-or w (create m) _ _ (λ e. quietly (create m) w done _ _ _ refl (isBegun m))
-view (on reset) w = refused-or w (on reset) _ _ (λ e. quietly (on reset) w done _ _ _ refl (isBegun (w .state .margin)))
+view (create m) w = refused-or w (create m) _ _ (λ e. none-arrives (create m) w done _ _ _ refl (isBegun m))
+view (on reset) w = refused-or w (on reset) _ _ (λ e. none-arrives (on reset) w done _ _ _ refl (isBegun (w .state .margin)))
 view (on (write n v)) w = refused-or w (on (write n v)) _ _ (λ e. write-shape w n v)
 view (on (lineByte b)) w = refused-or w (on (lineByte b)) _ _ (λ e. line-shape w (fitting (lineByte b) w e .0) b)
-view (on lineBreak) w = refused-or w (on lineBreak) _ _ (λ e. quietly (on lineBreak) w done _ _ _ refl isStill)
-view (on key) w = refused-or w (on key) _ _ (λ e. quietly (on key) w done _ _ _ refl isStill)
+view (on lineBreak) w = refused-or w (on lineBreak) _ _ (λ e. none-arrives (on lineBreak) w done _ _ _ refl isStill)
+view (on key) w = refused-or w (on key) _ _ (λ e. none-arrives (on key) w done _ _ _ refl isStill)
 view (on nextLineByte) w = refused-or w (on nextLineByte) _ _ (λ e. next-shape w (fitting nextLineByte w e .0))
 view (on (loopFrame f)) w =
     refused-or w (on (loopFrame f)) _ _ (λ e. let x = frame-fitting f w e in frame-shape w (x .0) f (x .1 .1))
-view (show side) w = refused-or w (show side) _ _ (λ e. quietly (show side) w _ _ _ _ refl isStill)
+view (show side) w = refused-or w (show side) _ _ (λ e. none-arrives (show side) w _ _ _ _ refl isStill)

@@ -113,5 +113,5 @@ pub decided-met : (rule : Rule) (s : List ℕ) (r : Ring) (a b c : ℕ) (d : Dec
     d ≡ decision rule (firsts (r .len) a b c) → d ≡ decision rule (held s r)
 decided-met rule s r a b c d f p q t e = e ∙ on-oldest rule (held s r) (r .len) a b c (held-length s r f) (λ _. p) (λ _. q) (λ _. t)
 
-pub gone-met : (s : List ℕ) (q : Ring) (control n b x : ℕ) (o : Ring) → b ≡ getD (held s q) 0 0 → x ≡ made control b → Dropped q n o → Goes s q control n (record { given = One x; ring = o })
-gone-met s q control n b x o e m d = record { given = ap One (m ∙ ap (made control) e); dropped = d }
+pub one-frame-met : (s : List ℕ) (q : Ring) (control n b x : ℕ) (o : Ring) → b ≡ getD (held s q) 0 0 → x ≡ made control b → Dropped q n o → Goes s q control n (record { given = One x; ring = o })
+one-frame-met s q control n b x o e m d = record { given = ap One (m ∙ ap (made control) e); dropped = d }

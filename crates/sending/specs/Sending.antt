@@ -1,4 +1,4 @@
--- "A send from the receive store": what it gives, and the ring after it.
+-- The reading rule, a send from the receive store: what it gives, and the ring after it.
 use Prim.Native.Nat.{ℕ, _-_, _≤_}
 use mathlib.Core.Path.{_≡_, refl}
 use mathlib.Core.List.{List}

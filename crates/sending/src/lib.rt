@@ -67,7 +67,7 @@ fn skipped(rule: Rule, s: &[u8], r: Ring) -> Ring
 }
 
 // The frame with these control bits that takes the n oldest bytes.
-fn gone(s: &[u8], q: Ring, control: u8, n: usize) -> Sending
+fn one_frame(s: &[u8], q: Ring, control: u8, n: usize) -> Sending
     requires { ⌜ Fit (now s) q ⌝ }
     requires { ⌜ n ≤ q .len ⌝ }
     ensures { λ o. ⌜ Goes (now (s .entry)) q control n o ⌝ }
@@ -89,8 +89,8 @@ pub fn send_one(rule: Rule, s: &[u8], r: Ring) -> Sending
     let q = skipped(rule, s, r);
     let d = decided(rule, s, q);
     match d {
-        Decision::End => gone(s, q, 2, 3),
-        Decision::Data => gone(s, q, 0, 1),
+        Decision::End => one_frame(s, q, 2, 3),
+        Decision::Data => one_frame(s, q, 0, 1),
         Decision::Wait => Sending {
             given: Given::Nothing,
             ring: q,

@@ -6,11 +6,11 @@ use mathlib.Core.Bool.{Bool, true, false, not}
 use lib.Dec.{leb}
 use lib.ListN.{length, getD}
 use borrow.Author.Tests.{leb-true, not-true, not-false}
-use Rattle.cases.proofs.Cases.{and-left, and-right}
+use Rattle.branches.proofs.Branches.{and-left, and-right}
 use Rattle.store.specs.Ring as store-ring
 use Rattle.store.proofs.Laws.{fit-true}
-use Rattle.talker.specs.Fit as talker-fit
-use Rattle.registers.specs.Fit.{registersFit}
+use Rattle.talker.specs.TalkerFit as talker-fit
+use Rattle.registers.specs.RegistersFit.{registersFit}
 use Rattle.state.specs.declared.State.{State}
 use Rattle.state.specs.Sizes.{allHold, marginObeyed, receiveObeyed, transmitObeyed, sizesObeyed, fitTests, fits, RxFits, TxFits}
 

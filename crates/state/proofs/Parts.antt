@@ -6,13 +6,13 @@ use lib.Dec.{leb}
 use borrow.Author.Tests.{le-leb, lt-leb}
 use Rattle.registers.specs.declared.Registers.{Registers}
 use Rattle.registers.specs.Table.{startRegisters}
-use Rattle.registers.specs.Fit.{registersFit}
+use Rattle.registers.specs.RegistersFit.{registersFit}
 use Rattle.registers.specs.Meanings.{requestsShow, overrunEnabled, transmitEmptyEnabled, transmitNotFullEnabled, receiveNotEmptyEnabled, receiveFullEnabled, breakEnabled, keyEnabled}
 use Rattle.role.specs.declared.remote.Remote.{Remote}
 use Rattle.role.specs.Remote.{startRemote}
 use Rattle.talker.specs.declared.Talker.{Talker}
-use Rattle.talker.specs.Parts.{startTalker}
-use Rattle.talker.specs.Fit as talker-fit
+use Rattle.talker.specs.Talker.{startTalker}
+use Rattle.talker.specs.TalkerFit as talker-fit
 use Rattle.store.specs.declared.Ring.{Ring}
 use Rattle.store.specs.Ring as store-ring
 use Rattle.status.specs.declared.Conditions.{Conditions}
@@ -21,7 +21,7 @@ use Rattle.status.specs.Status.{statusByte, both, begins, acknowledged}
 use Rattle.state.specs.declared.State.{State}
 use Rattle.state.specs.State.{noEvents, notesWith}
 use Rattle.state.specs.Sizes.{sizesObeyed, startState, fits}
-use Rattle.state.specs.Status.{conditions, enabledBy, asking, withRequest, settled, shows, statusOf, afterStatus, afterStatusBack}
+use Rattle.state.specs.Conditions.{conditions, enabledBy, asking, withRequest, settled, shows, statusOf, afterStatus, afterStatusBack}
 
 pub start-met : (m a b : ℕ) (g : Registers) (t : Talker) (r : Remote) (x y : Ring) (p q : Events) → g ≡ startRegisters → t ≡ startTalker → r ≡ startRemote → x ≡ store-ring.emptyRing a → y ≡ store-ring.emptyRing b → p ≡ noEvents → q ≡ noEvents →
     record {

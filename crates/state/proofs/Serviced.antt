@@ -4,7 +4,7 @@ use mathlib.Core.Path.{_≡_}
 use mathlib.Core.Bool.{true, false}
 use Rattle.frame.specs.Frame.{withService}
 use Rattle.state.specs.declared.State.{State}
-use Rattle.state.specs.Status.{shows, serviced}
+use Rattle.state.specs.Conditions.{shows, serviced}
 
 pub serviced-on : (s : State) (f r : ℕ) → shows s ≡ true → r ≡ withService f → r ≡ serviced s f
 unfolding serviced

@@ -1,10 +1,9 @@
--- "three counts since create or reset, kept in 32 bits and starting again at 0 after 4,294,967,295: bytes stored in the receive store,
--- bytes lost, data frames sent from the receive store"
+-- Status byte, counts: bytes stored, bytes lost, and data frames sent from the receive store, each in 32 bits.
 use Prim.Native.Nat.{ℕ, _+_, _%_, _^_}
 use Rattle.state.specs.declared.State.{State}
 use Rattle.state.specs.State.{withCounts}
 
--- one more
+-- one more, and 0 after the largest
 abbrev pub counted : ℕ → ℕ
 counted n = (n + 1) % 2 ^ 32
 

@@ -1,4 +1,4 @@
 pub mod State
 pub mod Sizes
 pub mod Counts
-pub mod Status
+pub mod Conditions

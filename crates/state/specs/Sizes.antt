@@ -1,14 +1,14 @@
--- "Sizes and refusals": the sizes, the start, and when a state fits.
+-- Sizes and refusals: the sizes, the start, and when a state fits.
 use Prim.Native.Nat.{ℕ, _+_, _*_, _≤_}
 use mathlib.Core.List.{List, [], _∷_}
 use mathlib.Core.Bool.{Bool, true, false, _&&_, not}
 use lib.Dec.{leb, ltb}
 use Rattle.registers.specs.Table.{startRegisters}
-use Rattle.registers.specs.Fit.{values, allInRange}
+use Rattle.registers.specs.RegistersFit.{values, allInRange}
 use Rattle.registers.specs.Writing.{goIsStop}
-use Rattle.role.specs.Parts.{unassigned, activeStatus, isTalker}
+use Rattle.role.specs.Role.{unassigned, activeStatus, isTalker}
 use Rattle.role.specs.Remote.{startRemote}
-use Rattle.talker.specs.Parts.{startTalker}
+use Rattle.talker.specs.Talker.{startTalker}
 use Rattle.store.specs.Ring as store-ring
 use Rattle.state.specs.declared.State.{State}
 use Rattle.state.specs.State.{noEvents}

@@ -30,7 +30,7 @@ pub struct Counts {
     pub sent: u32,
 }
 
-// "a state that the caller keeps": it goes into every call by value and comes back with the answer. The rings record the stores' lengths.
+// The state goes into every call by value and comes back with the answer; the caller keeps it. The rings record the stores' lengths.
 pub struct State {
     pub margin: usize,
     pub regs: Registers,

@@ -9,7 +9,7 @@ use mathlib.Core.Logic.{⊎-elim}
 use lib.ListN.{length, getD, drop, set, length-append, length-drop, length-set, List·getD-append}
 use lib.Seq.{getD-drop, getD-append-seam, getD-set-same, getD-set-other, ext-getD}
 use borrow.Author.Tests.{le-leb, lt-leb}
-use Rattle.cases.proofs.Cases.{split}
+use Rattle.branches.proofs.Branches.{split}
 use Rattle.store.specs.declared.Ring.{Ring}
 use Rattle.store.specs.Ring.{Within, Fit, held, wrap, full, putRing, putBytes, dropRing}
 use Rattle.store.specs.Ring.Basis.{wrap-below, held-length, held-at}

@@ -3,7 +3,7 @@ use Prim.Native.Nat.{ℕ, _+_, _-_, _<_}
 use native.Mathlib.Omega.{arith}
 use mathlib.Core.Path.{_≡_, ap, _∙_}
 use mathlib.Core.Logic.{⊎-elim}
-use Rattle.cases.proofs.Cases.{split}
+use Rattle.branches.proofs.Branches.{split}
 use Rattle.store.specs.Ring.{wrap}
 use Rattle.store.specs.Ring.Basis.{wrap-low, wrap-high}
 

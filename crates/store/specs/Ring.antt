@@ -27,11 +27,11 @@ fitTest cap r = ((eqb (r .cap) cap && ltb (r .oldest) cap) && leb (r .len) cap) 
 pub held : List ℕ → Ring → List ℕ
 held s r = take (r .len) (drop (r .oldest) (s ++ s))
 
--- "Places in a store run from 0 and come round after the last."
+-- Sizes and refusals, places: after the last place comes place 0
 pub wrap : ℕ → ℕ → ℕ
 wrap cap p = cond (leb cap p) (p - cap) p
 
--- "The first byte after create, reset or device clear goes to place 0"
+-- Sizes and refusals, places: an emptied store begins at place 0
 abbrev pub emptyRing : ℕ → Ring
 emptyRing cap = record { cap = cap; oldest = 0; len = 0 }
 
@@ -47,7 +47,7 @@ room r = r .cap - r .len
 unfoldable pub putRing : Ring → Ring
 putRing r = record { cap = r .cap; oldest = r .oldest; len = cond (full r) (r .len) (r .len + 1) }
 
--- "each later one to the place after the one before, and nothing else in a store is written", unless the store is full
+-- Sizes and refusals, places: a byte is written behind the newest one, unless the store is full, and nothing else is
 unfoldable pub putBytes : List ℕ → Ring → ℕ → List ℕ
 putBytes s r b = cond (full r) s (set s (wrap (r .cap) (r .oldest + r .len)) b)
 
@@ -64,6 +64,6 @@ putsBytes s r (b ∷ l) = putsBytes (putBytes s r b) (putRing r) l
 unfoldable pub dropRing : Ring → ℕ → Ring
 dropRing r n = record { cap = r .cap; oldest = wrap (r .cap) (r .oldest + n); len = r .len - n }
 
--- "the longest unbroken run of bytes from the oldest one"
+-- Sizes and refusals, showing: from the oldest byte on, as far as the bytes stand together
 pub run : List ℕ → Ring → List ℕ
 run s r = take (min (r .len) (length s - r .oldest)) (drop (r .oldest) s)

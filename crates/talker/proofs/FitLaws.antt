@@ -5,20 +5,20 @@ use mathlib.Core.Path.{_≡_}
 use mathlib.Core.Bool.{true}
 use lib.Dec.{ltb}
 use borrow.Author.Tests.{ltb-true, lt-ltb}
-use Rattle.cases.proofs.Cases.{and-left, and-right, by-cond}
+use Rattle.branches.proofs.Branches.{and-left, and-right, by-cond}
 use Rattle.role.specs.declared.Order.{Order}
-use Rattle.role.specs.Parts.{isActive}
-use Rattle.role.specs.Fit as role-fit
+use Rattle.role.specs.Role.{isActive}
+use Rattle.role.specs.RoleFit as role-fit
 use Rattle.role.proofs.FitLaws as role-laws
 use Rattle.role.proofs.CommandLaws as command-laws
 use Rattle.role.proofs.ReadyLaws as ready-laws
 use Rattle.talker.specs.declared.Under.{Under}
 use Rattle.talker.specs.declared.Talker.{Talker}
-use Rattle.talker.specs.Parts.{noFrame, startTalker}
-use Rattle.talker.specs.Commands.{forgotten, obeyedTalker}
-use Rattle.talker.specs.ReadyFrames.{assignedTalker, finishingTalker}
-use Rattle.talker.specs.Sending.{talking, endedTalker}
-use Rattle.talker.specs.Fit.{Fit, fitTest}
+use Rattle.talker.specs.Talker.{noFrame, startTalker}
+use Rattle.talker.specs.Obeying.{forgotten, obeyedTalker}
+use Rattle.talker.specs.Readied.{assignedTalker, finishingTalker}
+use Rattle.talker.specs.UnderWay.{talking, endedTalker}
+use Rattle.talker.specs.TalkerFit.{Fit, fitTest}
 
 pub fit-true : (t : Talker) → fitTest t ≡ true → Fit t
 unfolding fitTest

@@ -7,18 +7,18 @@ use borrow.Author.Tests.{eq-eqb, ne-eqb, le-leb, lt-leb}
 use Rattle.frame.specs.Frame.{sameApart}
 use Rattle.role.specs.declared.Role.{Role}
 use Rattle.role.specs.declared.Order.{Order}
-use Rattle.role.specs.Parts.{startRole, withPhase}
+use Rattle.role.specs.Role.{startRole, withPhase}
 use Rattle.role.specs.Commands.{obeyedRole}
 use Rattle.role.specs.ReadyFrames.{assignedRole}
-use Rattle.role.specs.Fit as role-fit
+use Rattle.role.specs.RoleFit as role-fit
 use Rattle.talker.specs.declared.Talker.{Talker}
 use Rattle.talker.specs.declared.Return.the-variants.{Damaged, StatusBack, Finished, Next}
-use Rattle.talker.specs.Parts.{noFrame, startTalker}
-use Rattle.talker.specs.Commands.{forgotten, obeyedTalker}
-use Rattle.talker.specs.ReadyFrames.{assignedTalker}
-use Rattle.talker.specs.Sending.{talking}
+use Rattle.talker.specs.Talker.{noFrame, startTalker}
+use Rattle.talker.specs.Obeying.{forgotten, obeyedTalker}
+use Rattle.talker.specs.Readied.{assignedTalker}
+use Rattle.talker.specs.UnderWay.{talking}
 use Rattle.talker.specs.Returns.{returnOf}
-use Rattle.talker.specs.Fit.{fitTest}
+use Rattle.talker.specs.TalkerFit.{fitTest}
 
 pub start-met : (r : Role) → r ≡ startRole → record { role = r; under = noFrame } ≡ startTalker
 start-met r e = rw e

@@ -3,7 +3,7 @@ use Prim.Native.Nat.{ℕ}
 use mathlib.Core.Bool.{cond}
 use lib.Dec.{eqb}
 use Rattle.frame.specs.Frame.{sameApart}
-use Rattle.role.specs.Parts.{activeStatus}
+use Rattle.role.specs.Role.{activeStatus}
 use Rattle.talker.specs.declared.Talker.{Talker}
 use Rattle.talker.specs.declared.Return.{Return}
 use Rattle.talker.specs.declared.Return.the-variants.{Damaged, StatusBack, Finished, Next}

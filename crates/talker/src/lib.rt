@@ -1,11 +1,11 @@
 // A device's talker: its role on the loop and the frame that it has under way. Stores, registers and what is sent are not known here.
 ghost use mathlib.Core.Path.{_≡_};
-ghost use Rattle.talker.specs.Parts.{startTalker};
-ghost use Rattle.talker.specs.Commands.{obeyedTalker};
-ghost use Rattle.talker.specs.ReadyFrames.{assignedTalker, finishingTalker};
-ghost use Rattle.talker.specs.Sending.{talking, endedTalker};
+ghost use Rattle.talker.specs.Talker.{startTalker};
+ghost use Rattle.talker.specs.Obeying.{obeyedTalker};
+ghost use Rattle.talker.specs.Readied.{assignedTalker, finishingTalker};
+ghost use Rattle.talker.specs.UnderWay.{talking, endedTalker};
 ghost use Rattle.talker.specs.Returns.{returnOf};
-ghost use Rattle.talker.specs.Fit.{fitTest};
+ghost use Rattle.talker.specs.TalkerFit.{fitTest};
 use role::Order;
 use role::Role;
 

@@ -6,26 +6,26 @@ use Rattle.reading.specs.Reading.{inCuts, byCuts}
 use Rattle.reading.specs.Steps.{cut}
 use Rattle.registers.specs.Table.{table, rowIn, carriedOf, startOf, startRegisters}
 use Rattle.registers.specs.Bits.{tooLarge, bitNotCarried, inRange}
-use Rattle.registers.specs.Fit.{values, allInRange, registersFit}
+use Rattle.registers.specs.RegistersFit.{values, allInRange, registersFit}
 use Rattle.registers.specs.Writing.{written, writeChecks}
 use Rattle.role.specs.Orders as orders
 use Rattle.role.specs.Commands as commands
 use Rattle.role.specs.Remote.{obeyedRemote}
 use Rattle.role.specs.ReadyFrames.{readyOf}
-use Rattle.talker.specs.Commands as talker-commands
+use Rattle.talker.specs.Obeying as talker-commands
 use Rattle.talker.specs.Returns.{returnOf}
-use Rattle.talker.specs.Fit as talker-fit
+use Rattle.talker.specs.TalkerFit as talker-fit
 use Rattle.store.specs.Ring.{fitTest, putRing, putBytes, putsRing, putsBytes, dropRing}
 use Rattle.status.specs.Status.{statusByte}
 use Rattle.sending.specs.Sending.{sendHeld, sentRing}
 use Rattle.answers.specs.Answers.{said}
 use Rattle.state.specs.Sizes.{sizesObeyed, startState, fits}
-use Rattle.state.specs.Status as status
+use Rattle.state.specs.Conditions as status
 use Rattle.line.specs.HoldingOff as line
-use Rattle.loops.specs.LoopToLine.{adds, busy, addedState, addedBytes}
-use Rattle.talker.specs.Sending.{talking}
-use Rattle.loops.specs.Sending.{ended, ruleOf, removedState, sendState, sendFrom, sendStatus}
-use Rattle.loops.specs.Frames as frames
+use Rattle.loopside.specs.LoopToLine.{adds, busy, addedState, addedBytes}
+use Rattle.talker.specs.UnderWay.{talking}
+use Rattle.loopside.specs.Sends.{ended, ruleOf, removedState, sendState, sendFrom, sendStatus}
+use Rattle.loopside.specs.Frames as frames
 use Rattle.bridge.specs.Calls as calls
 use Rattle.laws.specs.Observers as see
 use Rattle.laws.specs.StatusWay as way
@@ -80,7 +80,7 @@ unfolding line.isGoOrStop line.flowed line.storedWith line.lostState line.lineSt
 line-open = tt
 
 unfoldable out-open : Unit {0}
-unfolding line.nextOut line.goneState line.outAnswer adds busy addedState addedBytes
+unfolding line.nextOut line.afterGiving line.outAnswer adds busy addedState addedBytes
 out-open = tt
 
 unfoldable sends-open : Unit {0}

@@ -7,7 +7,7 @@ use mathlib.Core.List.{List, [], _∷_}
 use lib.Dec.{eqb, leb, ltb}
 use lib.ListN.{length, take, drop}
 use borrow.Author.Tests.{ltb-true, leb-true, eqb-true, eq-eqb}
-use Rattle.cases.proofs.Cases.{and-left, and-right}
+use Rattle.branches.proofs.Branches.{and-left, and-right}
 use Rattle.store.specs.Ring.{held, wrap}
 use Rattle.store.specs.Bytes.{Bytes}
 use Rattle.store.proofs.Laws.{held-unbroken, wrap-low}

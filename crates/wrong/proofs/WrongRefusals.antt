@@ -6,7 +6,7 @@ use lib.Dec.{eqb}
 use Rattle.frame.specs.Frame.{made}
 use Rattle.answers.specs.Answers.{isRefusal}
 use Rattle.bridge.specs.Calls.{write, key, nextLineByte, show, on, World}
-use Rattle.laws.specs.Answers.{AnswersSo, RefusedExactly}
+use Rattle.laws.specs.Answering.{AnswersSo, RefusedExactly}
 use Rattle.laws.specs.Demands.{RefusedStays, OneFrameOut}
 use Rattle.wrong.specs.SmallWorlds.{fresh, misfitting, listening, nearlyFull, takes, takesCommand}
 use Rattle.wrong.specs.Changing.{heedless}

@@ -4,7 +4,7 @@ use mathlib.Core.Path.{_≡_, refl}
 use mathlib.Core.Bool.{true, false}
 use mathlib.Core.List.{List, [], _∷_, map}
 use Rattle.frame.specs.Frame.{isData}
-use Rattle.role.specs.Parts.{addressed, activeData}
+use Rattle.role.specs.Role.{addressed, activeData}
 use Rattle.store.specs.Ring.{held}
 use Rattle.answers.specs.Answers.{frame}
 use Rattle.bridge.specs.Calls.{Call, on, loopFrame, World, Did}

@@ -4,7 +4,7 @@ use mathlib.Core.Bool.{Bool, false≢true, true≢false}
 use lib.Dec.{eqb}
 use Rattle.role.specs.declared.Role.{Role}
 use Rattle.role.specs.declared.remote.Remote.{Remote}
-use Rattle.role.specs.Parts.{isTalker, isActive, isUnassigned}
+use Rattle.role.specs.Role.{isTalker, isActive, isUnassigned}
 use Rattle.laws.specs.Fitting.{KeepsFit}
 use Rattle.laws.specs.Roles.{RoleGoes, RemoteGoes}
 use Rattle.wrong.specs.SmallWorlds.{fresh, assigned, listening, addressedTalker, activeTalker, takes, takesCommand, takesReady}

@@ -3,7 +3,7 @@ use mathlib.Core.Path.{refl, ap}
 use mathlib.Core.Bool.{false≢true, true≢false}
 use mathlib.Core.List.{[]}
 use lib.Dec.{eqb}
-use Rattle.role.specs.Parts.{isUnassigned}
+use Rattle.role.specs.Role.{isUnassigned}
 use Rattle.state.specs.declared.State.{State}
 use Rattle.state.specs.declared.Counts.{Counts}
 use Rattle.bridge.specs.Calls.{reset, write, create, on}

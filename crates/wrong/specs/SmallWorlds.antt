@@ -6,11 +6,11 @@ use Rattle.frame.specs.Frame.{made}
 use Rattle.registers.specs.Table.{startRegisters}
 use Rattle.registers.specs.Writing.{written}
 use Rattle.role.specs.declared.Role.{Role}
-use Rattle.role.specs.Parts.{withPhase}
+use Rattle.role.specs.Role.{withPhase}
 use Rattle.state.specs.declared.State.{State}
 use Rattle.state.specs.Sizes.{startState}
 use Rattle.state.specs.State.{withRegisters, withRemote, withRx, withTx, withCounts}
-use Rattle.state.specs.Status.{withRequest}
+use Rattle.state.specs.Conditions.{withRequest}
 use Rattle.bridge.specs.Calls.{Call, on, loopFrame, World, world}
 use Rattle.laws.specs.Events.{Event}
 use Rattle.wrong.specs.Changing.{withRole, withUnder}

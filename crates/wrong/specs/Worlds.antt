@@ -7,7 +7,7 @@ use Rattle.frame.specs.Frame.{made}
 use Rattle.registers.specs.Table.{startRegisters}
 use Rattle.registers.specs.Writing.{written}
 use Rattle.store.specs.declared.Ring.{Ring}
-use Rattle.role.specs.Parts.{startRole, addressed, activeData, activeStatus, withPhase, withListener}
+use Rattle.role.specs.Role.{startRole, addressed, activeData, activeStatus, withPhase, withListener}
 use Rattle.state.specs.Sizes.{startState}
 use Rattle.state.specs.State.{withRegisters, withRx, withTx, withLine, withCounts}
 use Rattle.bridge.specs.Calls.{World, world}

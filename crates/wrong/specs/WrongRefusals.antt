@@ -3,7 +3,7 @@ use mathlib.Core.Bool.{true, false, cond, _&&_}
 use lib.Dec.{eqb}
 use Rattle.frame.specs.Frame.{controlOf, isData}
 use Rattle.answers.specs.Answers.{done}
-use Rattle.loops.specs.Frames.{addsBytes}
+use Rattle.loopside.specs.Frames.{addsBytes}
 use Rattle.bridge.specs.Calls.{nextLineByte, Call, World, Did, misfit, notRefused, step}
 use Rattle.laws.specs.Observers.{any, lineByteOf, onFrame, onWrite, onOne}
 use Rattle.wrong.specs.Changing.{instead, answering, answeringFrame, refusing, isShow}

@@ -3,10 +3,10 @@ use Prim.Native.Nat.{ℕ}
 use mathlib.Core.Bool.{Bool, false, cond, _&&_, not}
 use lib.Dec.{eqb}
 use Rattle.frame.specs.Frame.{made, isData}
-use Rattle.role.specs.Parts.{activeData, isActive}
+use Rattle.role.specs.Role.{activeData, isActive}
 use Rattle.answers.specs.Answers.{frame}
-use Rattle.talker.specs.Parts.{noFrame}
-use Rattle.talker.specs.Sending.{endedTalker}
+use Rattle.talker.specs.Talker.{noFrame}
+use Rattle.talker.specs.UnderWay.{endedTalker}
 use Rattle.state.specs.State.{withTalker}
 use Rattle.bridge.specs.Calls.{Call, World, world, Did}
 use Rattle.laws.specs.Observers.{any, onFrame, equalReturn, sent}

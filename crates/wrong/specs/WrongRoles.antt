@@ -4,7 +4,7 @@ use mathlib.Core.Bool.{Bool, true, false, cond, _&&_}
 use lib.Dec.{eqb, leb, ltb}
 use Rattle.frame.specs.Frame.{controlOf, dataOf, isData}
 use Rattle.role.specs.declared.Role.{Role}
-use Rattle.role.specs.Parts.{isUnassigned, isActive, withAddress, withPhase, withListener}
+use Rattle.role.specs.Role.{isUnassigned, isActive, withAddress, withPhase, withListener}
 use Rattle.role.specs.Orders.{numberOf}
 use Rattle.state.specs.State.{withRemote}
 use Rattle.bridge.specs.Calls.{Call, World, Did}

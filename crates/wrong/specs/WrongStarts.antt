@@ -4,7 +4,7 @@ use mathlib.Core.Bool.{cond}
 use lib.Dec.{eqb}
 use Rattle.registers.specs.Table.{startRegisters}
 use Rattle.registers.specs.Writing.{written}
-use Rattle.role.specs.Parts.{withAddress}
+use Rattle.role.specs.Role.{withAddress}
 use Rattle.state.specs.declared.State.{State}
 use Rattle.answers.specs.Answers.{done}
 use Rattle.state.specs.State.{withRegisters, withCounts}

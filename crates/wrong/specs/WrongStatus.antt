@@ -7,8 +7,8 @@ use Rattle.status.specs.declared.Conditions.{Conditions}
 use Rattle.status.specs.Status.{statusByte, both, begins}
 use Rattle.state.specs.declared.State.{State}
 use Rattle.answers.specs.Answers.{done}
-use Rattle.state.specs.Status.{conditions, enabledBy, serviced, statusOf, withRequest}
-use Rattle.state.specs.Status as state
+use Rattle.state.specs.Conditions.{conditions, enabledBy, serviced, statusOf, withRequest}
+use Rattle.state.specs.Conditions as state
 use Rattle.bridge.specs.Calls.{Call, World, world, Did, step}
 use Rattle.laws.specs.Observers.{any, taken, onFrame, asksStatus, statusSent, clears, empties}
 use Rattle.laws.specs.Passing.{asFrame}

@@ -3,7 +3,7 @@ use Prim.Native.Nat.{ℕ}
 use mathlib.Core.Bool.{false, _&&_, _||_}
 use lib.Dec.{eqb}
 use Rattle.frame.specs.Frame.{made, isData}
-use Rattle.role.specs.Parts.{activeStatus}
+use Rattle.role.specs.Role.{activeStatus}
 use Rattle.answers.specs.Answers.{done}
 use Rattle.bridge.specs.Calls.{Call, World, Did}
 use Rattle.laws.specs.Events.{Event, noted}

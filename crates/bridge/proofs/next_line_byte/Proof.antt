@@ -16,8 +16,8 @@ next-out-requires c κs =
     let a = c .before .before .before .before .args in
     tx-fits (a .s) (now (a .rx)) (now (a .tx)) (is-fit (c .before .state-fits .ensures) (c .if1 .left))
 
-gone-requires : tie.Need-gone-requires
-gone-requires c κs =
+after-giving-requires : tie.Need-after-giving-requires
+after-giving-requires c κs =
     let a = c .before .before .before .before .before .before .args in
     (tx-fits (a .s) (now (a .rx)) (now (a .tx)) (is-fit (c .before .before .before .state-fits .ensures) (c .before .before .if1 .left)), c .before .next-out .ensures)
 
@@ -25,7 +25,7 @@ returns-2 : tie.Need-returns-2
 returns-2 c =
     let a = c .before .before .before .before .before .before .before .before .args in
     next-done (a .s) (now (a .rx)) (now (a .tx)) (is-fit (c .before .before .before .before .before .state-fits .ensures) (c .before .before .before .before .if1 .left)) _ _ _ _
-    (c .before .before .before .next-out .ensures) (c .before .before .out-answer .ensures) (c .before .gone .ensures) (c .settled .ensures)
+    (c .before .before .before .next-out .ensures) (c .before .before .out-answer .ensures) (c .before .after-giving .ensures) (c .settled .ensures)
 
 pub next-line-byte-spec : {M : Type 1} → statement M
 next-line-byte-spec =
@@ -36,6 +36,6 @@ next-line-byte-spec =
     returns
     next-out-requires
     (λ c κs. search needs)
-    gone-requires
+    after-giving-requires
     (λ c κs. search needs)
     returns-2)

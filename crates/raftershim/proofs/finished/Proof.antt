@@ -1,5 +1,5 @@
 use mathlib.Core.Path.{sym, _∙_}
-use Rattle.cases.proofs.Cases.{cond-true, cond-false}
+use Rattle.branches.proofs.Branches.{cond-true, cond-false}
 use borrow.Author.Needs.{needs}
 use Rattle.raftershim.proofs.finished.Statement.{statement}
 use Rattle.raftershim.proofs.finished.Tie as tie

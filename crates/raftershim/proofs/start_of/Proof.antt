@@ -1,4 +1,4 @@
-use Rattle.cases.proofs.Cases.{cases}
+use Rattle.branches.proofs.Branches.{branches}
 use Rattle.raftershim.proofs.start_of.Statement.{statement}
 use Rattle.raftershim.proofs.start_of.Tie as tie
 
@@ -6,5 +6,5 @@ pub start-of-spec : {M : Type 1} → statement M
 start-of-spec =
     tie.close
     (tie.spec
-    (λ c. search cases)
-    (λ c. search cases))
+    (λ c. search branches)
+    (λ c. search branches))

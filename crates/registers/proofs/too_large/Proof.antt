@@ -1,5 +1,5 @@
 -- `registers::too_large` meets its contract: each way out rewrites the definition with the test that led there.
-use Rattle.cases.proofs.Cases.{cases}
+use Rattle.branches.proofs.Branches.{branches}
 use Rattle.registers.specs.Bits.{tooLarge}
 use Rattle.registers.proofs.too_large.Statement.{statement}
 use Rattle.registers.proofs.too_large.Tie as tie
@@ -9,5 +9,5 @@ unfolding tooLarge
 too-large-spec =
     tie.close
     (tie.spec
-    (λ c. search cases)
-    (λ c. search cases))
+    (λ c. search branches)
+    (λ c. search branches))

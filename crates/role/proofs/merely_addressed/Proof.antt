@@ -1,5 +1,5 @@
 -- `role::merely_addressed` meets its contract: each way out rewrites the definition with the tests that led there.
-use Rattle.cases.proofs.Cases.{cases}
+use Rattle.branches.proofs.Branches.{branches}
 use Rattle.role.specs.Commands.{merelyAddressed}
 use Rattle.role.proofs.merely_addressed.Statement.{statement}
 use Rattle.role.proofs.merely_addressed.Tie as tie
@@ -9,5 +9,5 @@ unfolding merelyAddressed
 merely-addressed-spec =
     tie.close
     (tie.spec
-    (λ c. search cases)
-    (λ c. search cases))
+    (λ c. search branches)
+    (λ c. search branches))

@@ -1,5 +1,5 @@
 -- `role::other_order` meets its contract: each way out rewrites the definition with the tests that led there.
-use Rattle.cases.proofs.Cases.{cases}
+use Rattle.branches.proofs.Branches.{branches}
 use Rattle.role.specs.Orders.{otherOrder}
 use Rattle.role.proofs.other_order.Statement.{statement}
 use Rattle.role.proofs.other_order.Tie as tie
@@ -9,10 +9,10 @@ unfolding otherOrder
 other-order-spec =
     tie.close
     (tie.spec
-    (λ c. search cases)
-    (λ c. search cases)
-    (λ c. search cases)
-    (λ c. search cases)
-    (λ c. search cases)
-    (λ c. search cases)
-    (λ c. search cases))
+    (λ c. search branches)
+    (λ c. search branches)
+    (λ c. search branches)
+    (λ c. search branches)
+    (λ c. search branches)
+    (λ c. search branches)
+    (λ c. search branches))

@@ -1,5 +1,5 @@
 -- `role::own_address` meets its contract: each way out rewrites the definition with the tests that led there.
-use Rattle.cases.proofs.Cases.{cases}
+use Rattle.branches.proofs.Branches.{branches}
 use Rattle.role.specs.Orders.{ownAddress}
 use Rattle.role.proofs.own_address.Statement.{statement}
 use Rattle.role.proofs.own_address.Tie as tie
@@ -9,5 +9,5 @@ unfolding ownAddress
 own-address-spec =
     tie.close
     (tie.spec
-    (λ c. search cases)
-    (λ c. search cases))
+    (λ c. search branches)
+    (λ c. search branches))

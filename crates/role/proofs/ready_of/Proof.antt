@@ -1,6 +1,6 @@
 -- `role::ready_of` meets its contract: each way out rewrites the definition with the tests that led there.
 use borrow.Author.Needs.{needs}
-use Rattle.cases.proofs.Cases.{cases}
+use Rattle.branches.proofs.Branches.{branches}
 use Rattle.role.specs.ReadyFrames.{readyOf}
 use Rattle.role.proofs.ready_of.Statement.{statement}
 use Rattle.role.proofs.ready_of.Tie as tie
@@ -11,8 +11,8 @@ ready-of-spec =
     tie.close
     (tie.spec
     (λ c. search needs)
-    (λ c. search cases)
-    (λ c. search cases)
-    (λ c. search cases)
-    (λ c. search cases)
-    (λ c. search cases))
+    (λ c. search branches)
+    (λ c. search branches)
+    (λ c. search branches)
+    (λ c. search branches)
+    (λ c. search branches))

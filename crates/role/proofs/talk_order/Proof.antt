@@ -1,5 +1,5 @@
 -- `role::talk_order` meets its contract: each way out rewrites the definition with the tests that led there.
-use Rattle.cases.proofs.Cases.{cases}
+use Rattle.branches.proofs.Branches.{branches}
 use Rattle.role.specs.Orders.{talkOrder}
 use Rattle.role.proofs.talk_order.Statement.{statement}
 use Rattle.role.proofs.talk_order.Tie as tie
@@ -9,5 +9,5 @@ unfolding talkOrder
 talk-order-spec =
     tie.close
     (tie.spec
-    (λ c. search cases)
-    (λ c. search cases))
+    (λ c. search branches)
+    (λ c. search branches))

@@ -5,14 +5,14 @@ use Rattle.sending.proofs.Chain.{enough, end-met, data-met, wait-met, n
 use Rattle.sending.proofs.send_one.Statement.{statement}
 use Rattle.sending.proofs.send_one.Tie as tie
 
-gone-requires : tie.Need-gone-requires
-gone-requires c κs =
+one-frame-requires : tie.Need-one-frame-requires
+one-frame-requires c κs =
     let d = c .before .before in
     let l = d .before .skipped .ensures .left in
     (l .fit, enough _ _ _ End (l .fit) (sym (d .decided .ensures) ∙ c .enum-told .given .1))
 
-gone-requires-2 : tie.Need-gone-requires-2
-gone-requires-2 c κs =
+one-frame-requires-2 : tie.Need-one-frame-requires-2
+one-frame-requires-2 c κs =
     let d = c .before .before in
     let l = d .before .skipped .ensures .left in
     (l .fit, enough _ _ _ Data (l .fit) (sym (d .decided .ensures) ∙ c .enum-told2 .given .1))
@@ -20,12 +20,12 @@ gone-requires-2 c κs =
 returns : tie.Need-returns
 returns c =
     let d = c .before .before .before in
-    end-met _ _ _ _ (d .before .before .before .pre) (d .before .skipped .ensures .left) _ (sym (d .decided .ensures) ∙ c .before .enum-told .given .1) (c .gone .ensures)
+    end-met _ _ _ _ (d .before .before .before .pre) (d .before .skipped .ensures .left) _ (sym (d .decided .ensures) ∙ c .before .enum-told .given .1) (c .one-frame .ensures)
 
 returns-2 : tie.Need-returns-2
 returns-2 c =
     let d = c .before .before .before in
-    data-met _ _ _ _ (d .before .before .before .pre) (d .before .skipped .ensures .left) _ (sym (d .decided .ensures) ∙ c .before .enum-told2 .given .1) (c .gone2 .ensures)
+    data-met _ _ _ _ (d .before .before .before .pre) (d .before .skipped .ensures .left) _ (sym (d .decided .ensures) ∙ c .before .enum-told2 .given .1) (c .one-frame2 .ensures)
 
 returns-3 : tie.Need-returns-3
 returns-3 c =
@@ -44,9 +44,9 @@ send-one-spec =
     (λ c κs. search needs)
     (λ c κs. search needs)
     (λ c. search needs)
-    gone-requires
+    one-frame-requires
     (λ c. search needs)
-    gone-requires-2
+    one-frame-requires-2
     (λ c. search needs)
     (λ c. search needs)
     returns

@@ -1,4 +1,4 @@
-use Rattle.state.specs.Status.{breakState}
+use Rattle.state.specs.Conditions.{breakState}
 use borrow.Author.Needs.{needs}
 use Rattle.state.proofs.requests.broken.Statement.{statement}
 use Rattle.state.proofs.requests.broken.Tie as tie

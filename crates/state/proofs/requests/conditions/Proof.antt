@@ -1,4 +1,4 @@
-use Rattle.state.specs.Status.{conditions}
+use Rattle.state.specs.Conditions.{conditions}
 use borrow.Author.Needs.{needs}
 use Rattle.state.proofs.requests.conditions.Statement.{statement}
 use Rattle.state.proofs.requests.conditions.Tie as tie

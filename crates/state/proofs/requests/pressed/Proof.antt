@@ -1,4 +1,4 @@
-use Rattle.state.specs.Status.{keyState}
+use Rattle.state.specs.Conditions.{keyState}
 use borrow.Author.Needs.{needs}
 use Rattle.state.proofs.requests.pressed.Statement.{statement}
 use Rattle.state.proofs.requests.pressed.Tie as tie

@@ -1,3 +1,0 @@
-pub mod LoopToLine
-pub mod Sending
-pub mod Frames

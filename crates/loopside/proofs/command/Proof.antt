@@ -1,0 +1,26 @@
+use Rattle.loopside.proofs.Parts.{command-clears, command-other}
+use borrow.Author.Needs.{needs}
+use Rattle.loopside.proofs.command.Statement.{statement}
+use Rattle.loopside.proofs.command.Tie as tie
+
+returns : tie.Need-returns
+returns c =
+    command-clears _ _ _ _ _ _ (c .before .before .before .before .before .data-byte .ensures) (c .before .before .before .before .order-of .ensures)
+    (c .before .before .before .obey .ensures) (c .before .before .is-clear .ensures) _ (c .before .if1 .taken) (c .clear .ensures)
+
+returns-2 : tie.Need-returns-2
+returns-2 c =
+    command-other _ _ _ _ _ _ (c .before .before .before .before .data-byte .ensures) (c .before .before .before .order-of .ensures)
+    (c .before .before .obey .ensures) (c .before .is-clear .ensures) (c .if1 .left)
+
+pub command-spec : {M : Type 1} → statement M
+command-spec =
+    tie.close
+    (tie.spec
+    (λ c κs. search needs)
+    (λ c κs. search needs)
+    (λ c κs. search needs)
+    (λ c κs. search needs)
+    (λ c κs. search needs)
+    returns
+    returns-2)

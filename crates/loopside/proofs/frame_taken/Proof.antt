@@ -1,0 +1,30 @@
+use mathlib.Core.Path.{sym, _∙_}
+use Rattle.loopside.proofs.Taken.{taken-back, taken-passed, taken-command, taken-ready, taken-identify, identify-met}
+use borrow.Author.Needs.{needs}
+use Rattle.loopside.proofs.frame_taken.Statement.{statement}
+use Rattle.loopside.proofs.frame_taken.Tie as tie
+
+pub frame-taken-spec : {M : Type 1} → statement M
+frame-taken-spec =
+    tie.close
+    (tie.spec
+    (λ c κs. search needs)
+    (λ c κs. search needs)
+    (λ c. taken-back _ _ _ _ _ (sym (c .before .before .before .before .is-data .ensures) ∙ c .before .before .before .if1 .taken)
+    (c .before .if2 .taken) (c .back .ensures))
+    (λ c κs. search needs)
+    (λ c. search needs)
+    (λ c. taken-passed _ _ _ _ _ _ (sym (c .before .before .before .before .before .before .before .is-data .ensures) ∙ c .before .before .before .before .before .before .if1 .taken)
+    (c .before .before .before .before .if2 .left) (c .before .before .pass-data .ensures))
+    (λ c κs. search needs)
+    (λ c κs. search needs)
+    (λ c. taken-command _ _ _ _ _ (sym (c .before .before .before .before .is-data .ensures) ∙ c .before .before .before .if1 .left)
+    (sym (c .before .before .control .ensures) ∙ c .before .if3 .taken) (c .command .ensures))
+    (λ c κs. search needs)
+    (λ c. taken-ready _ _ _ _ _ (sym (c .before .before .before .before .before .is-data .ensures) ∙ c .before .before .before .before .if1 .left)
+    (λ e. c .before .before .if3 .left (c .before .before .before .control .ensures ∙ e))
+    (sym (c .before .before .before .control .ensures) ∙ c .before .if4 .taken) (c .readied .ensures))
+    (λ c κs. search needs)
+    (λ c. taken-identify _ _ _ _ _ (sym (c .before .before .before .before .before .is-data .ensures) ∙ c .before .before .before .before .if1 .left)
+    (λ e. c .before .before .if3 .left (c .before .before .before .control .ensures ∙ e))
+    (λ e. c .before .if4 .left (c .before .before .before .control .ensures ∙ e)) (identify-met _ _ _ (c .serviced .ensures))))

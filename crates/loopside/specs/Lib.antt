@@ -1,0 +1,3 @@
+pub mod LoopToLine
+pub mod Sends
+pub mod Frames
