@@ -14,13 +14,10 @@ use Rattle.state.specs.declared.Out.{Out}
 use Rattle.answers.specs.Answers.{said}
 use Rattle.state.specs.Sizes.{sizesObeyed, startState, fits}
 use Rattle.loopside.specs.LoopToLine.{busy}
-use Rattle.loopside.specs.Frames.{deviceClear, Framed}
+use Rattle.loopside.specs.Frames.{frameSettled, Framed}
 use Rattle.line.specs.HoldingOff.{nextOut, afterGiving, outAnswer}
-use Rattle.state.specs.Conditions.{settled}
-use Rattle.bridge.specs.Calls.{OnState, world, Did, did, handed, checksOn, checks, doneWith, refusedWith, outcome, settledOutcome, settledBy, rxAfter, txAfter, shown, notRefused, refusedOr, step, unmade, nextLineByte, loopFrame, create, show, on}
-
-pub settled-met : (s : State) (o : Outcome) (t : State) → t ≡ settled s (o .state) → record { state = t; answer = o .answer } ≡ settledOutcome s o
-settled-met s o t p = rw p
+use Rattle.state.specs.Conditions.{settled, settledOutcome}
+use Rattle.bridge.specs.Calls.{OnState, world, Did, did, handed, checksOn, checks, doneWith, refusedWith, outcome, settledBy, rxAfter, txAfter, shown, notRefused, refusedOr, step, unmade, nextLineByte, loopFrame, create, show, on}
 
 -- the checks of a loop frame after the one for a misfit
 abbrev frameChecks : State → ℕ → List Check
@@ -67,14 +64,9 @@ module _ (s : State) (rx tx : List ℕ) (e : fits s (length rx) (length tx) ≡ 
   unfolding checksOn
   frame-busy f h b = rw (le-ltb 2047 f h, b)
 
-  module _ (f : ℕ) (tx′ : List ℕ) (o : Outcome) (h : f ≤ 2047) (b : busy s f ≡ false) (q : Framed s rx tx f tx′ o) where
-    pub frame-clears : deviceClear s f ≡ true → did o rx tx′ ≡ step (on (loopFrame f)) (world s rx tx)
-    unfolding checksOn notRefused outcome settledBy rxAfter txAfter
-    frame-clears k = fit-met (loopFrame f) (did o rx tx′) (rw (le-ltb 2047 f h, b)) (rw (q .outcome, q .bytes, k))
-
-    pub frame-settled : (p : Outcome) → deviceClear s f ≡ false → p ≡ settledOutcome s o → did p rx tx′ ≡ step (on (loopFrame f)) (world s rx tx)
-    unfolding checksOn notRefused outcome settledBy rxAfter txAfter
-    frame-settled p k e = fit-met (loopFrame f) (did p rx tx′) (rw (le-ltb 2047 f h, b)) (rw (e, q .outcome, q .bytes, k))
+  pub frame-done : (f : ℕ) (tx′ : List ℕ) (o : Outcome) → f ≤ 2047 → busy s f ≡ false → Framed s rx tx f tx′ o → did o rx tx′ ≡ step (on (loopFrame f)) (world s rx tx)
+  unfolding checksOn notRefused outcome settledBy rxAfter txAfter frameSettled
+  frame-done f tx′ o h b q = fit-met (loopFrame f) (did o rx tx′) (rw (le-ltb 2047 f h, b)) (rw (q .outcome, q .bytes))
 
   pub show-receive : (p : List ℕ) → p ≡ run rx (s .rx) → (side : ℕ) → side ≡ 0 → handed p (world s rx tx) ≡ step (show side) (world s rx tx)
   unfolding step checks refusedOr notRefused shown

@@ -142,10 +142,6 @@ outcome key w = doneWith (keyState (w .state))
 outcome nextLineByte w = record { state = afterGiving (w .state) (nextOut (w .state) (w .tx)); answer = outAnswer (nextOut (w .state) (w .tx)) }
 outcome (loopFrame f) w = frameTaken (w .state) (w .rx) f
 
--- an outcome with the request that the call on this state began
-abbrev pub settledOutcome : State → Outcome → Outcome
-settledOutcome s o = record { state = settled s (o .state); answer = o .answer }
-
 -- Status byte, requests: one begins in any call on a state, and a device clear leaves none
 unfoldable pub settledBy : OnState → State → State → State
 settledBy c s t = cond (ofFrame (deviceClear s) false c) t (settled s t)

@@ -1,6 +1,7 @@
 // The bridge: a software HP-IL/RS-232 interface. The state goes in by value and comes back; both stores are lent at every call.
 ghost use mathlib.Core.Path.{_≡_};
-ghost use Rattle.bridge.specs.Calls.{Promised, unmade, world, did, handed, doneWith, settledOutcome, refusedWith, on, create, reset, write, lineByte, lineBreak, key, nextLineByte, loopFrame, show};
+ghost use Rattle.state.specs.Conditions.{settledOutcome};
+ghost use Rattle.bridge.specs.Calls.{Promised, unmade, world, did, handed, doneWith, refusedWith, on, create, reset, write, lineByte, lineBreak, key, nextLineByte, loopFrame, show};
 use answers::Answer;
 use state::Outcome;
 use state::State;
@@ -15,24 +16,11 @@ fn refused(s: State, n: u8) -> Outcome
     }
 }
 
-// What a call on a state gives, with the request that it began: requests begin here and nowhere else.
-fn settled(before: State, o: Outcome) -> Outcome
-    ensures { λ r. ⌜ r ≡ settledOutcome before o ⌝ }
-{
-    let after = o.state;
-    let answer = o.answer;
-    let t = state::requests::settled(before, after);
-    Outcome {
-        state: t,
-        answer: answer,
-    }
-}
-
 // What a call on a state gives that has nothing to hand out.
 fn done(before: State, after: State) -> Outcome
     ensures { λ r. ⌜ r ≡ settledOutcome before (doneWith after) ⌝ }
 {
-    settled(
+    state::requests::settle(
         before,
         Outcome {
             state: after,
@@ -125,7 +113,7 @@ pub fn next_line_byte(s: State, rx: &[u8], tx: &[u8]) -> Outcome
     let o = line::next_out(s, tx);
     let a = line::out_answer(o);
     let t = line::after_giving(s, tx, o);
-    settled(
+    state::requests::settle(
         s,
         Outcome {
             state: t,
@@ -148,11 +136,7 @@ pub fn loop_frame(s: State, rx: &[u8], tx: &mut [u8], frame: u32) -> Outcome
     if loopside::busy(s, f) {
         return refused(s, 4);
     }
-    let o = loopside::frame_taken(s, rx, tx, f);
-    if loopside::device_clear(s, f) {
-        return o;
-    }
-    settled(s, o)
+    loopside::frame_taken(s, rx, tx, f)
 }
 
 // Shows the longest unbroken run of bytes from the oldest one: side 0 of the receive store, side 1 of the transmit store.

@@ -1,9 +1,11 @@
 -- Data frames that pass, and a frame taken by its kind. Assumes nothing.
 use Prim.Native.Nat.{ℕ, _≤_, _<_}
+use native.Mathlib.Omega.{arith}
+use lib.Dec.{eqb}
 use mathlib.Core.Path.{_≡_, refl, sym, ap, _∙_}
 use mathlib.Core.List.{List}
 use mathlib.Core.Bool.{true, false, cond}
-use borrow.Author.Tests.{eq-eqb, ne-eqb, le-leb, lt-leb}
+use borrow.Author.Tests.{eq-eqb, ne-eqb, le-leb, lt-leb, ltb-true}
 use Rattle.branches.proofs.Branches.{cond-true, cond-false}
 use Rattle.frame.specs.Frame.{controlOf, isData}
 use Rattle.store.specs.declared.Ring.{Ring}
@@ -14,8 +16,9 @@ use Rattle.state.specs.declared.Outcome.{Outcome}
 use Rattle.answers.specs.declared.Answer.the-variants.{Frame}
 use Rattle.state.specs.State.{withTx}
 use Rattle.loopside.specs.LoopToLine.{adds, addedState, addedBytes, Added}
-use Rattle.state.specs.Conditions.{serviced}
-use Rattle.loopside.specs.Frames.{command, ready, returned, dataPassed, Passed, identify, frameTaken, addsBytes, frameBytes, Framed}
+use Rattle.state.specs.Conditions.{serviced, settledOutcome}
+use Rattle.loopside.specs.Frames.{command, ready, returned, dataPassed, Passed, identify, frameTaken, deviceClear, settledFrame}
+use Rattle.loopside.specs.Frames.{frameSettled, addsBytes, frameBytes, Framed}
 
 -- the transmit store with what a frame adds
 pub left-met : (s : State) (tx : List ℕ) (f : ℕ) (tx′ : List ℕ) (o : Ring) (l : List ℕ) → adds (s .regs) f ≡ l → Puts tx (s .tx) l tx′ o → Added s tx f tx′ (withTx s o)
@@ -48,32 +51,54 @@ module _ (s : State) (tx : List ℕ) (f x : ℕ) (q : x ≡ serviced s f) where
         size = refl;
       }
 
-module _ (s : State) (rx tx : List ℕ) (f : ℕ) (o : Outcome) where
-  pub taken-back : isData f ≡ true → 2 ≤ s .talker .role .phase → o ≡ returned s rx f → Framed s rx tx f tx o
-  unfolding frameTaken frameBytes addsBytes
-  taken-back e h a =
-      let r = le-leb 2 (s .talker .role .phase) h in
-      record { outcome = rw (a, e, r); bytes = rw (e, r); size = refl }
+-- a frame by whether it is a device clear
+module _ (s : State) (f : ℕ) (o q : Outcome) (e : o ≡ q) where
+  pub settled-clear : deviceClear s f ≡ true → o ≡ settledFrame s f q
+  settled-clear k = rw (e, k)
 
-  pub taken-passed : (tx′ : List ℕ) → isData f ≡ true → s .talker .role .phase < 2 → Passed s tx f tx′ o → Framed s rx tx f tx′ o
-  unfolding frameTaken frameBytes addsBytes
-  taken-passed tx′ e h a =
+  pub settled-other : deviceClear s f ≡ false → (r : Outcome) → r ≡ settledOutcome s o → r ≡ settledFrame s f q
+  settled-other k r h = rw (h, e, k)
+
+-- a frame that is no command is no device clear
+no-clear : (s : State) (f : ℕ) → eqb (controlOf f) 4 ≡ false → deviceClear s f ≡ false
+unfolding deviceClear
+no-clear s f e = rw e
+
+module _ (s : State) (rx tx : List ℕ) (f : ℕ) (o : Outcome) where
+  -- a data frame is no command
+  data-other : isData f ≡ true → eqb (controlOf f) 4 ≡ false
+  data-other e = ne-eqb (controlOf f) 4 (λ h. omega (arith, ltb-true (controlOf f) 4 e))
+
+  pub taken-back : (p : Outcome) → isData f ≡ true → 2 ≤ s .talker .role .phase → p ≡ returned s rx f → o ≡ settledOutcome s p → Framed s rx tx f tx o
+  unfolding frameSettled frameTaken frameBytes addsBytes
+  taken-back p e h a b =
+      let r = le-leb 2 (s .talker .role .phase) h in
+      record { outcome = rw (b, a, no-clear s f (data-other e), e, r); bytes = rw (e, r); size = refl }
+
+  pub taken-passed : (p : Outcome) (tx′ : List ℕ) → isData f ≡ true → s .talker .role .phase < 2 → Passed s tx f tx′ p → o ≡ settledOutcome s p →
+      Framed s rx tx f tx′ o
+  unfolding frameSettled frameTaken frameBytes addsBytes
+  taken-passed p tx′ e h a b =
       let r = lt-leb 2 (s .talker .role .phase) h in
-      record { outcome = rw (a .outcome, e, r); bytes = rw (e, r) (a .bytes); size = a .size }
+      record { outcome = rw (b, a .outcome, no-clear s f (data-other e), e, r); bytes = rw (e, r) (a .bytes); size = a .size }
 
   module _ (e : isData f ≡ false) where
-    pub taken-command : controlOf f ≡ 4 → o ≡ command s f → Framed s rx tx f tx o
-    unfolding frameTaken frameBytes addsBytes
+    pub taken-command : controlOf f ≡ 4 → o ≡ settledFrame s f (command s f) → Framed s rx tx f tx o
+    unfolding frameSettled frameTaken frameBytes addsBytes
     taken-command h a = record { outcome = rw (a, e, eq-eqb (controlOf f) 4 h); bytes = rw e; size = refl }
 
     module _ (h : controlOf f ≡ 4 → ⊥) where
-      pub taken-ready : controlOf f ≡ 5 → o ≡ ready s rx f → Framed s rx tx f tx o
-      unfolding frameTaken frameBytes addsBytes
-      taken-ready k a = record { outcome = rw (a, e, ne-eqb (controlOf f) 4 h, eq-eqb (controlOf f) 5 k); bytes = rw e; size = refl }
+      pub taken-ready : (p : Outcome) → controlOf f ≡ 5 → p ≡ ready s rx f → o ≡ settledOutcome s p → Framed s rx tx f tx o
+      unfolding frameSettled frameTaken frameBytes addsBytes
+      taken-ready p k a b =
+          let n = ne-eqb (controlOf f) 4 h in
+          record { outcome = rw (b, a, no-clear s f n, e, n, eq-eqb (controlOf f) 5 k); bytes = rw e; size = refl }
 
-      pub taken-identify : (controlOf f ≡ 5 → ⊥) → o ≡ identify s f → Framed s rx tx f tx o
-      unfolding frameTaken frameBytes addsBytes
-      taken-identify k a = record { outcome = rw (a, e, ne-eqb (controlOf f) 4 h, ne-eqb (controlOf f) 5 k); bytes = rw e; size = refl }
+      pub taken-identify : (p : Outcome) → (controlOf f ≡ 5 → ⊥) → p ≡ identify s f → o ≡ settledOutcome s p → Framed s rx tx f tx o
+      unfolding frameSettled frameTaken frameBytes addsBytes
+      taken-identify p k a b =
+          let n = ne-eqb (controlOf f) 4 h in
+          record { outcome = rw (b, a, no-clear s f n, e, n, ne-eqb (controlOf f) 5 k); bytes = rw e; size = refl }
 
 -- a frame that identifies goes on with its service bit
 pub identify-met : (s : State) (f x : ℕ) → x ≡ serviced s f → record { state = s; answer = Frame x } ≡ identify s f

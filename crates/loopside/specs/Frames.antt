@@ -25,7 +25,7 @@ use Rattle.state.specs.declared.Outcome.{Outcome}
 use Rattle.answers.specs.declared.Answer.the-variants.{Frame}
 use Rattle.state.specs.State.{withTalker, withRemote, withRx, withTx, withLine, withNotes, noEvents}
 use Rattle.loopside.specs.LoopToLine.{addedState, addedBytes}
-use Rattle.state.specs.Conditions.{serviced, afterStatusBack}
+use Rattle.state.specs.Conditions.{serviced, settled, afterStatusBack}
 use Rattle.loopside.specs.Sends.{ended, sendFrom, sendStatus}
 
 -- Frames, control bits: what is done with a data frame, with or without a service request; a command; a ready frame; any other, which identifies
@@ -139,6 +139,14 @@ frameTaken s rx f = byControl f (cond (isActive (s .talker .role)) (returned s r
 unfoldable pub deviceClear : State → ℕ → Bool
 deviceClear s f = eqb (controlOf f) 4 && (eqb (dataOf f) 20 || (eqb (dataOf f) 4 && s .talker .role .listener))
 
+-- Status byte, requests: what the frame f gives, with the request that it began; a device clear leaves none
+abbrev pub settledFrame : State → ℕ → Outcome → Outcome
+settledFrame s f o = record { state = cond (deviceClear s f) (o .state) (settled s (o .state)); answer = o .answer }
+
+-- a frame taken, with the request that it began
+unfoldable pub frameSettled : State → List ℕ → ℕ → Outcome
+frameSettled s rx f = settledFrame s f (frameTaken s rx f)
+
 -- a data frame that a listener stores
 unfoldable pub addsBytes : State → ℕ → Bool
 addsBytes s f = (isData f && not (isActive (s .talker .role))) && s .talker .role .listener
@@ -149,6 +157,6 @@ frameBytes s tx f = cond (addsBytes s f) (addedBytes s tx f) tx
 
 -- the outcome and the transmit store after a frame
 pub record Framed (s : State) (rx tx : List ℕ) (f : ℕ) (tx′ : List ℕ) (o : Outcome) : Type 0 where
-  pub outcome : o ≡ frameTaken s rx f
+  pub outcome : o ≡ frameSettled s rx f
   pub bytes : tx′ ≡ frameBytes s tx f
   pub size : length tx′ ≡ length tx

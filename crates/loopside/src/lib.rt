@@ -4,7 +4,7 @@ ghost use lib.ListN.{length};
 ghost use Rattle.store.specs.Ring.{Within};
 ghost use Rattle.state.specs.Sizes.{RxFits, TxFits};
 ghost use Rattle.loopside.specs.LoopToLine.{adds, busy, Added};
-ghost use Rattle.loopside.specs.Frames.{isClear, cleared, obeyed, command, ready, returned, Passed, deviceClear, Framed};
+ghost use Rattle.loopside.specs.Frames.{isClear, cleared, obeyed, command, ready, returned, Passed, deviceClear, settledFrame, Framed};
 use answers::Answer;
 use registers::Registers;
 use role::Order;
@@ -121,11 +121,22 @@ fn command(s: State, f: u16) -> Outcome
 }
 
 // Whether a frame is a device clear to us.
-pub fn device_clear(s: State, f: u16) -> bool
+fn device_clear(s: State, f: u16) -> bool
     ensures { λ r. ⌜ r ≡ deviceClear s f ⌝ }
 {
     let d = frame::data_byte(f);
     (frame::control(f) == 4) & ((d == 20) | ((d == 4) & s.talker.role.listener))
+}
+
+// A command with the request that it began; a device clear leaves none.
+fn settled_command(s: State, f: u16) -> Outcome
+    ensures { λ r. ⌜ r ≡ settledFrame s f (command s f) ⌝ }
+{
+    let o = command(s, f);
+    if device_clear(s, f) {
+        return o;
+    }
+    state::requests::settle(s, o)
 }
 
 // A ready frame.
@@ -199,7 +210,7 @@ fn pass_data(s: State, tx: &mut [u8], f: u16) -> Outcome
     }
 }
 
-// A frame that is not refused, before requests are settled.
+// A frame that is not refused.
 pub fn frame_taken(s: State, rx: &[u8], tx: &mut [u8], f: u16) -> Outcome
     requires { ⌜ RxFits s (now rx) ⌝ }
     requires { ⌜ TxFits s (now tx) ⌝ }
@@ -207,20 +218,23 @@ pub fn frame_taken(s: State, rx: &[u8], tx: &mut [u8], f: u16) -> Outcome
 {
     if frame::is_data(f) {
         if s.talker.role.phase >= 2 {
-            return back(s, rx, f);
+            return state::requests::settle(s, back(s, rx, f));
         }
-        return pass_data(s, tx, f);
+        return state::requests::settle(s, pass_data(s, tx, f));
     }
     let control = frame::control(f);
     if control == 4 {
-        return command(s, f);
+        return settled_command(s, f);
     }
     if control == 5 {
-        return readied(s, rx, f);
+        return state::requests::settle(s, readied(s, rx, f));
     }
     let out = state::requests::serviced(s, f);
-    Outcome {
-        state: s,
-        answer: Answer::Frame(out),
-    }
+    state::requests::settle(
+        s,
+        Outcome {
+            state: s,
+            answer: Answer::Frame(out),
+        },
+    )
 }

@@ -19,9 +19,10 @@ use Rattle.status.specs.declared.Conditions.{Conditions}
 use Rattle.status.specs.declared.Events.{Events}
 use Rattle.status.specs.Status.{statusByte, both, begins, acknowledged}
 use Rattle.state.specs.declared.State.{State}
+use Rattle.state.specs.declared.Outcome.{Outcome}
 use Rattle.state.specs.State.{noEvents, notesWith}
 use Rattle.state.specs.Sizes.{sizesObeyed, startState, fits}
-use Rattle.state.specs.Conditions.{conditions, enabledBy, asking, withRequest, settled, shows, statusOf, afterStatus, afterStatusBack}
+use Rattle.state.specs.Conditions.{conditions, enabledBy, asking, withRequest, settled, settledOutcome, shows, statusOf, afterStatus, afterStatusBack}
 
 pub start-met : (m a b : ℕ) (g : Registers) (t : Talker) (r : Remote) (x y : Ring) (p q : Events) → g ≡ startRegisters → t ≡ startTalker → r ≡ startRemote → x ≡ store-ring.emptyRing a → y ≡ store-ring.emptyRing b → p ≡ noEvents → q ≡ noEvents →
     record {
@@ -79,3 +80,6 @@ sent-met s t quiet e q = rw (q, e)
 pub back-met : (s t : State) (d : ℕ) (left : Events) → left ≡ acknowledged (s .notes .seen) (s .notes .again) d → t ≡ notesWith s left (s .notes .again) (s .notes .request) → t ≡ afterStatusBack s d
 unfolding afterStatusBack
 back-met s t d left e q = rw (q, e)
+
+pub settle-met : (s : State) (o : Outcome) (t : State) → t ≡ settled s (o .state) → record { state = t; answer = o .answer } ≡ settledOutcome s o
+settle-met s o t p = rw p

@@ -9,6 +9,7 @@ use Rattle.status.specs.declared.Conditions.{Conditions}
 use Rattle.status.specs.Status.{statusByte, both, begins, acknowledged}
 use Rattle.store.specs.Ring.{full}
 use Rattle.state.specs.declared.State.{State}
+use Rattle.state.specs.declared.Outcome.{Outcome}
 use Rattle.state.specs.State.{withNotes, noEvents}
 
 -- Status byte, bits: the seven conditions as they are in this state
@@ -48,6 +49,10 @@ withRequest s r = withNotes s (record { seen = s .notes .seen; again = s .notes 
 -- Status byte, requests: the state after a call, with a request if one began by it
 unfoldable pub settled : State → State → State
 settled before after = withRequest after (after .notes .request || begins (asking before) (asking after))
+
+-- the same of what a call gives
+abbrev pub settledOutcome : State → Outcome → Outcome
+settledOutcome s o = record { state = settled s (o .state); answer = o .answer }
 
 -- Status byte, requests: one shows while R00 bit 3 lets it
 unfoldable pub shows : State → Bool

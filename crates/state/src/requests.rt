@@ -1,8 +1,9 @@
 // Service requests and the status byte.
 ghost use mathlib.Core.Path.{_≡_};
 ghost use Rattle.state.specs.State.{notesWith};
-ghost use Rattle.state.specs.Conditions.{conditions, enabledBy, asking, settled, shows, serviced, statusOf, afterStatus, afterStatusBack, breakState, keyState};
+ghost use Rattle.state.specs.Conditions.{conditions, enabledBy, asking, settled, settledOutcome, shows, serviced, statusOf, afterStatus, afterStatusBack, breakState, keyState};
 use crate::Notes;
+use crate::Outcome;
 use crate::State;
 use registers::Registers;
 use status::Conditions;
@@ -45,8 +46,8 @@ fn asking(s: State) -> Conditions
     status::enabled_and_holding(enabled(s.regs), conditions(s))
 }
 
-// The state after a call, with the request that the call began: the one place where a request begins.
-pub fn settled(before: State, after: State) -> State
+// The state after a call, with the request that the call began.
+fn settled(before: State, after: State) -> State
     ensures { λ r. ⌜ r ≡ settled before after ⌝ }
 {
     let begins = status::request_begins(asking(before), asking(after));
@@ -54,6 +55,19 @@ pub fn settled(before: State, after: State) -> State
     let request = after.notes.request | begins;
     t.notes.request = request;
     t
+}
+
+// What a call on a state gives, with the request that it began: requests begin here and nowhere else.
+pub fn settle(before: State, o: Outcome) -> Outcome
+    ensures { λ r. ⌜ r ≡ settledOutcome before o ⌝ }
+{
+    let after = o.state;
+    let answer = o.answer;
+    let t = settled(before, after);
+    Outcome {
+        state: t,
+        answer: answer,
+    }
 }
 
 // Whether a request shows.

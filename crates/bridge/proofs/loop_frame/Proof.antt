@@ -3,7 +3,7 @@ use denote.Ref.{now}
 use native.Mathlib.Omega.{arith}
 use Rattle.state.proofs.Fits.{is-misfit, is-fit, rx-fits, tx-fits}
 use Rattle.bridge.specs.Calls.{checksOn, outcome, settledBy, rxAfter, txAfter, loopFrame}
-use Rattle.bridge.proofs.Steps.{misfit-met, refused-met, frame-large, frame-busy, frame-clears, frame-settled}
+use Rattle.bridge.proofs.Steps.{misfit-met, refused-met, frame-large, frame-busy, frame-done}
 use borrow.Author.Needs.{needs}
 use Rattle.bridge.proofs.loop_frame.Statement.{statement}
 use Rattle.bridge.proofs.loop_frame.Tie as tie
@@ -41,17 +41,10 @@ frame-taken-requires c κs =
 
 returns-4 : tie.Need-returns-4
 returns-4 c =
-    let a = c .before .before .before .before .before .before .before .before .before .before .before .before .before .args in
-    let e = is-fit (c .before .before .before .before .before .before .before .before .before .before .state-fits .ensures) (c .before .before .before .before .before .before .before .before .before .if1 .left) in
-    let free = sym (c .before .before .before .before .before .before .before .busy .ensures) ∙ c .before .before .before .before .before .before .if3 .left in
-    frame-clears (a .s) (now (a .rx)) (now (a .tx)) e _ _ _ (c .before .before .before .before .before .before .before .before .if2 .left) free (c .before .before .before .before .frame-taken .ensures) (sym (c .before .device-clear .ensures) ∙ c .if4 .taken)
-
-returns-5 : tie.Need-returns-5
-returns-5 c =
-    let a = c .before .before .before .before .before .before .before .before .before .before .before .before .before .before .args in
-    let e = is-fit (c .before .before .before .before .before .before .before .before .before .before .before .state-fits .ensures) (c .before .before .before .before .before .before .before .before .before .before .if1 .left) in
-    let free = sym (c .before .before .before .before .before .before .before .before .busy .ensures) ∙ c .before .before .before .before .before .before .before .if3 .left in
-    frame-settled (a .s) (now (a .rx)) (now (a .tx)) e _ _ _ (c .before .before .before .before .before .before .before .before .before .if2 .left) free (c .before .before .before .before .before .frame-taken .ensures) _ (sym (c .before .before .device-clear .ensures) ∙ c .before .if4 .left) (c .settled .ensures)
+    let a = c .before .before .before .before .before .before .before .before .before .before .before .args in
+    let e = is-fit (c .before .before .before .before .before .before .before .before .state-fits .ensures) (c .before .before .before .before .before .before .before .if1 .left) in
+    let free = sym (c .before .before .before .before .before .busy .ensures) ∙ c .before .before .before .before .if3 .left in
+    frame-done (a .s) (now (a .rx)) (now (a .tx)) e _ _ _ (c .before .before .before .before .before .before .if2 .left) free (c .before .before .frame-taken .ensures)
 
 pub loop-frame-spec : {M : Type 1} → statement M
 loop-frame-spec =
@@ -67,9 +60,5 @@ loop-frame-spec =
     (λ c κs. search needs)
     returns-3
     frame-taken-requires
-    (λ c κs. search needs)
     (λ c. search needs)
-    returns-4
-    (λ c κs. search needs)
-    (λ c. search needs)
-    returns-5)
+    returns-4)

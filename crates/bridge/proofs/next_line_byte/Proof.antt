@@ -25,7 +25,7 @@ returns-2 : tie.Need-returns-2
 returns-2 c =
     let a = c .before .before .before .before .before .before .before .before .args in
     next-done (a .s) (now (a .rx)) (now (a .tx)) (is-fit (c .before .before .before .before .before .state-fits .ensures) (c .before .before .before .before .if1 .left)) _ _ _ _
-    (c .before .before .before .next-out .ensures) (c .before .before .out-answer .ensures) (c .before .after-giving .ensures) (c .settled .ensures)
+    (c .before .before .before .next-out .ensures) (c .before .before .out-answer .ensures) (c .before .after-giving .ensures) (c .settle .ensures)
 
 pub next-line-byte-spec : {M : Type 1} → statement M
 next-line-byte-spec =
