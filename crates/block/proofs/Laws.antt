@@ -85,11 +85,12 @@ ranged-by : (s : State) → s .rx .cap < 65536 → s .tx .cap < 65536 → s .mar
     s .rx .oldest < 65536 → s .rx .len < 65536 → s .tx .oldest < 65536 → s .tx .len < 65536 → CountsRanged (s .counts) → Ranged s
 unfolding values valueIn
 ranged-by s rx tx margin g address phase frame rxOldest rxLen txOldest txLen k =
-    tt & rx & tx & margin
+    tt & margin
     & g 0 & g 1 & g 2 & g 10 & g 11 & g 16 & g 17 & g 18 & g 19 & g 20 & g 21
-    & address & phase & tt & tt & tt
+    & address & phase & tt
     & frame & tt
-    & rxOldest & rxLen & txOldest & txLen
+    & tt & tt
+    & rx & rxOldest & rxLen & tx & txOldest & txLen
     & tt & tt & tt
     & tt & tt & tt & tt & tt & tt & tt
     & k .stored & k .lost & k .sent

@@ -23,7 +23,7 @@ over-both n h t b b₁ ys lh lb p q =
 
 -- a state's bytes, whose two parts are copied so
 pub packed-over : (s : State) (h t b b₁ ys : List ℕ) → h ≡ packedHead s → t ≡ packedTail s → length b ≡ blockLen → b₁ ≡ take (length h) h ++ drop (length h) b →
-    ys ≡ take (length t) t ++ drop (length t) (take (length b₁ - 26) (drop 26 b₁)) → take 26 b₁ ++ (ys ++ drop (length b₁ - 26) (drop 26 b₁)) ≡ packed s
+    ys ≡ take (length t) t ++ drop (length t) (take (length b₁ - 22) (drop 22 b₁)) → take 22 b₁ ++ (ys ++ drop (length b₁ - 22) (drop 22 b₁)) ≡ packed s
 unfolding packed
 packed-over s h t b b₁ ys eh et lb p q =
-    over-both 26 h t b b₁ ys (ap length eh) (lb ∙ ap (λ (n : ℕ). 26 + n) (sym (ap length et))) p q ∙ (λ j. eh j ++ et j)
+    over-both 22 h t b b₁ ys (ap length eh) (lb ∙ ap (λ (n : ℕ). 22 + n) (sym (ap length et))) p q ∙ (λ j. eh j ++ et j)

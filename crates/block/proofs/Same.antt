@@ -51,7 +51,7 @@ state-if-right b n h r =
     rw (eq-eqb (length b) blockLen n, same-true (layout .put (layout .get b 0)) b e)
 
 -- what the code tests
-pub right-met : (b : List ℕ) {x y z w : Bool} → x ≡ threeRight b 20 (eqb (getD b 0 0) version) → y ≡ threeRight b 34 (leb (getD b 25 0) 1 && x) →
+pub right-met : (b : List ℕ) {x y z w : Bool} → x ≡ threeRight b 19 (leb (getD b 16 0) 1 && eqb (getD b 0 0) version) → y ≡ threeRight b 34 x →
     z ≡ threeRight b 37 y → w ≡ threeRight b 40 z → (leb (getD b 43 0) 1 && w) ≡ layout .right b 0
 right-met b p q r t = rw (t, r, q, p)
 

@@ -22,11 +22,12 @@ version = 1
 abbrev pub rows : Rows State State
 rows =
     marked version (omega arith)
-    (λ (rxSize txSize margin : ℕ)
+    (λ (margin : ℕ)
     (r00 r01 r02 r10 r11 c00 c01 c02 c03 c04 c05 : ℕ)
-    (address phase : ℕ) (listener enabled remote : Bool)
+    (address phase : ℕ) (listener : Bool)
     (frame : ℕ) (finishing : Bool)
-    (rxOldest rxLen txOldest txLen : ℕ)
+    (enabled remote : Bool)
+    (rxSize rxOldest rxLen txSize txOldest txLen : ℕ)
     (holding forbidden stopped : Bool)
     (brk overrun key brkAgain overrunAgain keyAgain request : Bool)
     (stored lost sent : ℕ).
@@ -48,29 +49,29 @@ rows =
       };
       counts = record { stored = stored; lost = lost; sent = sent };
     })
-    ▸ field 1 two (λ s. s .rx .cap)
-    ▸ field 3 two (λ s. s .tx .cap)
-    ▸ field 5 two (λ s. s .margin)
-    ▸ field 7 byte (λ s. s .regs .r00)
-    ▸ field 8 byte (λ s. s .regs .r01)
-    ▸ field 9 byte (λ s. s .regs .r02)
-    ▸ field 10 byte (λ s. s .regs .r10)
-    ▸ field 11 byte (λ s. s .regs .r11)
-    ▸ field 12 byte (λ s. s .regs .c00)
-    ▸ field 13 byte (λ s. s .regs .c01)
-    ▸ field 14 byte (λ s. s .regs .c02)
-    ▸ field 15 byte (λ s. s .regs .c03)
-    ▸ field 16 byte (λ s. s .regs .c04)
-    ▸ field 17 byte (λ s. s .regs .c05)
-    ▸ field 18 byte (λ s. s .talker .role .address)
-    ▸ field 19 byte (λ s. s .talker .role .phase)
-    ▸ field 20 flag (λ s. s .talker .role .listener)
-    ▸ field 21 flag (λ s. s .remote .enabled)
-    ▸ field 22 flag (λ s. s .remote .remote)
-    ▸ field 23 two (λ s. s .talker .under .frame)
-    ▸ field 25 flag (λ s. s .talker .under .finishing)
-    ▸ field 26 two (λ s. s .rx .oldest)
-    ▸ field 28 two (λ s. s .rx .len)
+    ▸ field 1 two (λ s. s .margin)
+    ▸ field 3 byte (λ s. s .regs .r00)
+    ▸ field 4 byte (λ s. s .regs .r01)
+    ▸ field 5 byte (λ s. s .regs .r02)
+    ▸ field 6 byte (λ s. s .regs .r10)
+    ▸ field 7 byte (λ s. s .regs .r11)
+    ▸ field 8 byte (λ s. s .regs .c00)
+    ▸ field 9 byte (λ s. s .regs .c01)
+    ▸ field 10 byte (λ s. s .regs .c02)
+    ▸ field 11 byte (λ s. s .regs .c03)
+    ▸ field 12 byte (λ s. s .regs .c04)
+    ▸ field 13 byte (λ s. s .regs .c05)
+    ▸ field 14 byte (λ s. s .talker .role .address)
+    ▸ field 15 byte (λ s. s .talker .role .phase)
+    ▸ field 16 flag (λ s. s .talker .role .listener)
+    ▸ field 17 two (λ s. s .talker .under .frame)
+    ▸ field 19 flag (λ s. s .talker .under .finishing)
+    ▸ field 20 flag (λ s. s .remote .enabled)
+    ▸ field 21 flag (λ s. s .remote .remote)
+    ▸ field 22 two (λ s. s .rx .cap)
+    ▸ field 24 two (λ s. s .rx .oldest)
+    ▸ field 26 two (λ s. s .rx .len)
+    ▸ field 28 two (λ s. s .tx .cap)
     ▸ field 30 two (λ s. s .tx .oldest)
     ▸ field 32 two (λ s. s .tx .len)
     ▸ field 34 flag (λ s. s .line .holding)
@@ -100,14 +101,14 @@ unfoldable pub packed : State → List ℕ
 packed s = layout .put s
 
 abbrev pub packedHead : State → List ℕ
-packedHead s = take 26 (layout .put s)
+packedHead s = take 22 (layout .put s)
 
 abbrev pub packedTail : State → List ℕ
-packedTail s = drop 26 (layout .put s)
+packedTail s = drop 22 (layout .put s)
 
--- the ring whose size stands at c, and the rest of it from i
-abbrev pub ringAt : List ℕ → ℕ → ℕ → Ring
-ringAt b c i = record { cap = two .get b c; oldest = two .get b i; len = two .get b (i + 2) }
+-- the ring whose three numbers stand from i on
+abbrev pub ringAt : List ℕ → ℕ → Ring
+ringAt b i = record { cap = two .get b i; oldest = two .get b (i + 2); len = two .get b (i + 4) }
 
 -- the state that the bytes of a block are read as
 abbrev pub stateAt : List ℕ → State

@@ -4,16 +4,12 @@ ghost use Rattle.block.specs.Packed.{packedHead, packedTail};
 use crate::VERSION;
 use state::State;
 
-// The bytes of the version, the sizes, the registers, the talker and the remote flags.
-pub fn packed_head(s: State) -> [u8; 26]
+// The bytes of the version, the margin, the registers, the talker and the remote flags.
+pub fn packed_head(s: State) -> [u8; 22]
     ensures { λ r. ⌜ r ≡ packedHead s ⌝ }
 {
     [
         VERSION,
-        (s.rx.cap % 256) as u8,
-        (s.rx.cap / 256 % 256) as u8,
-        (s.tx.cap % 256) as u8,
-        (s.tx.cap / 256 % 256) as u8,
         (s.margin % 256) as u8,
         (s.margin / 256 % 256) as u8,
         s.regs.r00,
@@ -30,23 +26,27 @@ pub fn packed_head(s: State) -> [u8; 26]
         s.talker.role.address,
         s.talker.role.phase,
         s.talker.role.listener as u8,
-        s.remote.enabled as u8,
-        s.remote.remote as u8,
         (s.talker.under.frame % 256) as u8,
         (s.talker.under.frame / 256 % 256) as u8,
         s.talker.under.finishing as u8,
+        s.remote.enabled as u8,
+        s.remote.remote as u8,
     ]
 }
 
 // The bytes of the rings, the line, the notes and the counts.
-pub fn packed_tail(s: State) -> [u8; 30]
+pub fn packed_tail(s: State) -> [u8; 34]
     ensures { λ r. ⌜ r ≡ packedTail s ⌝ }
 {
     [
+        (s.rx.cap % 256) as u8,
+        (s.rx.cap / 256 % 256) as u8,
         (s.rx.oldest % 256) as u8,
         (s.rx.oldest / 256 % 256) as u8,
         (s.rx.len % 256) as u8,
         (s.rx.len / 256 % 256) as u8,
+        (s.tx.cap % 256) as u8,
+        (s.tx.cap / 256 % 256) as u8,
         (s.tx.oldest % 256) as u8,
         (s.tx.oldest / 256 % 256) as u8,
         (s.tx.len % 256) as u8,

@@ -65,17 +65,17 @@ fn registers_at(b: &[u8]) -> Registers
     ensures { λ r. ⌜ r ≡ stateAt (now (b .entry)) .regs ⌝ }
 {
     Registers {
-        r00: b[7],
-        r01: b[8],
-        r02: b[9],
-        r10: b[10],
-        r11: b[11],
-        c00: b[12],
-        c01: b[13],
-        c02: b[14],
-        c03: b[15],
-        c04: b[16],
-        c05: b[17],
+        r00: b[3],
+        r01: b[4],
+        r02: b[5],
+        r10: b[6],
+        r11: b[7],
+        c00: b[8],
+        c01: b[9],
+        c02: b[10],
+        c03: b[11],
+        c04: b[12],
+        c05: b[13],
     }
 }
 
@@ -86,13 +86,13 @@ fn talker_at(b: &[u8]) -> Talker
 {
     Talker {
         role: Role {
-            address: b[18],
-            phase: b[19],
-            listener: b[20] == 1,
+            address: b[14],
+            phase: b[15],
+            listener: b[16] == 1,
         },
         under: Under {
-            frame: read16(b, 23),
-            finishing: b[25] == 1,
+            frame: read16(b, 17),
+            finishing: b[19] == 1,
         },
     }
 }
@@ -103,20 +103,20 @@ fn remote_at(b: &[u8]) -> Remote
     ensures { λ r. ⌜ r ≡ stateAt (now (b .entry)) .remote ⌝ }
 {
     Remote {
-        enabled: b[21] == 1,
-        remote: b[22] == 1,
+        enabled: b[20] == 1,
+        remote: b[21] == 1,
     }
 }
 
-// The ring in a block whose size stands at c, and the rest of it from i.
-fn ring_at(b: &[u8], c: usize, i: usize) -> Ring
-    requires { ⌜ (c + 1 < length (now b)) × (i + 3 < length (now b)) ⌝ }
-    ensures { λ r. ⌜ r ≡ ringAt (now (b .entry)) c i ⌝ }
+// The ring in a block from i.
+fn ring_at(b: &[u8], i: usize) -> Ring
+    requires { ⌜ i + 5 < length (now b) ⌝ }
+    ensures { λ r. ⌜ r ≡ ringAt (now (b .entry)) i ⌝ }
 {
     Ring {
-        cap: read(b, c),
-        oldest: read(b, i),
-        len: read(b, i + 2),
+        cap: read(b, i),
+        oldest: read(b, i + 2),
+        len: read(b, i + 4),
     }
 }
 
@@ -169,12 +169,12 @@ pub fn unpack(b: &[u8]) -> State
     requires { ⌜ length (now b) ≡ blockLen ⌝ }
     ensures { λ r. ⌜ r ≡ unpacked (now (b .entry)) ⌝ }
 {
-    let margin = read(b, 5);
+    let margin = read(b, 1);
     let regs = registers_at(b);
     let talker = talker_at(b);
     let remote = remote_at(b);
-    let rx = ring_at(b, 1, 26);
-    let tx = ring_at(b, 3, 30);
+    let rx = ring_at(b, 22);
+    let tx = ring_at(b, 28);
     let line = line_at(b);
     let notes = notes_at(b);
     let counts = counts_at(b);

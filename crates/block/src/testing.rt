@@ -20,9 +20,9 @@ pub fn right(b: &[u8]) -> bool
     ensures { λ r. ⌜ r ≡ layout .right (now (b .entry)) 0 ⌝ }
 {
     let version = b[0] == VERSION;
-    let role = three_right(b, 20, version);
-    let under = (b[25] <= 1) & role;
-    let line = three_right(b, 34, under);
+    let listener = (b[16] <= 1) & version;
+    let sending = three_right(b, 19, listener);
+    let line = three_right(b, 34, sending);
     let seen = three_right(b, 37, line);
     let again = three_right(b, 40, seen);
     (b[43] <= 1) & again

@@ -39,9 +39,9 @@ use Rattle.state.specs.State.{withTalker, withRemote, withRx, withTx, withLine,
 use Rattle.state.specs.Counts.{counted}
 use Rattle.loopside.specs.LoopToLine.{adds, busy}
 use Rattle.line.specs.HoldingOff.{resumed}
-use Rattle.state.specs.Conditions.{serviced, statusOf, afterStatus, afterStatusBack}
+use Rattle.state.specs.Conditions.{settledOutcome, serviced, statusOf, afterStatus, afterStatusBack}
 use Rattle.loopside.specs.Sends.{ended, ruleOf, removedState, sendState, sendFrom, sendStatus}
-use Rattle.loopside.specs.Frames.{isClear, cleared, obeyed, command, commandState, readied, ready, judged, returned, deviceClear}
+use Rattle.loopside.specs.Frames.{isClear, cleared, obeyed, command, commandSettled, commandState, readied, ready, judged, returned}
 
 -- ---- what a frame adds
 
@@ -61,18 +61,13 @@ unfolding obeyed
 obey-met s o t m p q = rw (p, q)
 
 module _ (s : State) (f d : ℕ) (o : Order) (t : State) (b : Bool) (hd : d ≡ dataOf f) (ho : o ≡ orderOf 31 (s .talker .role) d) (ht : t ≡ obeyed s o) (hb : b ≡ isClear o) where
-  pub command-clears : (u : State) → b ≡ true → u ≡ cleared t → record { state = u; answer = Frame f } ≡ command s f
-  unfolding command commandState
+  pub command-clears : (u : State) → b ≡ true → u ≡ cleared t → record { state = u; answer = Frame f } ≡ commandSettled s f
+  unfolding command commandSettled commandState
   command-clears u e q = rw (q, ht, ← hd, ← ho, ← hb, e)
 
-  pub command-other : b ≡ false → record { state = t; answer = Frame f } ≡ command s f
-  unfolding command commandState
-  command-other e = rw (ht, ← hd, ← ho, ← hb, e)
-
--- a device clear by the control and the data byte of its frame
-pub device-clear-met : (s : State) (f d k : ℕ) → d ≡ dataOf f → k ≡ controlOf f → (eqb k 4 && (eqb d 20 || (eqb d 4 && s .talker .role .listener))) ≡ deviceClear s f
-unfolding deviceClear
-device-clear-met s f d k p q = rw (p, q)
+  pub command-other : (p : Outcome) → b ≡ false → p ≡ settledOutcome s (record { state = t; answer = Frame f }) → p ≡ commandSettled s f
+  unfolding command commandSettled commandState
+  command-other p e q = rw (q, ht, ← hd, ← ho, ← hb, e)
 
 -- ---- sends
 

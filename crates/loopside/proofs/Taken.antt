@@ -7,7 +7,7 @@ use mathlib.Core.List.{List}
 use mathlib.Core.Bool.{true, false, cond}
 use borrow.Author.Tests.{eq-eqb, ne-eqb, le-leb, lt-leb, ltb-true}
 use Rattle.branches.proofs.Branches.{cond-true, cond-false}
-use Rattle.frame.specs.Frame.{controlOf, isData}
+use Rattle.frame.specs.Frame.{controlOf, dataOf, isData}
 use Rattle.store.specs.declared.Ring.{Ring}
 use Rattle.store.specs.Ring.{putsRing, putsBytes}
 use Rattle.store.specs.Promises.{Puts}
@@ -15,9 +15,10 @@ use Rattle.state.specs.declared.State.{State}
 use Rattle.state.specs.declared.Outcome.{Outcome}
 use Rattle.answers.specs.declared.Answer.the-variants.{Frame}
 use Rattle.state.specs.State.{withTx}
+use Rattle.loopside.proofs.Clears.{clear-order}
 use Rattle.loopside.specs.LoopToLine.{adds, addedState, addedBytes, Added}
 use Rattle.state.specs.Conditions.{serviced, settledOutcome}
-use Rattle.loopside.specs.Frames.{command, ready, returned, dataPassed, Passed, identify, frameTaken, deviceClear, settledFrame}
+use Rattle.loopside.specs.Frames.{command, ready, returned, dataPassed, Passed, identify, commandSettled, frameTaken, deviceClear}
 use Rattle.loopside.specs.Frames.{frameSettled, addsBytes, frameBytes, Framed}
 
 -- the transmit store with what a frame adds
@@ -51,14 +52,6 @@ module _ (s : State) (tx : List ℕ) (f x : ℕ) (q : x ≡ serviced s f) where
         size = refl;
       }
 
--- a frame by whether it is a device clear
-module _ (s : State) (f : ℕ) (o q : Outcome) (e : o ≡ q) where
-  pub settled-clear : deviceClear s f ≡ true → o ≡ settledFrame s f q
-  settled-clear k = rw (e, k)
-
-  pub settled-other : deviceClear s f ≡ false → (r : Outcome) → r ≡ settledOutcome s o → r ≡ settledFrame s f q
-  settled-other k r h = rw (h, e, k)
-
 -- a frame that is no command is no device clear
 no-clear : (s : State) (f : ℕ) → eqb (controlOf f) 4 ≡ false → deviceClear s f ≡ false
 unfolding deviceClear
@@ -83,9 +76,10 @@ module _ (s : State) (rx tx : List ℕ) (f : ℕ) (o : Outcome) where
       record { outcome = rw (b, a .outcome, no-clear s f (data-other e), e, r); bytes = rw (e, r) (a .bytes); size = a .size }
 
   module _ (e : isData f ≡ false) where
-    pub taken-command : controlOf f ≡ 4 → o ≡ settledFrame s f (command s f) → Framed s rx tx f tx o
-    unfolding frameSettled frameTaken frameBytes addsBytes
-    taken-command h a = record { outcome = rw (a, e, eq-eqb (controlOf f) 4 h); bytes = rw e; size = refl }
+    pub taken-command : controlOf f ≡ 4 → o ≡ commandSettled s f → Framed s rx tx f tx o
+    unfolding frameSettled frameTaken frameBytes addsBytes commandSettled deviceClear
+    taken-command h a =
+        record { outcome = rw (a, e, eq-eqb (controlOf f) 4 h, clear-order (s .talker .role) (dataOf f)); bytes = rw e; size = refl }
 
     module _ (h : controlOf f ≡ 4 → ⊥) where
       pub taken-ready : (p : Outcome) → controlOf f ≡ 5 → p ≡ ready s rx f → o ≡ settledOutcome s p → Framed s rx tx f tx o

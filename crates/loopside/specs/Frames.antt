@@ -84,6 +84,14 @@ orderIn s f = orderOf home (s .talker .role) (dataOf f)
 unfoldable pub command : State → ℕ → Outcome
 command s f = passed (commandState s (orderIn s f)) f
 
+-- Status byte, requests: the same with the request that it began; a device clear leaves none
+unfoldable pub commandSettled : State → ℕ → Outcome
+commandSettled s f =
+    record {
+      state = cond (isClear (orderIn s f)) (command s f .state) (settled s (command s f .state));
+      answer = command s f .answer;
+    }
+
 -- ---- ready frames
 
 unfoldable pub readied : State → List ℕ → ℕ → Ready → Outcome

@@ -4,7 +4,7 @@ ghost use lib.ListN.{length};
 ghost use Rattle.store.specs.Ring.{Within};
 ghost use Rattle.state.specs.Sizes.{RxFits, TxFits};
 ghost use Rattle.loopside.specs.LoopToLine.{adds, busy, Added};
-ghost use Rattle.loopside.specs.Frames.{isClear, cleared, obeyed, command, ready, returned, Passed, deviceClear, settledFrame, Framed};
+ghost use Rattle.loopside.specs.Frames.{isClear, cleared, obeyed, commandSettled, ready, returned, Passed, Framed};
 use answers::Answer;
 use registers::Registers;
 use role::Order;
@@ -102,9 +102,9 @@ fn obey(s: State, o: Order) -> State
     t
 }
 
-// A command goes on unchanged.
+// A command goes on unchanged; a device clear leaves no request, and any other command may begin one.
 fn command(s: State, f: u16) -> Outcome
-    ensures { λ r. ⌜ r ≡ command s f ⌝ }
+    ensures { λ r. ⌜ r ≡ commandSettled s f ⌝ }
 {
     let o = role::order_of(31, s.talker.role, frame::data_byte(f));
     let t = obey(s, o);
@@ -114,29 +114,13 @@ fn command(s: State, f: u16) -> Outcome
             answer: Answer::Frame(f),
         };
     }
-    Outcome {
-        state: t,
-        answer: Answer::Frame(f),
-    }
-}
-
-// Whether a frame is a device clear to us.
-fn device_clear(s: State, f: u16) -> bool
-    ensures { λ r. ⌜ r ≡ deviceClear s f ⌝ }
-{
-    let d = frame::data_byte(f);
-    (frame::control(f) == 4) & ((d == 20) | ((d == 4) & s.talker.role.listener))
-}
-
-// A command with the request that it began; a device clear leaves none.
-fn settled_command(s: State, f: u16) -> Outcome
-    ensures { λ r. ⌜ r ≡ settledFrame s f (command s f) ⌝ }
-{
-    let o = command(s, f);
-    if device_clear(s, f) {
-        return o;
-    }
-    state::requests::settle(s, o)
+    state::requests::settle(
+        s,
+        Outcome {
+            state: t,
+            answer: Answer::Frame(f),
+        },
+    )
 }
 
 // A ready frame.
@@ -224,7 +208,7 @@ pub fn frame_taken(s: State, rx: &[u8], tx: &mut [u8], f: u16) -> Outcome
     }
     let control = frame::control(f);
     if control == 4 {
-        return settled_command(s, f);
+        return command(s, f);
     }
     if control == 5 {
         return state::requests::settle(s, readied(s, rx, f));

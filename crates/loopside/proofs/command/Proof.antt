@@ -10,8 +10,8 @@ returns c =
 
 returns-2 : tie.Need-returns-2
 returns-2 c =
-    command-other _ _ _ _ _ _ (c .before .before .before .before .data-byte .ensures) (c .before .before .before .order-of .ensures)
-    (c .before .before .obey .ensures) (c .before .is-clear .ensures) (c .if1 .left)
+    command-other _ _ _ _ _ _ (c .before .before .before .before .before .data-byte .ensures) (c .before .before .before .before .order-of .ensures)
+    (c .before .before .before .obey .ensures) (c .before .before .is-clear .ensures) _ (c .before .if1 .left) (c .settle .ensures)
 
 pub command-spec : {M : Type 1} → statement M
 command-spec =
@@ -23,4 +23,5 @@ command-spec =
     (λ c κs. search needs)
     (λ c κs. search needs)
     returns
+    (λ c κs. search needs)
     returns-2)

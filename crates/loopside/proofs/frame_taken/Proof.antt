@@ -20,7 +20,7 @@ frame-taken-spec =
     (λ c κs. search needs)
     (λ c κs. search needs)
     (λ c. taken-command _ _ _ _ _ (sym (c .before .before .before .before .is-data .ensures) ∙ c .before .before .before .if1 .left)
-    (sym (c .before .before .control .ensures) ∙ c .before .if3 .taken) (c .settled-command .ensures))
+    (sym (c .before .before .control .ensures) ∙ c .before .if3 .taken) (c .command .ensures))
     (λ c κs. search needs)
     (λ c κs. search needs)
     (λ c. taken-ready _ _ _ _ _ (sym (c .before .before .before .before .before .before .is-data .ensures) ∙ c .before .before .before .before .before .if1 .left) (λ e. c .before .before .before .if3 .left (c .before .before .before .before .control .ensures ∙ e))
