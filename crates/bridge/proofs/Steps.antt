@@ -17,7 +17,8 @@ use Rattle.loopside.specs.LoopToLine.{busy}
 use Rattle.loopside.specs.Frames.{deviceClear, Framed}
 use Rattle.line.specs.HoldingOff.{nextOut, afterGiving, outAnswer}
 use Rattle.state.specs.Conditions.{settled}
-use Rattle.bridge.specs.Calls.{OnState, world, Did, did, handed, checksOn, checks, doneWith, refusedWith, outcome, settledOutcome, settledBy, rxAfter, txAfter, shown, notRefused, refusedOr, step, unmade, nextLineByte, loopFrame, create, show, on}
+use Rattle.bridge.specs.Calls.{OnState, world, Did, did, handed, checksOn, checks, rxAfter, txAfter, step, unmade, nextLineByte, loopFrame, create, show, on}
+use Rattle.bridge.specs.Calls.{doneWith, refusedWith, outcome, settledOutcome, settledBy, shown, notRefused, refusedOr}
 
 pub settled-met : (s : State) (o : Outcome) (t : State) → t ≡ settled s (o .state) → record { state = t; answer = o .answer } ≡ settledOutcome s o
 settled-met s o t p = rw p

@@ -15,4 +15,6 @@ right-spec =
     (λ c κs. search needs)
     (λ c κs. search needs)
     (λ c. search needs)
-    (λ c. right-met (now (c .before .before .before .before .before .before .before .before .args .b)) (c .before .before .before .before .before .three-right .ensures) (c .before .before .before .three-right2 .ensures) (c .before .before .three-right3 .ensures) (c .before .three-right4 .ensures)))
+    (λ c. right-met (now (c .before .before .before .before .before .before .before .before .args .b))
+    (c .before .before .before .before .before .three-right .ensures) (c .before .before .before .three-right2 .ensures)
+    (c .before .before .three-right3 .ensures) (c .before .three-right4 .ensures)))
