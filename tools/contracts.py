@@ -41,7 +41,7 @@ USE = re.compile(r"^\s*(?:pub )?(?:ghost )?use ([^\s{;]+)\.\{([^}]*)\}", re.M)
 ALIAS = re.compile(r"^\s*(?:pub )?(?:ghost )?use \S+ as ([^\s;]+)", re.M)
 DECLARED = re.compile(r"^ *(?:abbrev |unfoldable |pub |record |data |infix\S* \d+ )+([^\s:(){}]+)(?= |:)|^([^\s:(){}]+)(?= :)", re.M)
 AXIOM = re.compile(r"^\s*(?:(?:pub|abbrev|unfoldable|ghost) )*(?:axiom|postulate)\b", re.M)
-UNFOLDING = re.compile(r"\bunfolding\b(.*)")
+UNFOLDING = re.compile(r"^( *).*\bunfolding\b(.*(?:\s*\n\1 +\S.*)*)", re.M)
 PROVED = re.compile(r"^rt: (\w+) proved", re.M)
 AXIOMS = re.compile(r"^axioms \w+: (.*?) \(\d+ of the", re.M)
 
@@ -115,7 +115,7 @@ def promised(store):
 def beyond(path, store, allowed):
     """What a file of the layer that carries frames opens of a store, or brings in of it beyond what the store promises."""
     text, own = listing.read(path), f"Rattle.{store}"
-    opened = {word.split(".")[-1] for line in UNFOLDING.findall(text) for word in line.split()}
+    opened = {word.split(".")[-1] for _, names in UNFOLDING.findall(text) for word in names.split()}
     wrong = [f"{path}: {name} of {store} is opened" for name in sorted(opened & declared(listing.texts(store, ("specs",))))]
     for module, names in USE.findall(text):
         if module.startswith(f"{own}.specs.declared.") or module in (f"{own}.specs.Promises", f"{own}.proofs.Promises"):

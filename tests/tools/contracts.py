@@ -8,19 +8,20 @@ TOOL = ["python3", "tools/contracts.py"]
 SHIM = "crates/raftershim/src/lib.rt"
 BRIDGE = "crates/bridge/src/lib.rt"
 CHAIN = "crates/sending/proofs/Chain.antt"
+PROMISE = r"    ensures \{.*?⌝ \}\n"
 
 
 def contracts(room):
     """Functions that promise too little or ask too much."""
     text = room.text(SHIM)
-    reset = re.search(r"raftershim_reset\(.*\n(    ensures .*\n)", text).group(1)
+    reset = re.search(rf"raftershim_reset\([^\n]*\n({PROMISE})", text, re.S).group(1)
     room.finds(TOOL, "raftershim_reset has no ensures", (SHIM, reset, ""))
-    room.finds(TOOL, "raftershim_reset has no ensures", (SHIM, reset, "    // " + reset.lstrip()))
+    room.finds(TOOL, "raftershim_reset has no ensures", (SHIM, reset, re.sub(r"^ *", "    // ", reset.rstrip(), flags=re.M) + "\n"))
     asks = "    requires { ⌜ length (now rx) ≡ 8 ⌝ }\n"
     room.finds(TOOL, "raftershim_reset has a requires", (SHIM, reset, asks + reset))
     room.finds(TOOL, "raftershim_reset promises nothing of its result", (SHIM, reset, reset.replace(" r ", " 0 ")))
     for call, name in re.findall(r'pub extern "C" fn (raftershim_\w+)\([^)]*?\b(\w+): &mut', text):
-        said = re.search(rf"fn {call}\b.*?\n    ensures (.*)\n", text, re.S).group(1)
+        said = re.search(rf"fn {call}\b.*?\n({PROMISE})", text, re.S).group(1)
         after, before = f"now ({name} .exit)", f"now ({name} .entry)"
         fault = f"{call} does not say what the bytes of {name} are"
         room.finds(TOOL, fault, (SHIM, said, said.replace(after, before)))
@@ -35,7 +36,7 @@ def every_function(room):
     for path in room.sources():
         text = room.text(path)
         public += len(re.findall(r"^pub (?:extern \"C\" )?fn ", text, re.M))
-        changes.append((path, re.sub(r"^    ensures .*\n", "", text, flags=re.M)))
+        changes.append((path, re.sub(f"^{PROMISE}", "", text, flags=re.M | re.S)))
     kept = [(path, room.text(path)) for path, _ in changes]
     for path, text in changes:
         room.write(path, text)
@@ -94,6 +95,7 @@ def stores(room):
     room.finds(TOOL, "Rattle.store is named outside", (CHAIN, brought, "use Rattle.store.proofs.Laws as laws\n" + brought))
     room.finds(TOOL, "Rattle.store is named outside", (CHAIN, "\n\n", "\n\nx = Rattle.store.proofs.Laws.held-at\n\n"))
     room.finds(TOOL, "dropRing of store is opened", (CHAIN, "unfolding sendHeld", "unfolding sendHeld dropRing"))
+    room.finds(TOOL, "dropRing of store is opened", (CHAIN, "unfolding sendHeld", "unfolding sendHeld\n    dropRing"))
     room.finds(TOOL, "dropRing of store is opened", (CHAIN, "unfolding sendHeld", "unfolding store.specs.Ring.dropRing"))
     passed = "use Rattle.store.proofs.Laws.{"
     room.finds(TOOL, "is passed on", ("crates/state/proofs/Fits.antt", passed, "pub " + passed))

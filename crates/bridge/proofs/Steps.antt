@@ -17,7 +17,8 @@ use Rattle.loopside.specs.LoopToLine.{busy}
 use Rattle.loopside.specs.Frames.{frameSettled, Framed}
 use Rattle.line.specs.HoldingOff.{nextOut, afterGiving, outAnswer}
 use Rattle.state.specs.Conditions.{settled, settledOutcome}
-use Rattle.bridge.specs.Calls.{OnState, world, Did, did, handed, checksOn, checks, doneWith, refusedWith, outcome, settledBy, rxAfter, txAfter, shown, notRefused, refusedOr, step, unmade, nextLineByte, loopFrame, create, show, on}
+use Rattle.bridge.specs.Calls.{OnState, world, Did, did, handed, checksOn, checks, rxAfter, txAfter, step, unmade, nextLineByte, loopFrame, create, show, on}
+use Rattle.bridge.specs.Calls.{doneWith, refusedWith, outcome, settledBy, shown, notRefused, refusedOr}
 
 -- the checks of a loop frame after the one for a misfit
 abbrev frameChecks : State → ℕ → List Check

@@ -1,7 +1,8 @@
 // The bridge: a software HP-IL/RS-232 interface. The state goes in by value and comes back; both stores are lent at every call.
 ghost use mathlib.Core.Path.{_≡_};
 ghost use Rattle.state.specs.Conditions.{settledOutcome};
-ghost use Rattle.bridge.specs.Calls.{Promised, unmade, world, did, handed, doneWith, refusedWith, on, create, reset, write, lineByte, lineBreak, key, nextLineByte, loopFrame, show};
+ghost use Rattle.bridge.specs.Calls.{Promised, unmade, world, did, handed, doneWith, refusedWith};
+ghost use Rattle.bridge.specs.Calls.{on, create, reset, write, lineByte, lineBreak, key, nextLineByte, loopFrame, show};
 use answers::Answer;
 use state::Outcome;
 use state::State;

@@ -19,5 +19,9 @@ use Rattle.loopside.specs.Frames.{readied, ready, frameTaken, deviceClear, fram
 use Rattle.bridge.specs.Calls.{checksOn, checks, outcome, settledBy, rxAfter, txAfter, notRefused, refusedOr, step}
 
 pub examples : AllAsThePaperSays
-unfolding given table inCuts byCuts cut ruleOf written registers-table.table registers-table.rowIn registers-table.carriedOf registers-table.startOf registers-table.startRegisters tooLarge bitNotCarried inRange values allInRange registersFit readyOf talker-fit.fitTest fitTest said sizesObeyed startState fits conditions enabledBy asking settled shows serviced adds busy readied ready frameTaken deviceClear frameBytes addsBytes checksOn checks outcome settledBy rxAfter txAfter notRefused refusedOr step
+unfolding given table inCuts byCuts cut ruleOf written readyOf talker-fit.fitTest fitTest said
+    registers-table.table registers-table.rowIn registers-table.carriedOf registers-table.startOf registers-table.startRegisters
+    tooLarge bitNotCarried inRange values allInRange registersFit sizesObeyed startState fits
+    conditions enabledBy asking settled shows serviced adds busy readied ready frameTaken deviceClear frameBytes addsBytes
+    checksOn checks outcome settledBy rxAfter txAfter notRefused refusedOr step
 examples = refl

@@ -39,7 +39,9 @@ pub extern "C" fn raftershim_block_len() -> usize
 // Makes a state for these stores in the block.
 #[no_mangle]
 pub extern "C" fn raftershim_create(block: &mut [u8], rx: &[u8], tx: &[u8], margin: u32) -> u64
-    ensures { λ r. ⌜ CPromised (create margin) (lent (now (block .entry)) (now (rx .entry)) (now (tx .entry))) (cDid r (now (block .exit)) (now (rx .entry)) (now (tx .entry))) ⌝ }
+    ensures { λ r. ⌜ CPromised (create margin)
+        (lent (now (block .entry)) (now (rx .entry)) (now (tx .entry)))
+        (cDid r (now (block .exit)) (now (rx .entry)) (now (tx .entry))) ⌝ }
 {
     if block.len() != block::LENGTH {
         return answers::word_of(Answer::Refused(1));
@@ -51,7 +53,9 @@ pub extern "C" fn raftershim_create(block: &mut [u8], rx: &[u8], tx: &[u8], marg
 // Resets the state.
 #[no_mangle]
 pub extern "C" fn raftershim_reset(block: &mut [u8], rx: &[u8], tx: &[u8]) -> u64
-    ensures { λ r. ⌜ CPromised (on reset) (lent (now (block .entry)) (now (rx .entry)) (now (tx .entry))) (cDid r (now (block .exit)) (now (rx .entry)) (now (tx .entry))) ⌝ }
+    ensures { λ r. ⌜ CPromised (on reset)
+        (lent (now (block .entry)) (now (rx .entry)) (now (tx .entry)))
+        (cDid r (now (block .exit)) (now (rx .entry)) (now (tx .entry))) ⌝ }
 {
     let s = block::meaning(block);
     let o = bridge::reset(s, rx, tx);
@@ -67,7 +71,9 @@ pub extern "C" fn raftershim_write_register(
     number: u32,
     value: u32,
 ) -> u64
-    ensures { λ r. ⌜ CPromised (on (write number value)) (lent (now (block .entry)) (now (rx .entry)) (now (tx .entry))) (cDid r (now (block .exit)) (now (rx .entry)) (now (tx .entry))) ⌝ }
+    ensures { λ r. ⌜ CPromised (on (write number value))
+        (lent (now (block .entry)) (now (rx .entry)) (now (tx .entry)))
+        (cDid r (now (block .exit)) (now (rx .entry)) (now (tx .entry))) ⌝ }
 {
     let s = block::meaning(block);
     let o = bridge::write_register(s, rx, tx, number, value);
@@ -77,7 +83,9 @@ pub extern "C" fn raftershim_write_register(
 // Takes a line byte.
 #[no_mangle]
 pub extern "C" fn raftershim_line_byte(block: &mut [u8], rx: &mut [u8], tx: &[u8], byte: u8) -> u64
-    ensures { λ r. ⌜ CPromised (on (lineByte byte)) (lent (now (block .entry)) (now (rx .entry)) (now (tx .entry))) (cDid r (now (block .exit)) (now (rx .exit)) (now (tx .entry))) ⌝ }
+    ensures { λ r. ⌜ CPromised (on (lineByte byte))
+        (lent (now (block .entry)) (now (rx .entry)) (now (tx .entry)))
+        (cDid r (now (block .exit)) (now (rx .exit)) (now (tx .entry))) ⌝ }
 {
     let s = block::meaning(block);
     let o = bridge::line_byte(s, rx, tx, byte);
@@ -87,7 +95,9 @@ pub extern "C" fn raftershim_line_byte(block: &mut [u8], rx: &mut [u8], tx: &[u8
 // Takes a break on the line.
 #[no_mangle]
 pub extern "C" fn raftershim_break(block: &mut [u8], rx: &mut [u8], tx: &[u8]) -> u64
-    ensures { λ r. ⌜ CPromised (on lineBreak) (lent (now (block .entry)) (now (rx .entry)) (now (tx .entry))) (cDid r (now (block .exit)) (now (rx .exit)) (now (tx .entry))) ⌝ }
+    ensures { λ r. ⌜ CPromised (on lineBreak)
+        (lent (now (block .entry)) (now (rx .entry)) (now (tx .entry)))
+        (cDid r (now (block .exit)) (now (rx .exit)) (now (tx .entry))) ⌝ }
 {
     let s = block::meaning(block);
     let o = bridge::take_break(s, rx, tx);
@@ -97,7 +107,9 @@ pub extern "C" fn raftershim_break(block: &mut [u8], rx: &mut [u8], tx: &[u8]) -
 // Takes a press of the MSRQ key.
 #[no_mangle]
 pub extern "C" fn raftershim_key(block: &mut [u8], rx: &[u8], tx: &[u8]) -> u64
-    ensures { λ r. ⌜ CPromised (on key) (lent (now (block .entry)) (now (rx .entry)) (now (tx .entry))) (cDid r (now (block .exit)) (now (rx .entry)) (now (tx .entry))) ⌝ }
+    ensures { λ r. ⌜ CPromised (on key)
+        (lent (now (block .entry)) (now (rx .entry)) (now (tx .entry)))
+        (cDid r (now (block .exit)) (now (rx .entry)) (now (tx .entry))) ⌝ }
 {
     let s = block::meaning(block);
     let o = bridge::take_key(s, rx, tx);
@@ -107,7 +119,9 @@ pub extern "C" fn raftershim_key(block: &mut [u8], rx: &[u8], tx: &[u8]) -> u64
 // Gives the next line byte.
 #[no_mangle]
 pub extern "C" fn raftershim_next_line_byte(block: &mut [u8], rx: &[u8], tx: &[u8]) -> u64
-    ensures { λ r. ⌜ CPromised (on nextLineByte) (lent (now (block .entry)) (now (rx .entry)) (now (tx .entry))) (cDid r (now (block .exit)) (now (rx .entry)) (now (tx .entry))) ⌝ }
+    ensures { λ r. ⌜ CPromised (on nextLineByte)
+        (lent (now (block .entry)) (now (rx .entry)) (now (tx .entry)))
+        (cDid r (now (block .exit)) (now (rx .entry)) (now (tx .entry))) ⌝ }
 {
     let s = block::meaning(block);
     let o = bridge::next_line_byte(s, rx, tx);
@@ -122,7 +136,9 @@ pub extern "C" fn raftershim_loop_frame(
     tx: &mut [u8],
     frame: u32,
 ) -> u64
-    ensures { λ r. ⌜ CPromised (on (loopFrame frame)) (lent (now (block .entry)) (now (rx .entry)) (now (tx .entry))) (cDid r (now (block .exit)) (now (rx .entry)) (now (tx .exit))) ⌝ }
+    ensures { λ r. ⌜ CPromised (on (loopFrame frame))
+        (lent (now (block .entry)) (now (rx .entry)) (now (tx .entry)))
+        (cDid r (now (block .exit)) (now (rx .entry)) (now (tx .exit))) ⌝ }
 {
     let s = block::meaning(block);
     let o = bridge::loop_frame(s, rx, tx, frame);
@@ -147,7 +163,9 @@ fn place_word(start: usize, len: usize) -> u64
 // Shows a store: where the longest unbroken run of bytes from the oldest one starts, and how long it is.
 #[no_mangle]
 pub extern "C" fn raftershim_show<'a>(block: &[u8], rx: &'a [u8], tx: &'a [u8], side: u32) -> u64
-    ensures { λ r. ⌜ CPromised (show side) (lent (now (block .entry)) (now (rx .entry)) (now (tx .entry))) (cDid r (now (block .entry)) (now (rx .entry)) (now (tx .entry))) ⌝ }
+    ensures { λ r. ⌜ CPromised (show side)
+        (lent (now (block .entry)) (now (rx .entry)) (now (tx .entry)))
+        (cDid r (now (block .entry)) (now (rx .entry)) (now (tx .entry))) ⌝ }
 {
     let s = block::meaning(block);
     let part = bridge::show(s, rx, tx, side);

@@ -1,6 +1,7 @@
 // What the carried bits of the registers mean, by the manual's appendix D.
 ghost use mathlib.Core.Path.{_≡_};
-ghost use Rattle.registers.specs.Meanings.{requestsShow, overrunEnabled, transmitEmptyEnabled, transmitNotFullEnabled, receiveNotEmptyEnabled, receiveFullEnabled, breakEnabled, keyEnabled, endDetected, endInserted, protocolOn};
+ghost use Rattle.registers.specs.Meanings.{requestsShow, overrunEnabled, breakEnabled, keyEnabled, endDetected, endInserted, protocolOn};
+ghost use Rattle.registers.specs.Meanings.{transmitEmptyEnabled, transmitNotFullEnabled, receiveNotEmptyEnabled, receiveFullEnabled};
 use crate::Registers;
 
 // Service requests show.

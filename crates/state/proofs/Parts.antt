@@ -24,7 +24,8 @@ use Rattle.state.specs.State.{noEvents, notesWith}
 use Rattle.state.specs.Sizes.{sizesObeyed, startState, fits}
 use Rattle.state.specs.Conditions.{conditions, enabledBy, asking, withRequest, settled, settledOutcome, shows, statusOf, afterStatus, afterStatusBack}
 
-pub start-met : (m a b : ℕ) (g : Registers) (t : Talker) (r : Remote) (x y : Ring) (p q : Events) → g ≡ startRegisters → t ≡ startTalker → r ≡ startRemote → x ≡ store-ring.emptyRing a → y ≡ store-ring.emptyRing b → p ≡ noEvents → q ≡ noEvents →
+pub start-met : (m a b : ℕ) (g : Registers) (t : Talker) (r : Remote) (x y : Ring) (p q : Events) →
+    g ≡ startRegisters → t ≡ startTalker → r ≡ startRemote → x ≡ store-ring.emptyRing a → y ≡ store-ring.emptyRing b → p ≡ noEvents → q ≡ noEvents →
     record {
       margin = m;
       regs = g;
@@ -52,7 +53,9 @@ pub fits-met : (s : State) (a b : ℕ) (x y z g r : Bool) → x ≡ store-ring.f
 unfolding fits registersFit talker-fit.fitTest
 fits-met s a b x y z g r ex ey ez eg er = rw (ex, ey, ez, eg, er) (simp (and-assoc, and-true))
 
-pub enabled-met : (g : Registers) (a b c d e f h : Bool) → a ≡ transmitEmptyEnabled g → b ≡ transmitNotFullEnabled g → c ≡ receiveNotEmptyEnabled g → d ≡ receiveFullEnabled g → e ≡ breakEnabled g → f ≡ overrunEnabled g → h ≡ keyEnabled g →
+pub enabled-met : (g : Registers) (a b c d e f h : Bool) →
+    a ≡ transmitEmptyEnabled g → b ≡ transmitNotFullEnabled g → c ≡ receiveNotEmptyEnabled g → d ≡ receiveFullEnabled g →
+    e ≡ breakEnabled g → f ≡ overrunEnabled g → h ≡ keyEnabled g →
     record { txempty = a; txnotfull = b; rxnotempty = c; rxfull = d; brk = e; overrun = f; key = h } ≡ enabledBy g
 unfolding enabledBy
 enabled-met g a b c d e f h ea eb ec ed ee ef eh = rw (ea, eb, ec, ed, ee, ef, eh)

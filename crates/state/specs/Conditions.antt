@@ -4,7 +4,8 @@ use mathlib.Core.Bool.{Bool, true, false, cond, _&&_, _||_}
 use lib.Dec.{eqb, ltb}
 use Rattle.frame.specs.Frame.{withService}
 use Rattle.registers.specs.declared.Registers.{Registers}
-use Rattle.registers.specs.Meanings.{requestsShow, overrunEnabled, transmitEmptyEnabled, transmitNotFullEnabled, receiveNotEmptyEnabled, receiveFullEnabled, breakEnabled, keyEnabled}
+use Rattle.registers.specs.Meanings.{requestsShow, overrunEnabled, breakEnabled, keyEnabled}
+use Rattle.registers.specs.Meanings.{transmitEmptyEnabled, transmitNotFullEnabled, receiveNotEmptyEnabled, receiveFullEnabled}
 use Rattle.status.specs.declared.Conditions.{Conditions}
 use Rattle.status.specs.Status.{statusByte, both, begins, acknowledged}
 use Rattle.store.specs.Ring.{full}

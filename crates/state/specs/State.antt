@@ -1,4 +1,5 @@
 -- A state with one of its parts changed.
+use Prim.Native.Nat.{ℕ}
 use mathlib.Core.Bool.{Bool, false}
 use Rattle.registers.specs.declared.Registers.{Registers}
 use Rattle.role.specs.declared.remote.Remote.{Remote}
@@ -10,29 +11,44 @@ use Rattle.state.specs.declared.Line.{Line}
 use Rattle.state.specs.declared.Notes.{Notes}
 use Rattle.state.specs.declared.Counts.{Counts}
 
+-- the state of these parts
+abbrev stateOf : ℕ → Registers → Talker → Remote → Ring → Ring → Line → Notes → Counts → State
+stateOf margin regs talker remote rx tx line notes counts =
+    record {
+      margin = margin;
+      regs = regs;
+      talker = talker;
+      remote = remote;
+      rx = rx;
+      tx = tx;
+      line = line;
+      notes = notes;
+      counts = counts;
+    }
+
 abbrev pub withRegisters : State → Registers → State
-withRegisters s x = record { margin = s .margin; regs = x; talker = s .talker; remote = s .remote; rx = s .rx; tx = s .tx; line = s .line; notes = s .notes; counts = s .counts }
+withRegisters s x = stateOf (s .margin) x (s .talker) (s .remote) (s .rx) (s .tx) (s .line) (s .notes) (s .counts)
 
 abbrev pub withTalker : State → Talker → State
-withTalker s x = record { margin = s .margin; regs = s .regs; talker = x; remote = s .remote; rx = s .rx; tx = s .tx; line = s .line; notes = s .notes; counts = s .counts }
+withTalker s x = stateOf (s .margin) (s .regs) x (s .remote) (s .rx) (s .tx) (s .line) (s .notes) (s .counts)
 
 abbrev pub withRemote : State → Remote → State
-withRemote s x = record { margin = s .margin; regs = s .regs; talker = s .talker; remote = x; rx = s .rx; tx = s .tx; line = s .line; notes = s .notes; counts = s .counts }
+withRemote s x = stateOf (s .margin) (s .regs) (s .talker) x (s .rx) (s .tx) (s .line) (s .notes) (s .counts)
 
 abbrev pub withRx : State → Ring → State
-withRx s x = record { margin = s .margin; regs = s .regs; talker = s .talker; remote = s .remote; rx = x; tx = s .tx; line = s .line; notes = s .notes; counts = s .counts }
+withRx s x = stateOf (s .margin) (s .regs) (s .talker) (s .remote) x (s .tx) (s .line) (s .notes) (s .counts)
 
 abbrev pub withTx : State → Ring → State
-withTx s x = record { margin = s .margin; regs = s .regs; talker = s .talker; remote = s .remote; rx = s .rx; tx = x; line = s .line; notes = s .notes; counts = s .counts }
+withTx s x = stateOf (s .margin) (s .regs) (s .talker) (s .remote) (s .rx) x (s .line) (s .notes) (s .counts)
 
 abbrev pub withLine : State → Line → State
-withLine s x = record { margin = s .margin; regs = s .regs; talker = s .talker; remote = s .remote; rx = s .rx; tx = s .tx; line = x; notes = s .notes; counts = s .counts }
+withLine s x = stateOf (s .margin) (s .regs) (s .talker) (s .remote) (s .rx) (s .tx) x (s .notes) (s .counts)
 
 abbrev pub withNotes : State → Notes → State
-withNotes s x = record { margin = s .margin; regs = s .regs; talker = s .talker; remote = s .remote; rx = s .rx; tx = s .tx; line = s .line; notes = x; counts = s .counts }
+withNotes s x = stateOf (s .margin) (s .regs) (s .talker) (s .remote) (s .rx) (s .tx) (s .line) x (s .counts)
 
 abbrev pub withCounts : State → Counts → State
-withCounts s x = record { margin = s .margin; regs = s .regs; talker = s .talker; remote = s .remote; rx = s .rx; tx = s .tx; line = s .line; notes = s .notes; counts = x }
+withCounts s x = stateOf (s .margin) (s .regs) (s .talker) (s .remote) (s .rx) (s .tx) (s .line) (s .notes) x
 
 -- nothing happened
 abbrev pub noEvents : Events

@@ -1,7 +1,8 @@
 // Service requests and the status byte.
 ghost use mathlib.Core.Path.{_≡_};
 ghost use Rattle.state.specs.State.{notesWith};
-ghost use Rattle.state.specs.Conditions.{conditions, enabledBy, asking, settled, settledOutcome, shows, serviced, statusOf, afterStatus, afterStatusBack, breakState, keyState};
+ghost use Rattle.state.specs.Conditions.{conditions, enabledBy, asking, settled, settledOutcome, shows, serviced};
+ghost use Rattle.state.specs.Conditions.{statusOf, afterStatus, afterStatusBack, breakState, keyState};
 use crate::Notes;
 use crate::Outcome;
 use crate::State;

@@ -70,7 +70,8 @@ pub fn offer_frames(
     to: usize,
 ) -> Offered
     requires { ⌜ ((i + 2 * n ≤ length (now x)) × (i + 2 * n < 65536)) × (to + 12 * n ≤ length (now out)) ⌝ }
-    ensures { λ r. ⌜ Offers n (now (x .entry)) i (world s (now (rx .entry)) (now (tx .entry))) (now (out .entry)) to (r .state) (now (tx .exit)) (now (out .exit)) (r .at) ⌝ }
+    ensures { λ r. ⌜ Offers n (now (x .entry)) i (world s (now (rx .entry)) (now (tx .entry)))
+        (now (out .entry)) to (r .state) (now (tx .exit)) (now (out .exit)) (r .at) ⌝ }
 {
     let mut t = s;
     let mut at = i;
@@ -110,7 +111,8 @@ pub fn count_line(s: State, rx: &[u8], tx: &[u8], n: usize) -> usize
 // Writes the line bytes that are given until none, in n asks at most, each after a space.
 pub fn put_line(s: State, rx: &[u8], tx: &[u8], n: usize, out: &mut [u8], to: usize) -> usize
     requires { ⌜ to + 4 * n ≤ length (now out) ⌝ }
-    ensures { λ r. ⌜ (Wrote (now (out .entry)) to (bytesText (lineOut n (world s (now (rx .entry)) (now (tx .entry))))) (now (out .exit)) r) × (r ≤ to + 4 * n) ⌝ }
+    ensures { λ r. ⌜ (Wrote (now (out .entry)) to (bytesText (lineOut n (world s (now (rx .entry)) (now (tx .entry))))) (now (out .exit)) r)
+        × (r ≤ to + 4 * n) ⌝ }
 {
     let mut t = s;
     let mut left = n;

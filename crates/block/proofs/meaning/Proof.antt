@@ -15,6 +15,11 @@ meaning-spec =
     (λ c. c .no-state .ensures ∙ means-none _ _ (other-length _ (c .before .if1 .taken)) refl)
     (λ c κs. search needs)
     (λ c κs. search needs)
-    (λ c. c .no-state2 .ensures ∙ means-none _ _ (none-if-wrong (now (c .before .before .before .before .before .args .b)) (is-misfit (c .before .before .right .ensures) (c .before .if2 .taken))) refl)
+    (λ c.
+    let b = now (c .before .before .before .before .before .args .b) in
+    c .no-state2 .ensures ∙ means-none _ _ (none-if-wrong b (is-misfit (c .before .before .right .ensures) (c .before .if2 .taken))) refl)
     (λ c κs. search needs)
-    (λ c. c .unpack .ensures ∙ means _ _ (state-if-right (now (c .before .before .before .before .before .args .b)) (c .before .before .before .if1 .left) (λ k. omega (arith, c .before .before .before .before .shared-slice-known .given k)) (is-fit (c .before .before .right .ensures) (c .before .if2 .left))) refl))
+    (λ c.
+    let b = now (c .before .before .before .before .before .args .b) in
+    let e = is-fit (c .before .before .right .ensures) (c .before .if2 .left) in
+    c .unpack .ensures ∙ means _ _ (state-if-right b (c .before .before .before .if1 .left) (λ k. omega (arith, c .before .before .before .before .shared-slice-known .given k)) e) refl))

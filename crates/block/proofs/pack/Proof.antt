@@ -17,4 +17,7 @@ pack-spec =
     (λ c. search needs)
     (λ c κs. search needs)
     (λ c. search needs)
-    (λ c. packed-over _ _ _ _ _ _ (c .before .before .before .before .before .before .before .before .before .before .before .packed-head .ensures) (c .before .before .before .before .before .before .before .before .before .before .packed-tail .ensures) (c .before .before .before .before .before .before .before .before .before .before .before .before .before .pre) (c .before .before .before .before .before .before .before .copy .ensures .1) (c .before .before .copy2 .ensures .1)))
+    (λ c.
+    let p = c .before .before .before .before .before .before .before in
+    packed-over _ _ _ _ _ _ (p .before .before .before .before .packed-head .ensures) (p .before .before .before .packed-tail .ensures) (p .before .before .before .before .before .before .pre)
+    (p .copy .ensures .1) (c .before .before .copy2 .ensures .1)))

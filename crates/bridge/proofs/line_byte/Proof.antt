@@ -21,8 +21,9 @@ returns-2 : tie.Need-returns-2
 unfolding checksOn outcome settledBy rxAfter txAfter
 returns-2 c =
     let a = c .before .before .before .before .before .before .before .before .before .args in
-    done-met (a .s) (now (a .rx)) (now (a .tx)) (is-fit (c .before .before .before .before .before .before .state-fits .ensures) (c .before .before .before .before .before .if1 .left)) (lineByte (a .b)) _ _ _ _ refl (ap doneWith (c .before .before .before .taken .ensures .state)) refl
-    (c .before .before .before .taken .ensures .bytes) refl (c .done .ensures)
+    let e = is-fit (c .before .before .before .before .before .before .state-fits .ensures) (c .before .before .before .before .before .if1 .left) in
+    let t = c .before .before .before .taken .ensures in
+    done-met (a .s) (now (a .rx)) (now (a .tx)) e (lineByte (a .b)) _ _ _ _ refl (ap doneWith (t .state)) refl (t .bytes) refl (c .done .ensures)
 
 pub line-byte-spec : {M : Type 1} → statement M
 line-byte-spec =

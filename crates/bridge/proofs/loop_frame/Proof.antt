@@ -18,7 +18,8 @@ unfolding checksOn outcome settledBy rxAfter txAfter
 returns-2 c =
     let a = c .before .before .before .before .before .before .args in
     let e = is-fit (c .before .before .before .state-fits .ensures) (c .before .before .if1 .left) in
-    refused-met (a .s) (now (a .rx)) (now (a .tx)) e (loopFrame (a .frame)) 3 _ (sym (frame-large (a .s) (now (a .rx)) (now (a .tx)) e _ (c .before .if2 .taken))) (λ z. omega arith) (c .refused2 .ensures)
+    refused-met (a .s) (now (a .rx)) (now (a .tx)) e (loopFrame (a .frame)) 3 _
+    (sym (frame-large (a .s) (now (a .rx)) (now (a .tx)) e _ (c .before .if2 .taken))) (λ z. omega arith) (c .refused2 .ensures)
 
 busy-requires : tie.Need-busy-requires
 busy-requires c κs =
@@ -28,10 +29,12 @@ busy-requires c κs =
 returns-3 : tie.Need-returns-3
 unfolding checksOn outcome settledBy rxAfter txAfter
 returns-3 c =
-    let a = c .before .before .before .before .before .before .before .before .args in
-    let e = is-fit (c .before .before .before .before .before .state-fits .ensures) (c .before .before .before .before .if1 .left) in
-    let busy = sym (c .before .before .busy .ensures) ∙ c .before .if3 .taken in
-    refused-met (a .s) (now (a .rx)) (now (a .tx)) e (loopFrame (a .frame)) 4 _ (sym (frame-busy (a .s) (now (a .rx)) (now (a .tx)) e _ (c .before .before .before .if2 .left) busy)) (λ z. omega arith) (c .refused3 .ensures)
+    let p = c .before in
+    let a = p .before .before .before .before .before .before .before .args in
+    let e = is-fit (p .before .before .before .before .state-fits .ensures) (p .before .before .before .if1 .left) in
+    let busy = sym (p .before .busy .ensures) ∙ p .if3 .taken in
+    refused-met (a .s) (now (a .rx)) (now (a .tx)) e (loopFrame (a .frame)) 4 _
+    (sym (frame-busy (a .s) (now (a .rx)) (now (a .tx)) e _ (p .before .before .if2 .left) busy)) (λ z. omega arith) (c .refused3 .ensures)
 
 frame-taken-requires : tie.Need-frame-taken-requires
 frame-taken-requires c κs =
@@ -41,10 +44,11 @@ frame-taken-requires c κs =
 
 returns-4 : tie.Need-returns-4
 returns-4 c =
-    let a = c .before .before .before .before .before .before .before .before .before .before .before .args in
-    let e = is-fit (c .before .before .before .before .before .before .before .before .state-fits .ensures) (c .before .before .before .before .before .before .before .if1 .left) in
-    let free = sym (c .before .before .before .before .before .busy .ensures) ∙ c .before .before .before .before .if3 .left in
-    frame-done (a .s) (now (a .rx)) (now (a .tx)) e _ _ _ (c .before .before .before .before .before .before .if2 .left) free (c .before .before .frame-taken .ensures)
+    let p = c .before .before .before .before in
+    let a = p .before .before .before .before .before .before .before .args in
+    let e = is-fit (p .before .before .before .before .state-fits .ensures) (p .before .before .before .if1 .left) in
+    let free = sym (p .before .busy .ensures) ∙ p .if3 .left in
+    frame-done (a .s) (now (a .rx)) (now (a .tx)) e _ _ _ (p .before .before .if2 .left) free (c .before .before .frame-taken .ensures)
 
 pub loop-frame-spec : {M : Type 1} → statement M
 loop-frame-spec =

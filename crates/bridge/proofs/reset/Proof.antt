@@ -16,7 +16,8 @@ returns-2 : tie.Need-returns-2
 unfolding checksOn outcome settledBy rxAfter txAfter
 returns-2 c =
     let a = c .before .before .before .before .before .before .args in
-    done-met (a .s) (now (a .rx)) (now (a .tx)) (is-fit (c .before .before .before .state-fits .ensures) (c .before .before .if1 .left)) reset _ _ _ _ refl (ap doneWith (c .before .start .ensures)) refl refl refl (c .done .ensures)
+    let e = is-fit (c .before .before .before .state-fits .ensures) (c .before .before .if1 .left) in
+    done-met (a .s) (now (a .rx)) (now (a .tx)) e reset _ _ _ _ refl (ap doneWith (c .before .start .ensures)) refl refl refl (c .done .ensures)
 
 pub reset-spec : {M : Type 1} → statement M
 reset-spec =

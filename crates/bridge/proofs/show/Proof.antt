@@ -28,12 +28,14 @@ show-requires-2 c κs =
 returns-3 : tie.Need-returns-3
 returns-3 c =
     let a = c .before .before .before .before .before .before .before .args in
-    show-transmit (a .s) (now (a .rx)) (now (a .tx)) (is-fit (c .before .before .before .before .state-fits .ensures) (c .before .before .before .if1 .left)) _ (c .show2 .ensures .bytes) _ (c .before .before .if2 .left) (c .before .if3 .taken)
+    let e = is-fit (c .before .before .before .before .state-fits .ensures) (c .before .before .before .if1 .left) in
+    show-transmit (a .s) (now (a .rx)) (now (a .tx)) e _ (c .show2 .ensures .bytes) _ (c .before .before .if2 .left) (c .before .if3 .taken)
 
 returns-4 : tie.Need-returns-4
 returns-4 c =
     let a = c .before .before .before .before .before .before .before .args in
-    show-neither (a .s) (now (a .rx)) (now (a .tx)) (is-fit (c .before .before .before .before .state-fits .ensures) (c .before .before .before .if1 .left)) _ (c .before .before .if2 .left) (c .before .if3 .left)
+    let e = is-fit (c .before .before .before .before .state-fits .ensures) (c .before .before .before .if1 .left) in
+    show-neither (a .s) (now (a .rx)) (now (a .tx)) e _ (c .before .before .if2 .left) (c .before .if3 .left)
 
 pub show-spec : {M : Type 1} → statement M
 show-spec =

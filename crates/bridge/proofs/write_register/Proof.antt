@@ -32,7 +32,8 @@ returns-3 c =
     let a = c .before .before .before .before .before .before .before .before .before .args in
     let ok = sym (c .before .before .before .before .refused2 .ensures) ∙ c .before .before .before .if2 .left in
     let put = accepted-written _ _ _ _ ok (c .before .before .written .ensures) in
-    done-met (a .s) (now (a .rx)) (now (a .tx)) (is-fit (c .before .before .before .before .before .before .state-fits .ensures) (c .before .before .before .before .before .if1 .left)) (write (a .number) (a .value)) _ _ _ _ ok
+    let e = is-fit (c .before .before .before .before .before .before .state-fits .ensures) (c .before .before .before .before .before .if1 .left) in
+    done-met (a .s) (now (a .rx)) (now (a .tx)) e (write (a .number) (a .value)) _ _ _ _ ok
     (ap doneWith (c .before .after-write .ensures ∙ ap (afterWrite (a .s) (a .number)) put)) refl refl refl (c .done .ensures)
 
 pub write-register-spec : {M : Type 1} → statement M

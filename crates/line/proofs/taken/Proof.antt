@@ -10,11 +10,15 @@ returns c =
 
 returns-2 : tie.Need-returns-2
 returns-2 c =
-    taken-stored _ _ _ _ _ (sym (c .before .before .before .before .before .before .before .before .is-go-or-stop .ensures) ∙ c .before .before .before .before .before .before .before .if1 .left) (c .before .before .before .before .before .put .ensures) _ (c .before .if2 .taken) (c .stored .ensures)
+    let p = c .before .before .before .before .before in
+    let e = sym (p .before .before .before .is-go-or-stop .ensures) ∙ p .before .before .if1 .left in
+    taken-stored _ _ _ _ _ e (p .put .ensures) _ (c .before .if2 .taken) (c .stored .ensures)
 
 returns-3 : tie.Need-returns-3
 returns-3 c =
-    taken-lost _ _ _ _ _ (sym (c .before .before .before .before .before .before .before .before .is-go-or-stop .ensures) ∙ c .before .before .before .before .before .before .before .if1 .left) (c .before .before .before .before .before .put .ensures) _ (c .before .if2 .left) (c .lost .ensures)
+    let p = c .before .before .before .before .before in
+    let e = sym (p .before .before .before .is-go-or-stop .ensures) ∙ p .before .before .if1 .left in
+    taken-lost _ _ _ _ _ e (p .put .ensures) _ (c .before .if2 .left) (c .lost .ensures)
 
 pub taken-spec : {M : Type 1} → statement M
 taken-spec =

@@ -9,7 +9,8 @@ returns c =
 
 returns-2 : tie.Need-returns-2
 returns-2 c =
-    back-status _ _ _ _ _ (c .before .before .before .before .before .return-of .ensures) _ _ (c .before .before .before .enum-told2 .given .1) (c .before .before .data-byte .ensures) (c .before .status-back .ensures) (c .ended2 .ensures)
+    back-status _ _ _ _ _ (c .before .before .before .before .before .return-of .ensures) _ _ (c .before .before .before .enum-told2 .given .1)
+    (c .before .before .data-byte .ensures) (c .before .status-back .ensures) (c .ended2 .ensures)
 
 returns-3 : tie.Need-returns-3
 returns-3 c =

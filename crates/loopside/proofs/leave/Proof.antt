@@ -10,11 +10,21 @@ use Rattle.loopside.proofs.leave.Tie as tie
 
 returns : tie.Need-returns
 returns c =
-    left-met _ _ _ _ _ _ (adds-three _ _ _ _ (c .before .before .before .before .before .before .before .before .before .before .before .before .is-end .ensures) (c .before .before .before .before .before .before .before .before .before .before .before .end-inserted .ensures) (c .before .before .before .before .before .before .before .before .before .before .if1 .taken) ∙ ap (λ (x : ℕ). x ∷ c .before .before .before .before .before .before .before .before .before .before .before .before .before .before .before .before .before .before .before .before .args .s .regs .c02 ∷ c .before .before .before .before .before .before .before .before .before .before .before .before .before .before .before .before .before .before .before .before .args .s .regs .c03 ∷ []) (sym (c .before .before .before .before .before .before .before .before .before .before .before .before .before .before .before .before .before .before .data-byte .ensures))) (puts-more (c .before .before .before .before .before .before .before .before .before .before .before .before .before .before .before .before .put .ensures) (puts-more (c .before .before .before .before .before .before .before .before .put2 .ensures) (puts-more (c .before .before .before .put3 .ensures) (puts-none _ _))))
+    let p = c .before .before .before .before .before .before .before .before .before .before in
+    let q = p .before .before .before .before .before .before in
+    let g = q .before .before .before .before .args .s .regs in
+    left-met _ _ _ _ _ _
+    (adds-three _ _ _ _ (p .before .before .is-end .ensures) (p .before .end-inserted .ensures) (p .if1 .taken)
+    ∙ ap (λ (x : ℕ). x ∷ g .c02 ∷ g .c03 ∷ []) (sym (q .before .before .data-byte .ensures)))
+    (puts-more (q .put .ensures) (puts-more (c .before .before .before .before .before .before .before .before .put2 .ensures) (puts-more (c .before .before .before .put3 .ensures) (puts-none _ _))))
 
 returns-2 : tie.Need-returns-2
 returns-2 c =
-    left-met _ _ _ _ _ _ (adds-one _ _ _ _ (c .before .before .is-end .ensures) (c .before .end-inserted .ensures) (c .if1 .left) ∙ ap (λ (x : ℕ). x ∷ []) (sym (c .before .before .before .before .before .before .before .before .data-byte .ensures))) (puts-more (c .before .before .before .before .before .before .put .ensures) (puts-none _ _))
+    let p = c .before .before .before .before .before .before in
+    left-met _ _ _ _ _ _
+    (adds-one _ _ _ _ (c .before .before .is-end .ensures) (c .before .end-inserted .ensures) (c .if1 .left)
+    ∙ ap (λ (x : ℕ). x ∷ []) (sym (p .before .before .data-byte .ensures)))
+    (puts-more (p .put .ensures) (puts-none _ _))
 
 pub leave-spec : {M : Type 1} → statement M
 leave-spec =

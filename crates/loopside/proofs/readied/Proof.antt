@@ -6,11 +6,17 @@ use Rattle.loopside.proofs.readied.Tie as tie
 
 add-make : tie.Need-add-make
 add-make c =
-    record { fits = address-next (c .before .before .before .before .before .before .args .s) (now (c .before .before .before .before .before .before .args .rx)) (c .before .before .before .before .before .before .args .f) _ _ (c .before .before .before .before .data-byte .ensures) (c .before .before .before .ready-of .ensures) (c .before .enum-told .given .1) }
+    let a = c .before .before .before .before .before .before .args in
+    record {
+      fits =
+          address-next (a .s) (now (a .rx)) (a .f) _ _
+          (c .before .before .before .before .data-byte .ensures) (c .before .before .before .ready-of .ensures) (c .before .enum-told .given .1);
+    }
 
 returns : tie.Need-returns
 returns c =
-    ready-address _ _ _ _ _ (c .before .before .before .before .before .data-byte .ensures) (c .before .before .before .before .ready-of .ensures) _ _ (c .before .before .enum-told .given .1) (c .before .assigned .ensures) (c .make .ensures)
+    ready-address _ _ _ _ _ (c .before .before .before .before .before .data-byte .ensures) (c .before .before .before .before .ready-of .ensures) _ _
+    (c .before .before .enum-told .given .1) (c .before .assigned .ensures) (c .make .ensures)
 
 returns-2 : tie.Need-returns-2
 returns-2 c =

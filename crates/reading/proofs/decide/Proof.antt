@@ -12,8 +12,18 @@ decide-spec =
     (tie.spec
     (λ c. rw by-tests (search branches))
     (λ c. rw (by-tests, not-true (c .before .before .before .args .rule .on) (c .if2 .taken)) (search branches))
-    (λ c. let e = c .before .before .before in rw (by-tests, not-false (e .before .before .before .args .rule .on) (e .if2 .left)) (search branches))
-    (λ c. let e = c .before .before .before .before .before in rw (by-tests, not-false (e .before .before .before .args .rule .on) (e .if2 .left)) (search branches))
-    (λ c. let e = c .before .before .before .before .before .before .before .before in rw (by-tests, not-false (e .before .before .before .args .rule .on) (e .if2 .left)) (search branches))
-    (λ c. let e = c .before .before .before .before .before .before .before .before .before .before in rw (by-tests, not-false (e .before .before .before .args .rule .on) (e .if2 .left)) (search branches))
-    (λ c. let e = c .before .before .before .before .before .before .before .before .before .before in rw (by-tests, not-false (e .before .before .before .args .rule .on) (e .if2 .left)) (search branches)))
+    (λ c.
+    let e = c .before .before .before in
+    rw (by-tests, not-false (e .before .before .before .args .rule .on) (e .if2 .left)) (search branches))
+    (λ c.
+    let e = c .before .before .before .before .before in
+    rw (by-tests, not-false (e .before .before .before .args .rule .on) (e .if2 .left)) (search branches))
+    (λ c.
+    let e = c .before .before .before .before .before .before .before .before in
+    rw (by-tests, not-false (e .before .before .before .args .rule .on) (e .if2 .left)) (search branches))
+    (λ c.
+    let e = c .before .before .before .before .before .before .before .before .before .before in
+    rw (by-tests, not-false (e .before .before .before .args .rule .on) (e .if2 .left)) (search branches))
+    (λ c.
+    let e = c .before .before .before .before .before .before .before .before .before .before in
+    rw (by-tests, not-false (e .before .before .before .args .rule .on) (e .if2 .left)) (search branches)))

@@ -15,5 +15,8 @@ put-last-spec =
     (λ c κs. search needs)
     (λ c κs. search needs)
     (λ c. search needs)
-    (λ c. last-line _ _
-    (c .before .before .before .before .before .before .before .before .before .before .before .before .before .before .before .before .before .before .before .before .before .pre) (c .before .before .before .before .before .before .before .before .before .before .before .before .before .before .before .before .before .count-line .ensures) (c .before .before .before .before .before .before .before .before .before .before .before .before .before .before .put-all .ensures) (c .before .before .before .before .before .before .before .before .before .before .put-number .ensures) (c .before .before .before .before .before .before .put-line .ensures) (c .before .before .put .ensures)))
+    (λ c.
+    let p = c .before .before .before .before .before .before .before .before .before .before .before .before .before .before in
+    last-line _ _ (p .before .before .before .before .before .before .before .pre) (p .before .before .before .count-line .ensures) (p .put-all .ensures)
+    (c .before .before .before .before .before .before .before .before .before .before .put-number .ensures)
+    (c .before .before .before .before .before .before .put-line .ensures) (c .before .before .put .ensures)))

@@ -13,44 +13,26 @@ put-rest-spec =
     (λ c κs. search needs)
     (λ c. search needs)
     (λ c. search needs)
-    (λ c. omega (
-      arith,
-      c .before .before .before .before .before .before .before .before .before .before .before .before .pre .0 .regs,
-      c .before .before .before .before .before .before .before .before .before .before .before .before .pre .0 .bytes,
-    ))
-    (λ c κs. (
+    (λ c.
+    let p = c .before .before .before .before .before .before .before .before .before .before .before .before .pre in
+    omega (arith, p .0 .regs, p .0 .bytes))
+    (λ c κs.
+    let p = c .before .before .before .before .before .before .before .before .before .before .before .before .before .before .before .pre in (
       (
-        omega (
-          arith,
-          c .before .before .before .before .before .before .before .before .before .before .before .before .before .before .before .pre .0 .regs,
-          c .before .before .before .before .before .before .before .before .before .before .before .before .before .before .before .pre .0 .bytes,
-          c .before .before .before .before .before .before .before .before .before .before .before .before .before .before .before .pre .0 .frames,
-          c .before .before .before .before .before .before .before .before .before .before .before .before .before .before .before .pre .0 .all,
-          c .before .before .before .before .before .before .before .before .before .before .before .before .before .before .before .pre .1,
-        ),
-        omega (
-          arith,
-          c .before .before .before .before .before .before .before .before .before .before .before .before .before .before .before .pre .0 .regs,
-          c .before .before .before .before .before .before .before .before .before .before .before .before .before .before .before .pre .0 .bytes,
-          c .before .before .before .before .before .before .before .before .before .before .before .before .before .before .before .pre .0 .frames,
-          c .before .before .before .before .before .before .before .before .before .before .before .before .before .before .before .pre .0 .all,
-          c .before .before .before .before .before .before .before .before .before .before .before .before .before .before .before .pre .1,
-        ),
+        omega (arith, p .0 .regs, p .0 .bytes, p .0 .frames, p .0 .all, p .1),
+        omega (arith, p .0 .regs, p .0 .bytes, p .0 .frames, p .0 .all, p .1),
       ),
-      omega (arith, c .before .before .before .before .before .before .before .before .before .before .before .before .before .before .before .pre .0 .regs, c .before .before .before .before .before .before .before .before .before .before .before .before .before .before .before .pre .0 .bytes, c .before .before .before .before .before .before .before .before .before .before .before .before .before .before .before .pre .0 .frames, c .before .before .before .before .before .before .before .before .before .before .before .before .before .before .before .pre .0 .all, c .before .before .before .before .before .before .before .before .before .before .before .before .before .before .before .pre .1),
+      omega (arith, p .0 .regs, p .0 .bytes, p .0 .frames, p .0 .all, p .1),
     ))
-    (λ c κs. omega (
-      arith,
-      c .before .before .before .before .before .before .before .offer-frames .ensures .short,
-      c .before .before .before .before .before .before .before .offer-frames .ensures .wrote .size,
-      c .before .before .before .before .before .before .before .before .before .before .before .before .before .before .before .before .before .before .before .before .before .before .before .pre .0 .regs,
-      c .before .before .before .before .before .before .before .before .before .before .before .before .before .before .before .before .before .before .before .before .before .before .before .pre .0 .bytes,
-      c .before .before .before .before .before .before .before .before .before .before .before .before .before .before .before .before .before .before .before .before .before .before .before .pre .0 .frames,
-      c .before .before .before .before .before .before .before .before .before .before .before .before .before .before .before .before .before .before .before .before .before .before .before .pre .0 .all,
-      c .before .before .before .before .before .before .before .before .before .before .before .before .before .before .before .before .before .before .before .before .before .before .before .pre .1,
-    ))
+    (λ c κs.
+    let q = c .before .before .before .before .before .before .before in
+    let o = q .offer-frames .ensures in
+    let p = q .before .before .before .before .before .before .before .before .before .before .before .before .before .before .before .before .pre in
+    omega (arith, o .short, o .wrote .size, p .0 .regs, p .0 .bytes, p .0 .frames, p .0 .all, p .1))
     (λ c. search needs)
     (λ c. search needs)
     (λ c. search needs)
-    (λ c. rest-lines _ _ _ _ _ _ _ _
-    (c .before .before .before .before .before .before .before .before .before .before .before .before .before .before .before .before .before .before .before .before .before .before .before .before .before .before .pre .1) (c .before .before .before .before .before .before .before .before .before .before .before .before .before .before .before .before .before .before .take-bytes .ensures) (c .before .before .before .before .before .before .before .before .before .before .offer-frames .ensures) (c .before .before .put-last .ensures)))
+    (λ c.
+    let p = c .before .before .before .before .before .before .before .before .before .before .before .before .before .before .before .before .before .before in
+    rest-lines _ _ _ _ _ _ _ _ (p .before .before .before .before .before .before .before .before .pre .1) (p .take-bytes .ensures)
+    (c .before .before .before .before .before .before .before .before .before .before .offer-frames .ensures) (c .before .before .put-last .ensures)))

@@ -28,10 +28,14 @@ put-run-spec =
     (c .before .before .before .before .before .set-registers .ensures)
     (c .before .before .before .before .before .before .before .before .before .before .put-all .ensures)
     (c .before .before .before .before .if1 .taken) (c .before .before .put-refused .ensures))
-    (λ c κs. (c .before .before .before .before .before .before .before .before .before .before .before .before .before .before .before .before .before .before .before .before .pre .0, omega (arith, c .before .before .before .before .before .before .before .before .before .put-all .ensures .next, c .before .before .before .before .before .before .before .before .before .put-all .ensures .size, c .before .before .before .before .before .before .before .before .before .before .before .before .before .before .before .before .before .before .before .before .pre .1)))
+    (λ c κs.
+    let o = c .before .before .before .before .before .before .before .before .before .put-all .ensures in
+    let p = c .before .before .before .before .before .before .before .before .before .before .before .before .before .before .before .before .before .before .before .before .pre in
+    (p .0, omega (arith, o .next, o .size, p .1)))
     (λ c. search needs)
     (λ c. search needs)
     (λ c. search needs)
-    (λ c. run-goes _ _ _ _ _ _
-    (create-state 8 _ _ _
-    (c .before .before .before .before .before .before .before .before .before .before .before .before .before .before .before .before .before .before .before .before .create .ensures)) (c .before .before .before .before .before .before .before .before .before .before .before .set-registers .ensures) (c .before .before .before .before .before .before .before .before .before .before .before .before .before .before .before .before .put-all .ensures) (c .before .before .before .before .before .before .before .before .before .before .if1 .left) (c .before .before .before .before .before .before .put-rest .ensures)))
+    (λ c.
+    let p = c .before .before .before .before .before .before .before .before .before .before in
+    run-goes _ _ _ _ _ _ (create-state 8 _ _ _ (p .before .before .before .before .before .before .before .before .before .before .create .ensures)) (p .before .set-registers .ensures)
+    (p .before .before .before .before .before .before .put-all .ensures) (p .if1 .left) (c .before .before .before .before .before .before .put-rest .ensures)))

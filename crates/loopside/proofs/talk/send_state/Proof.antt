@@ -9,7 +9,8 @@ returns c =
 
 returns-2 : tie.Need-returns-2
 returns-2 c =
-    send-frame _ _ _ _ _ _ _ (c .before .before .before .before .before .given .given .1) (c .before .before .before .talking .ensures) (c .before .before .wrapping-add-u32 .ensures) (c .serviced .ensures)
+    send-frame _ _ _ _ _ _ _ (c .before .before .before .before .before .given .given .1) (c .before .before .before .talking .ensures)
+    (c .before .before .wrapping-add-u32 .ensures) (c .serviced .ensures)
 
 pub send-state-spec : {M : Type 1} → statement M
 send-state-spec =

@@ -17,5 +17,9 @@ put-frame-spec =
     (λ c κs. search needs)
     (λ c κs. search needs)
     (λ c. search needs)
-    (λ c. frame-line _ _ _ _
-    (c .before .before .before .before .before .before .before .before .before .before .before .before .before .before .before .before .before .before .before .before .before .pre) (c .before .before .before .before .before .before .before .before .before .before .before .before .before .before .before .before .wide16 .ensures .0 ∙ c .before .before .before .before .before .before .before .before .before .before .before .before .before .before .before .before .before .before .before .control .ensures) (c .before .before .before .before .before .before .before .wide162 .ensures .0 ∙ c .before .before .before .before .before .before .before .before .before .before .before .before .before .before .before .before .before .before .data-byte .ensures) (c .before .before .before .before .before .before .before .before .before .before .before .before .before .before .before .put-number .ensures) (c .before .before .before .before .before .before .before .before .before .before .before .put .ensures) (c .before .before .before .before .before .before .put-number2 .ensures) (c .before .before .put2 .ensures)))
+    (λ c.
+    let p = c .before .before .before .before .before .before .before .before .before .before .before .before .before .before .before in
+    frame-line _ _ _ _ (p .before .before .before .before .before .before .pre) (p .before .wide16 .ensures .0 ∙ p .before .before .before .before .control .ensures)
+    (c .before .before .before .before .before .before .before .wide162 .ensures .0 ∙ p .before .before .before .data-byte .ensures) (p .put-number .ensures)
+    (c .before .before .before .before .before .before .before .before .before .before .before .put .ensures)
+    (c .before .before .before .before .before .before .put-number2 .ensures) (c .before .before .put2 .ensures)))
