@@ -16,17 +16,19 @@ pub const VERSION: u8 = 1;
 pub fn pack(bridge: &Bridge) -> [u8; LEN] {
     let mut out = Writer::new();
     out.bytes([VERSION]);
-    out.size(bridge.receive_len);
-    out.size(bridge.transmit_len);
     out.size(bridge.margin);
     let r = &bridge.registers;
     out.bytes([r.r00, r.r01, r.r02, r.r10, r.r11]);
     out.bytes(r.c);
     out.bytes([bridge.address, bridge.talker]);
-    out.flags([bridge.listener, bridge.remote_enabled, bridge.remote]);
+    out.flags([bridge.listener]);
     out.bytes(bridge.under_way.to_le_bytes());
-    out.flags([bridge.finishing]);
-    for ring in [&bridge.receive, &bridge.transmit] {
+    out.flags([bridge.finishing, bridge.remote_enabled, bridge.remote]);
+    for (len, ring) in [
+        (bridge.receive_len, &bridge.receive),
+        (bridge.transmit_len, &bridge.transmit),
+    ] {
+        out.size(len);
         out.size(ring.oldest);
         out.size(ring.held);
     }
@@ -48,18 +50,18 @@ pub fn unpack(block: &[u8]) -> Option<Bridge> {
     let version = from.byte();
     // Fields of a literal are read in the order in which they are written here.
     let bridge = Bridge {
-        receive_len: from.size(),
-        transmit_len: from.size(),
         margin: from.size(),
         registers: from.registers(),
         address: from.byte(),
         talker: from.byte(),
         listener: from.flag(),
-        remote_enabled: from.flag(),
-        remote: from.flag(),
         under_way: u16::from_le_bytes(from.bytes()),
         finishing: from.flag(),
+        remote_enabled: from.flag(),
+        remote: from.flag(),
+        receive_len: from.size(),
         receive: from.ring(),
+        transmit_len: from.size(),
         transmit: from.ring(),
         holding: from.flag(),
         forbidden: from.flag(),
@@ -181,7 +183,7 @@ mod tests {
     fn numbered() -> [u8; LEN] {
         let mut block = [0; LEN];
         for (place, byte) in block.iter_mut().enumerate() {
-            let flag = matches!(place, 20..=22 | 25 | 34..=43);
+            let flag = matches!(place, 16 | 19..=21 | 34..=43);
             *byte = if flag { place as u8 & 1 } else { place as u8 };
         }
         block[0] = VERSION;
@@ -193,10 +195,16 @@ mod tests {
         let block = numbered();
         let bridge = unpack(&block).expect("every flag is 0 or 1");
         assert_eq!(pack(&bridge), block);
-        assert_eq!((bridge.margin, bridge.registers.r11), (0x0605, 11));
-        assert_eq!((bridge.registers.c[5], bridge.address), (17, 18));
-        assert_eq!((bridge.under_way, bridge.receive.oldest), (0x1817, 0x1b1a));
-        assert_eq!((bridge.transmit.held, bridge.sent), (0x2120, 0x3736_3534));
+        assert_eq!((bridge.margin, bridge.registers.r11), (0x0201, 7));
+        assert_eq!((bridge.registers.c[5], bridge.address), (13, 14));
+        assert_eq!((bridge.talker, bridge.under_way), (15, 0x1211));
+        assert!(!bridge.listener && bridge.finishing && !bridge.remote_enabled && bridge.remote);
+        let ring = |oldest, held| Ring { oldest, held };
+        let receive = (bridge.receive_len, bridge.receive);
+        assert_eq!(receive, (0x1716, ring(0x1918, 0x1b1a)));
+        let transmit = (bridge.transmit_len, bridge.transmit);
+        assert_eq!(transmit, (0x1d1c, ring(0x1f1e, 0x2120)));
+        assert_eq!(bridge.sent, 0x3736_3534);
         assert!(!bridge.holding && bridge.forbidden && !bridge.stop_sent_last);
     }
 

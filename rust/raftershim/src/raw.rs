@@ -113,7 +113,7 @@ extern "C" {
     ///     raftershim_create(b, 56, r, 4, t, 3, 1);
     ///     raftershim_write_register(b, 56, r, 4, t, 3, 10, 8)
     /// };
-    /// assert_eq!((word, block[10]), (0, 8));
+    /// assert_eq!((word, block[6]), (0, 8));
     /// ```
     pub fn raftershim_write_register(
         block: *mut u8,

@@ -141,18 +141,18 @@ impl State {
     /// ```
     pub const fn of(block: &[u8; BLOCK_LEN]) -> State {
         State {
-            receive_len: two(block[1], block[2]),
-            transmit_len: two(block[3], block[4]),
-            margin: two(block[5], block[6]),
+            margin: two(block[1], block[2]),
             registers: Registers::of(block),
-            address: block[18],
-            talker: block[19],
-            listener: flag(block[20]),
-            remote_enabled: flag(block[21]),
-            remote: flag(block[22]),
-            under_way: two(block[23], block[24]),
-            finishing: flag(block[25]),
-            receive: Ring::of([block[26], block[27], block[28], block[29]]),
+            address: block[14],
+            talker: block[15],
+            listener: flag(block[16]),
+            under_way: two(block[17], block[18]),
+            finishing: flag(block[19]),
+            remote_enabled: flag(block[20]),
+            remote: flag(block[21]),
+            receive_len: two(block[22], block[23]),
+            receive: Ring::of([block[24], block[25], block[26], block[27]]),
+            transmit_len: two(block[28], block[29]),
             transmit: Ring::of([block[30], block[31], block[32], block[33]]),
             holding: flag(block[34]),
             forbidden: flag(block[35]),
@@ -174,17 +174,17 @@ impl State {
 impl Registers {
     const fn of(block: &[u8; BLOCK_LEN]) -> Registers {
         Registers {
-            r00: block[7],
-            r01: block[8],
-            r02: block[9],
-            r10: block[10],
-            r11: block[11],
-            c00: block[12],
-            c01: block[13],
-            c02: block[14],
-            c03: block[15],
-            c04: block[16],
-            c05: block[17],
+            r00: block[3],
+            r01: block[4],
+            r02: block[5],
+            r10: block[6],
+            r11: block[7],
+            c00: block[8],
+            c01: block[9],
+            c02: block[10],
+            c03: block[11],
+            c04: block[12],
+            c05: block[13],
         }
     }
 }

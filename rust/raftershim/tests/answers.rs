@@ -64,7 +64,11 @@ fn reserved_bits_do_not_count() {
     let described = [0, 1 << 16, 2 << 16 | 50, 3 << 16 | 2047, 4 << 16 | 4];
     for word in described.into_iter().chain([1, 5 << 16]) {
         for reserved in [1 << 24, 1 << 32, 1 << 63, u64::MAX << 24] {
-            assert_eq!(Answer::of(word | reserved), Answer::of(word), "word {word:#x}");
+            assert_eq!(
+                Answer::of(word | reserved),
+                Answer::of(word),
+                "word {word:#x}"
+            );
         }
     }
 }

@@ -237,7 +237,14 @@ fn every_byte_of_a_block_but_the_version_belongs_to_a_field() {
     }
     let expected = (0x2F2E_2D2C, 0x3332_3130, 0x3736_3534);
     assert_eq!(counts(State::of(&block)), expected);
-    assert_eq!(State::of(&block).under_way, 0x1817);
+    let state = State::of(&block);
+    assert_eq!((state.margin, state.under_way), (0x0201, 0x1211));
+    let (oldest, held) = (0x1918, 0x1B1A);
+    assert_eq!(state.receive_len, 0x1716);
+    assert_eq!(state.receive, Ring { oldest, held });
+    let (oldest, held) = (0x1F1E, 0x2120);
+    assert_eq!(state.transmit_len, 0x1D1C);
+    assert_eq!(state.transmit, Ring { oldest, held });
 }
 
 #[test]
