@@ -11,21 +11,31 @@ frame-taken-spec =
     (λ c κs. search needs)
     (λ c κs. search needs)
     (λ c κs. search needs)
-    (λ c. taken-back _ _ _ _ _ _ (sym (c .before .before .before .before .before .is-data .ensures) ∙ c .before .before .before .before .if1 .taken) (c .before .before .if2 .taken) (c .before .back .ensures) (c .settle .ensures))
+    (λ c.
+    let p = c .before .before .before .before in
+    taken-back _ _ _ _ _ _ (sym (p .before .is-data .ensures) ∙ p .if1 .taken) (c .before .before .if2 .taken) (c .before .back .ensures) (c .settle .ensures))
     (λ c κs. search needs)
     (λ c κs. search needs)
     (λ c. search needs)
-    (λ c. taken-passed _ _ _ _ _ _ _ (sym (c .before .before .before .before .before .before .before .before .is-data .ensures) ∙ c .before .before .before .before .before .before .before .if1 .taken)
-    (c .before .before .before .before .before .if2 .left) (c .before .before .before .pass-data .ensures) (c .settle2 .ensures))
+    (λ c.
+    let p = c .before .before .before .before .before .before .before in
+    taken-passed _ _ _ _ _ _ _ (sym (p .before .is-data .ensures) ∙ p .if1 .taken) (c .before .before .before .before .before .if2 .left) (c .before .before .before .pass-data .ensures) (c .settle2 .ensures))
     (λ c κs. search needs)
     (λ c κs. search needs)
-    (λ c. taken-command _ _ _ _ _ (sym (c .before .before .before .before .is-data .ensures) ∙ c .before .before .before .if1 .left)
-    (sym (c .before .before .control .ensures) ∙ c .before .if3 .taken) (c .command .ensures))
+    (λ c.
+    let p = c .before .before .before in
+    taken-command _ _ _ _ _ (sym (p .before .is-data .ensures) ∙ p .if1 .left) (sym (c .before .before .control .ensures) ∙ c .before .if3 .taken) (c .command .ensures))
     (λ c κs. search needs)
     (λ c κs. search needs)
-    (λ c. taken-ready _ _ _ _ _ (sym (c .before .before .before .before .before .before .is-data .ensures) ∙ c .before .before .before .before .before .if1 .left) (λ e. c .before .before .before .if3 .left (c .before .before .before .before .control .ensures ∙ e))
-    _ (sym (c .before .before .before .before .control .ensures) ∙ c .before .before .if4 .taken) (c .before .readied .ensures) (c .settle3 .ensures))
+    (λ c.
+    let p = c .before .before .before .before .before in
+    let q = c .before .before .before .before .control .ensures in
+    taken-ready _ _ _ _ _ (sym (p .before .is-data .ensures) ∙ p .if1 .left) (λ e. c .before .before .before .if3 .left (q ∙ e)) _ (sym q ∙ c .before .before .if4 .taken)
+    (c .before .readied .ensures) (c .settle3 .ensures))
     (λ c κs. search needs)
     (λ c κs. search needs)
-    (λ c. taken-identify _ _ _ _ _ (sym (c .before .before .before .before .before .before .is-data .ensures) ∙ c .before .before .before .before .before .if1 .left) (λ e. c .before .before .before .if3 .left (c .before .before .before .before .control .ensures ∙ e))
-    _ (λ e. c .before .before .if4 .left (c .before .before .before .before .control .ensures ∙ e)) (identify-met _ _ _ (c .before .serviced .ensures)) (c .settle4 .ensures)))
+    (λ c.
+    let p = c .before .before .before .before .before in
+    let q = c .before .before .before .before .control .ensures in
+    taken-identify _ _ _ _ _ (sym (p .before .is-data .ensures) ∙ p .if1 .left) (λ e. c .before .before .before .if3 .left (q ∙ e)) _ (λ e. c .before .before .if4 .left (q ∙ e))
+    (identify-met _ _ _ (c .before .serviced .ensures)) (c .settle4 .ensures)))
