@@ -19,7 +19,8 @@ frame-taken-spec =
     (λ c. search needs)
     (λ c.
     let p = c .before .before .before .before .before .before .before in
-    taken-passed _ _ _ _ _ _ _ (sym (p .before .is-data .ensures) ∙ p .if1 .taken) (c .before .before .before .before .before .if2 .left) (c .before .before .before .pass-data .ensures) (c .settle2 .ensures))
+    taken-passed _ _ _ _ _ _ _ (sym (p .before .is-data .ensures) ∙ p .if1 .taken) (c .before .before .before .before .before .if2 .left)
+    (c .before .before .before .pass-data .ensures) (c .settle2 .ensures))
     (λ c κs. search needs)
     (λ c κs. search needs)
     (λ c.
