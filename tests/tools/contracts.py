@@ -107,8 +107,8 @@ def stores(room):
 def logs(room):
     """What a crate rests on, by the log of rt ci."""
     known = re.findall(r"^(\w+):", room.text("crates.txt"), re.M)
-    libc = {"examples": "libc::write", "onepass": "libc::read, libc::write"}
-    rests = {name: f"axioms libc: {libc[name]} (1 of the 50 declared)\nlogic=proved axioms=1\n" if name in libc else "logic=proved\n" for name in known}
+    libc = "axioms libc: libc::read, libc::write (1 of the 50 declared)\nlogic=proved axioms=1\n"
+    rests = {name: libc if name in ("examples", "onepass") else "logic=proved\n" for name in known}
     text = "".join(f"{said}rt: {name} proved (1 s)\n" for name, said in rests.items())
     room.write("log", text)
     command = TOOL + ["log"]
@@ -116,7 +116,8 @@ def logs(room):
     role = "logic=proved\nrt: role proved"
     room.finds(command, "role rests on role::easy", ("log", role, "axioms role: role::easy (1 of the 1 declared)\nlogic=proved axioms=1\nrt: role proved"))
     room.finds(command, "role rests on axioms that have no names", ("log", role, "logic=proved axioms=1\nrt: role proved"))
-    room.finds(command, "examples rests on libc::unlink, libc::write", ("log", "libc: libc::write (", "libc: libc::write, libc::unlink ("))
+    end = " (1 of the 50 declared)\nlogic=proved axioms=1\nrt: examples proved"
+    room.finds(command, "examples rests on libc::read, libc::unlink, libc::write", ("log", "libc::write" + end, "libc::write, libc::unlink" + end))
     room.finds(command, "role is not proved in it", ("log", "rt: role proved", "rt: role NOT PROVED"))
 
 
