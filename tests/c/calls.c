@@ -126,7 +126,7 @@ static void other_blocks(void) {
     tx_len = 3;
     for (int i = 0; i < BLOCK; i++) {
         uint8_t b = block[i];
-        if (i >= 44 || i == 17 || (i >= 8 && i < 14)) continue; /* counts, the frame under way, characters: another fitting state */
+        if ((i >= 15 && i < 27) || i == 30 || (i >= 38 && i < 44)) continue; /* counts, the frame under way, characters: another fitting state */
         block[i] = 255;
         misfits();
         block[i] = b;

@@ -19,7 +19,7 @@ use Rattle.state.specs.Sizes.{sizesObeyed, startState, fits, RxFits, TxFits}
 use Rattle.state.proofs.Fits.{Obeyed, sizes-hold, Tests, tests, rx-fits, tx-fits}
 use Rattle.block.specs.Packed.{blockLen, layout, packed, unpacked}
 use Rattle.block.specs.States.{isState, meaning, noState, fittingBlock, CountsRanged, Ranged}
-use Rattle.block.specs.Places.{at-self}
+use Rattle.block.specs.Standing.{at-self}
 use Rattle.store.specs.Bytes.{Bytes}
 use Rattle.block.proofs.Same.{same-true, state-packed, means, means-none}
 
@@ -86,14 +86,14 @@ ranged-by : (s : State) → s .rx .cap < 65536 → s .tx .cap < 65536 → s .mar
 unfolding values valueIn
 ranged-by s rx tx margin g address phase frame rxOldest rxLen txOldest txLen k =
     tt & margin
-    & g 0 & g 1 & g 2 & g 10 & g 11 & g 16 & g 17 & g 18 & g 19 & g 20 & g 21
+    & rx & rxOldest & rxLen & tx & txOldest & txLen
+    & k .stored & k .lost & k .sent
     & address & phase & tt
     & frame & tt
-    & tt & tt
-    & rx & rxOldest & rxLen & tx & txOldest & txLen
+    & g 0 & g 1 & g 2 & g 10 & g 11 & g 16 & g 17 & g 18 & g 19 & g 20 & g 21
     & tt & tt & tt
     & tt & tt & tt & tt & tt & tt & tt
-    & k .stored & k .lost & k .sent
+    & tt & tt
 
 pub counts-ranged : (s : State) → Ranged s → CountsRanged (s .counts)
 counts-ranged s h = record { stored = omega arith; lost = omega arith; sent = omega arith }

@@ -1,4 +1,4 @@
--- `Over` and `Same` serve the proofs of the functions, `Laws` are the laws of the block.
-pub mod Over
+-- `Copied` and `Same` serve the proofs of the functions, `Laws` are the laws of the block.
+pub mod Copied
 pub mod Same
 pub mod Laws

@@ -8,7 +8,7 @@ use lib.ListN.{length, getD}
 use lib.Dec.{eqb, leb}
 use Rattle.branches.proofs.Branches.{and-left, and-right, cond-true, cond-false}
 use Rattle.store.specs.Bytes.{Bytes}
-use Rattle.block.specs.Places.{At, at-self, at-all}
+use Rattle.block.specs.Standing.{At, at-self, at-all}
 use Rattle.block.specs.Packed.{blockLen, version, layout, packed, unpacked}
 use Rattle.block.specs.States.{threeRight, same, isState, noState, meaning}
 
@@ -51,8 +51,8 @@ state-if-right b n h r =
     rw (eq-eqb (length b) blockLen n, same-true (layout .put (layout .get b 0)) b e)
 
 -- what the code tests
-pub right-met : (b : List ℕ) {x y z w : Bool} → x ≡ threeRight b 19 (leb (getD b 16 0) 1 && eqb (getD b 0 0) version) → y ≡ threeRight b 34 x →
-    z ≡ threeRight b 37 y → w ≡ threeRight b 40 z → (leb (getD b 43 0) 1 && w) ≡ layout .right b 0
+pub right-met : (b : List ℕ) {x y z w : Bool} → x ≡ threeRight b 44 (leb (getD b 32 0) 1 && (leb (getD b 29 0) 1 && eqb (getD b 0 0) version)) →
+    y ≡ threeRight b 47 x → z ≡ threeRight b 50 y → w ≡ threeRight b 53 z → w ≡ layout .right b 0
 right-met b p q r t = rw (t, r, q, p)
 
 pub none-if-wrong : (b : List ℕ) → layout .right b 0 ≡ false → false ≡ isState b

@@ -65,17 +65,17 @@ fn registers_at(b: &[u8]) -> Registers
     ensures { λ r. ⌜ r ≡ stateAt (now (b .entry)) .regs ⌝ }
 {
     Registers {
-        r00: b[3],
-        r01: b[4],
-        r02: b[5],
-        r10: b[6],
-        r11: b[7],
-        c00: b[8],
-        c01: b[9],
-        c02: b[10],
-        c03: b[11],
-        c04: b[12],
-        c05: b[13],
+        r00: b[33],
+        r01: b[34],
+        r02: b[35],
+        r10: b[36],
+        r11: b[37],
+        c00: b[38],
+        c01: b[39],
+        c02: b[40],
+        c03: b[41],
+        c04: b[42],
+        c05: b[43],
     }
 }
 
@@ -86,13 +86,13 @@ fn talker_at(b: &[u8]) -> Talker
 {
     Talker {
         role: Role {
-            address: b[14],
-            phase: b[15],
-            listener: b[16] == 1,
+            address: b[27],
+            phase: b[28],
+            listener: b[29] == 1,
         },
         under: Under {
-            frame: read16(b, 17),
-            finishing: b[19] == 1,
+            frame: read16(b, 30),
+            finishing: b[32] == 1,
         },
     }
 }
@@ -103,8 +103,8 @@ fn remote_at(b: &[u8]) -> Remote
     ensures { λ r. ⌜ r ≡ stateAt (now (b .entry)) .remote ⌝ }
 {
     Remote {
-        enabled: b[20] == 1,
-        remote: b[21] == 1,
+        enabled: b[54] == 1,
+        remote: b[55] == 1,
     }
 }
 
@@ -126,9 +126,9 @@ fn line_at(b: &[u8]) -> Line
     ensures { λ r. ⌜ r ≡ stateAt (now (b .entry)) .line ⌝ }
 {
     Line {
-        holding: b[34] == 1,
-        forbidden: b[35] == 1,
-        stopped: b[36] == 1,
+        holding: b[44] == 1,
+        forbidden: b[45] == 1,
+        stopped: b[46] == 1,
     }
 }
 
@@ -139,16 +139,16 @@ fn notes_at(b: &[u8]) -> Notes
 {
     Notes {
         seen: Events {
-            brk: b[37] == 1,
-            overrun: b[38] == 1,
-            key: b[39] == 1,
+            brk: b[47] == 1,
+            overrun: b[48] == 1,
+            key: b[49] == 1,
         },
         again: Events {
-            brk: b[40] == 1,
-            overrun: b[41] == 1,
-            key: b[42] == 1,
+            brk: b[50] == 1,
+            overrun: b[51] == 1,
+            key: b[52] == 1,
         },
-        request: b[43] == 1,
+        request: b[53] == 1,
     }
 }
 
@@ -158,9 +158,9 @@ fn counts_at(b: &[u8]) -> Counts
     ensures { λ r. ⌜ r ≡ stateAt (now (b .entry)) .counts ⌝ }
 {
     Counts {
-        stored: read32(b, 44),
-        lost: read32(b, 48),
-        sent: read32(b, 52),
+        stored: read32(b, 15),
+        lost: read32(b, 19),
+        sent: read32(b, 23),
     }
 }
 
@@ -173,8 +173,8 @@ pub fn unpack(b: &[u8]) -> State
     let regs = registers_at(b);
     let talker = talker_at(b);
     let remote = remote_at(b);
-    let rx = ring_at(b, 22);
-    let tx = ring_at(b, 28);
+    let rx = ring_at(b, 3);
+    let tx = ring_at(b, 9);
     let line = line_at(b);
     let notes = notes_at(b);
     let counts = counts_at(b);

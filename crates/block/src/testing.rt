@@ -20,10 +20,10 @@ pub fn right(b: &[u8]) -> bool
     ensures { λ r. ⌜ r ≡ layout .right (now (b .entry)) 0 ⌝ }
 {
     let version = b[0] == VERSION;
-    let listener = (b[16] <= 1) & version;
-    let sending = three_right(b, 19, listener);
-    let line = three_right(b, 34, sending);
-    let seen = three_right(b, 37, line);
-    let again = three_right(b, 40, seen);
-    (b[43] <= 1) & again
+    let listener = (b[29] <= 1) & version;
+    let finishing = (b[32] <= 1) & listener;
+    let line = three_right(b, 44, finishing);
+    let seen = three_right(b, 47, line);
+    let again = three_right(b, 50, seen);
+    three_right(b, 53, again)
 }

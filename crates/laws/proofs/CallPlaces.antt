@@ -79,17 +79,17 @@ module _ (w : World) (e : Fits w) where
 
   -- ---- a byte to the line
 
-  gone-rx : (o : Out) → afterGiving (w .state) o .rx ≡ w .state .rx
+  given-rx : (o : Out) → afterGiving (w .state) o .rx ≡ w .state .rx
   unfolding afterGiving
-  gone-rx (out.Own b) = refl
-  gone-rx (out.Held b) = refl
-  gone-rx out.Nothing = refl
+  given-rx (out.Own b) = refl
+  given-rx (out.Held b) = refl
+  given-rx out.Nothing = refl
 
-  gone-tx : (o : Out) → o ≡ nextOut (w .state) (w .tx) → nextPlace (length (w .tx)) (afterGiving (w .state) o .tx) ≡ nextPlace (length (w .tx)) (w .state .tx)
+  given-tx : (o : Out) → o ≡ nextOut (w .state) (w .tx) → nextPlace (length (w .tx)) (afterGiving (w .state) o .tx) ≡ nextPlace (length (w .tx)) (w .state .tx)
   unfolding afterGiving
-  gone-tx (out.Own b) h = refl
-  gone-tx (out.Held b) h = left (w .tx) (w .state .tx) 1 (g .ring) (given-some (w .state) (w .tx) b h)
-  gone-tx out.Nothing h = refl
+  given-tx (out.Own b) h = refl
+  given-tx (out.Held b) h = left (w .tx) (w .state .tx) 1 (g .ring) (given-some (w .state) (w .tx) b h)
+  given-tx out.Nothing h = refl
 
   -- ---- a frame
 
@@ -182,7 +182,7 @@ done-places (on key) w h = none w (quiet w _ refl refl)
 done-places (on nextLineByte) w h =
     let e : Fits w = fitting nextLineByte w h .0 in
     let o : Out = nextOut (w .state) (w .tx) in
-    none w (record { rx = stays-same (w .rx) (w .state .rx) _ (gone-rx w e o); tx = stays (w .tx) (w .state .tx) _ (gone-tx w e o refl) })
+    none w (record { rx = stays-same (w .rx) (w .state .rx) _ (given-rx w e o); tx = stays (w .tx) (w .state .tx) _ (given-tx w e o refl) })
 done-places (on (loopFrame n)) w h =
     let x = frame-fitting n w h in
     let t : State = frameTaken (w .state) (w .rx) n .state in

@@ -141,13 +141,13 @@ module _ (rx tx : List ℕ) where
         changed : G (withRegisters s (written (s .regs) n v))
         changed = good _ (with-registers s (length rx) (length tx) t (written (s .regs) n v) (fit-written (s .regs) n v (t .regs) h))
 
-    gone-good : (o : Out) → o ≡ nextOut s tx → G (afterGiving s o)
+    giving-good : (o : Out) → o ≡ nextOut s tx → G (afterGiving s o)
     unfolding afterGiving
-    gone-good (out.Own x) h = unfold fits in e
-    gone-good (out.Held x) h =
+    giving-good (out.Own x) h = unfold fits in e
+    giving-good (out.Held x) h =
         fits-with-tx (store-ring.dropRing (s .tx) 1)
         (store-laws.drop-fit tx (s .tx) 1 (tx-fits s rx tx e .ring) (given-some s tx x h))
-    gone-good out.Nothing h = e
+    giving-good out.Nothing h = e
 
     left-good : (f : ℕ) → G (addedState s f)
     unfolding addedState
@@ -217,7 +217,7 @@ module _ (w : World) (b : Bytes (w .rx)) (e : Fits w) where
   outcome-good (lineByte x) h = line-good (w .rx) (w .tx) (w .state) e x
   outcome-good lineBreak h = unfold fits breakState in e
   outcome-good key h = unfold fits keyState in e
-  outcome-good nextLineByte h = gone-good (w .rx) (w .tx) (w .state) e (nextOut (w .state) (w .tx)) refl
+  outcome-good nextLineByte h = giving-good (w .rx) (w .tx) (w .state) e (nextOut (w .state) (w .tx)) refl
   outcome-good (loopFrame f) h = way-good (w .rx) (w .tx) (w .state) e b f (frameTaken (w .state) (w .rx) f) (way (w .state) (w .rx) f)
 
   -- requests are settled or not, and the stores keep their lengths

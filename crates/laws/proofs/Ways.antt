@@ -12,7 +12,7 @@ use Rattle.role.specs.Role.{isActive}
 use Rattle.role.specs.ReadyFrames.{givesAddress, readyOf}
 use Rattle.talker.specs.declared.Return.{Return}
 use Rattle.talker.specs.Readied.{assignedTalker, finishingTalker}
-use Rattle.talker.specs.Returns.{returnOf}
+use Rattle.talker.specs.Returning.{returnOf}
 use Rattle.state.specs.declared.State.{State}
 use Rattle.state.specs.declared.Outcome.{Outcome}
 use Rattle.state.specs.State.{withTalker}

@@ -12,7 +12,7 @@ use Rattle.laws.specs.Cleared.{Clears, NotInvented, NotAtStart}
 use Rattle.laws.specs.Demands.{RefusedStays, OneFrameOut, ElevenBits, FramesRead, NoneLost}
 use Rattle.laws.specs.LineBytes.{LineKept, LineSince}
 use Rattle.laws.specs.LastSent.{LastKept, LastSince, OwnGiven}
-use Rattle.laws.specs.Counts.{CountsGo, CountsSince}
+use Rattle.laws.specs.Counting.{CountsGo, CountsSince}
 use Rattle.laws.specs.Service.{ServiceBit}
 use Rattle.laws.specs.SendRule.{SendRule, NoneRemoved, FramesSince}
 use Rattle.laws.specs.Returns.{ReturnsJudged}

@@ -27,7 +27,7 @@ pub mod Registers
 pub mod Demands
 pub mod LineBytes
 pub mod LastSent
-pub mod Counts
+pub mod Counting
 pub mod Holding
 pub mod NextByte
 pub mod Resuming

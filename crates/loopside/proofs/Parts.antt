@@ -27,7 +27,7 @@ use Rattle.talker.specs.declared.Return.the-variants.{Damaged, StatusBack, Fini
 use Rattle.talker.specs.Obeying.{obeyedTalker}
 use Rattle.talker.specs.Readied.{assignedTalker, finishingTalker}
 use Rattle.talker.specs.UnderWay.{talking, endedTalker}
-use Rattle.talker.specs.Returns.{returnOf}
+use Rattle.talker.specs.Returning.{returnOf}
 use Rattle.sending.specs.declared.Given.{Given}
 use Rattle.sending.specs.declared.Given.the-variants.{Nothing, One}
 use Rattle.sending.specs.declared.Sending.{Sending}

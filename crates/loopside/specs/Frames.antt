@@ -18,7 +18,7 @@ use Rattle.talker.specs.declared.Return.{Return}
 use Rattle.talker.specs.declared.Return.the-variants.{Damaged, StatusBack, Finished, Next}
 use Rattle.talker.specs.Obeying.{obeyedTalker}
 use Rattle.talker.specs.Readied.{assignedTalker, finishingTalker}
-use Rattle.talker.specs.Returns.{returnOf}
+use Rattle.talker.specs.Returning.{returnOf}
 use Rattle.store.specs.Ring.{emptyRing}
 use Rattle.state.specs.declared.State.{State}
 use Rattle.state.specs.declared.Outcome.{Outcome}

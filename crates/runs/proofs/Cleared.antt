@@ -29,7 +29,7 @@ use Rattle.state.specs.Conditions as status
 use Rattle.line.specs.HoldingOff.{isGoOrStop, flowed, lostState, storedWith, storedState, lineState, setAfresh, afterWrite, nextOut, afterGiving}
 use Rattle.loopside.specs.LoopToLine.{addedState}
 use Rattle.talker.specs.UnderWay.{talking}
-use Rattle.talker.specs.Returns.{returnOf}
+use Rattle.talker.specs.Returning.{returnOf}
 use Rattle.loopside.specs.Sends.{sendStatus, ended}
 use Rattle.loopside.specs.Frames.{cleared, judged, returned, frameTaken, deviceClear}
 use Rattle.bridge.specs.Calls.{Call, on, create, reset, write, lineByte, lineBreak, key, nextLineByte}
@@ -171,11 +171,11 @@ module _ (e : Event) (w : World) (f : ℕ) where
 unmoved : (e : Event) (s : State) → On e s s
 unmoved e s = record { talker = refl; frame = refl; seen = refl; again = refl }
 
-gone-noted : (e : Event) (w : World) (a : Said) (o : Out) → Noted e (on nextLineByte) w a (settled (w .state) (afterGiving (w .state) o))
+given-noted : (e : Event) (w : World) (a : Said) (o : Out) → Noted e (on nextLineByte) w a (settled (w .state) (afterGiving (w .state) o))
 unfolding afterGiving settled restarts clears
-gone-noted e w a (out.Own b) = kept e (on nextLineByte) w a _ refl (record { talker = refl; frame = refl; seen = refl; again = refl })
-gone-noted e w a (out.Held b) = kept e (on nextLineByte) w a _ refl (record { talker = refl; frame = refl; seen = refl; again = refl })
-gone-noted e w a out.Nothing = kept e (on nextLineByte) w a _ refl (record { talker = refl; frame = refl; seen = refl; again = refl })
+given-noted e w a (out.Own b) = kept e (on nextLineByte) w a _ refl (record { talker = refl; frame = refl; seen = refl; again = refl })
+given-noted e w a (out.Held b) = kept e (on nextLineByte) w a _ refl (record { talker = refl; frame = refl; seen = refl; again = refl })
+given-noted e w a out.Nothing = kept e (on nextLineByte) w a _ refl (record { talker = refl; frame = refl; seen = refl; again = refl })
 
 line-noted : (e : Event) (w : World) (b : ℕ) (t u : Bool) → isGoOrStop (w .state .regs) b ≡ t → full (w .state .rx) ≡ u →
     Noted e (on (lineByte b)) w done (settled (w .state) (cond t (flowed (w .state) b) (cond u (lostState (w .state)) (storedState (w .state)))))
@@ -234,7 +234,7 @@ notes overrun (on key) w =
     (λ _. settled-noted overrun (on key) w done false _
     (kept overrun (on key) w done _ refl (record { talker = refl; frame = refl; seen = refl; again = refl })))
 notes pressed (on key) w = noted-or pressed (on key) w _ _ (λ _. happened pressed (on key) w done _ refl refl)
-notes e (on nextLineByte) w = noted-or e (on nextLineByte) w _ _ (λ _. gone-noted e w _ (nextOut (w .state) (w .tx)))
+notes e (on nextLineByte) w = noted-or e (on nextLineByte) w _ _ (λ _. given-noted e w _ (nextOut (w .state) (w .tx)))
 notes e (on (loopFrame f)) w =
     noted-or e (on (loopFrame f)) w _ _
     (λ x. settled-noted e (on (loopFrame f)) w _ (deviceClear (w .state) f) _

@@ -14,7 +14,7 @@ use Rattle.bridge.specs.Calls.{Call, World}
 use Rattle.store.specs.Bytes.{Bytes}
 use Rattle.laws.specs.Observers.{accepted, lost, sent, startsAnew}
 use Rattle.laws.specs.Worlds.{heldToSend}
-use Rattle.laws.specs.Counts.{wrapped, Small, CountsGo, CountsSince}
+use Rattle.laws.specs.Counting.{wrapped, Small, CountsGo, CountsSince}
 use Rattle.runs.proofs.Shapes.{Seen, seen, Core, core, Shape, isStill, isBegun, isWritten}
 use Rattle.runs.proofs.Shapes.{isCleared, isStored, isLost, isSent, isNone, isLeft, isHanded}
 use Rattle.runs.proofs.View.{view}

@@ -80,13 +80,13 @@ goes-or : (c : Call) (w : World) (n : ℕ) (d : Did) → (n ≡ 0 → Goes c w d
 goes-or c w n d = or-refused (Goes c w) n d w (same c w (record { said = refused n; world = w }) (refused-unseen c w n) refl refl)
 
 -- a byte to the line
-gone-goes : (w : World) (o : Out) →
+given-goes : (w : World) (o : Out) →
     Goes (on nextLineByte) w
     (record { said = said (outAnswer o); world = record { state = settled (w .state) (afterGiving (w .state) o); rx = w .rx; tx = w .tx } })
 unfolding afterGiving outAnswer said settled arrived restarts clears sends afterByte
-gone-goes w (out.Own b) = same (on nextLineByte) w _ (record { empties = refl; arrived = refl; sends = refl; writes = refl; byte = refl }) refl refl
-gone-goes w (out.Held b) = same (on nextLineByte) w _ (record { empties = refl; arrived = refl; sends = refl; writes = refl; byte = refl }) refl refl
-gone-goes w out.Nothing = same (on nextLineByte) w _ (record { empties = refl; arrived = refl; sends = refl; writes = refl; byte = refl }) refl refl
+given-goes w (out.Own b) = same (on nextLineByte) w _ (record { empties = refl; arrived = refl; sends = refl; writes = refl; byte = refl }) refl refl
+given-goes w (out.Held b) = same (on nextLineByte) w _ (record { empties = refl; arrived = refl; sends = refl; writes = refl; byte = refl }) refl refl
+given-goes w out.Nothing = same (on nextLineByte) w _ (record { empties = refl; arrived = refl; sends = refl; writes = refl; byte = refl }) refl refl
 
 -- ---- line bytes
 
@@ -204,7 +204,7 @@ goes (on lineBreak) w =
     goes-or (on lineBreak) w _ _ (λ _. same (on lineBreak) w _ (record { empties = refl; arrived = refl; sends = refl; writes = refl; byte = refl }) refl refl)
 goes (on key) w =
     goes-or (on key) w _ _ (λ _. same (on key) w _ (record { empties = refl; arrived = refl; sends = refl; writes = refl; byte = refl }) refl refl)
-goes (on nextLineByte) w = goes-or (on nextLineByte) w _ _ (λ _. gone-goes w (nextOut (w .state) (w .tx)))
+goes (on nextLineByte) w = goes-or (on nextLineByte) w _ _ (λ _. given-goes w (nextOut (w .state) (w .tx)))
 goes (on (loopFrame f)) w = goes-or (on (loopFrame f)) w _ _ (λ e. frame-goes w f (frame-fits f w e))
 goes (show side) w =
     goes-or (show side) w _ _ (λ _. same (show side) w _ (record { empties = refl; arrived = refl; sends = refl; writes = refl; byte = refl }) refl refl)

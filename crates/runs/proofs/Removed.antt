@@ -55,11 +55,11 @@ frame-rx s rx f o (isCleared m k) e c = absurd (true≢false (sym (m .clear) ∙
 frame-rx s rx f o (isKept m d l) e c = refl
 frame-rx s rx f o (isOther t n p m x) e c = ap (λ (h : Core). h .rx) (x .core)
 
-gone-rx : (s : State) (o : Out) → afterGiving s o .rx ≡ s .rx
+given-rx : (s : State) (o : Out) → afterGiving s o .rx ≡ s .rx
 unfolding afterGiving
-gone-rx s (out.Own b) = refl
-gone-rx s (out.Held b) = refl
-gone-rx s out.Nothing = refl
+given-rx s (out.Own b) = refl
+given-rx s (out.Held b) = refl
+given-rx s out.Nothing = refl
 
 write-rx : (s : State) (n v : ℕ) → afterWrite s n (written (s .regs) n v) .rx ≡ s .rx
 unfolding afterWrite setAfresh
@@ -95,7 +95,7 @@ module _ (w : World) where
   done-stays (lineByte b) e q n = line-held w (fitting (lineByte b) w e .0) b (isGoOrStop (w .state .regs) b) F refl
   done-stays lineBreak e q n = same-ring _ refl
   done-stays key e q n = same-ring _ refl
-  done-stays nextLineByte e q n = same-ring _ (gone-rx (w .state) (nextOut (w .state) (w .tx)))
+  done-stays nextLineByte e q n = same-ring _ (given-rx (w .state) (nextOut (w .state) (w .tx)))
   done-stays (loopFrame f) e q n =
       let c : deviceClear (w .state) f ≡ false = (λ i. not (sym (frame-not-refused (w .state) (w .rx) f) i) && deviceClear (w .state) f) ∙ q in
       same-ring _ (settled-rx (w .state) (deviceClear (w .state) f) _ (frame-rx (w .state) (w .rx) f _ (kind-of f w (fitting (loopFrame f) w e .0)) n c))

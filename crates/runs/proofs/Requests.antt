@@ -78,11 +78,11 @@ goes-or : (c : Call) (w : World) (n : ℕ) (d : Did) → statusSent c w (refused
     empties c w (refusedOr n d w .said) ≡ false → Goes c w (refusedOr n d w)
 goes-or c w n d e = or-refused (λ (x : Did). empties c w (x .said) ≡ false → Goes c w x) n d w (λ _. still-goes c w (refused n) e)
 
-gone-kept : (s : State) (o : Out) → afterGiving s o .notes .request ≡ s .notes .request
+given-kept : (s : State) (o : Out) → afterGiving s o .notes .request ≡ s .notes .request
 unfolding afterGiving
-gone-kept s (out.Own b) = refl
-gone-kept s (out.Held b) = refl
-gone-kept s out.Nothing = refl
+given-kept s (out.Own b) = refl
+given-kept s (out.Held b) = refl
+given-kept s out.Nothing = refl
 
 line-kept : (s : State) (b : ℕ) → lineState s b .notes .request ≡ s .notes .request
 unfolding lineState flowed lostState storedWith
@@ -152,7 +152,7 @@ goes (on lineBreak) w = goes-or (on lineBreak) w _ _ refl (λ _ _. quiet (on lin
 goes (on key) w = goes-or (on key) w _ _ refl (λ _ _. quiet (on key) w done _ (sym (and-true (w .state .notes .request))))
 goes (on nextLineByte) w =
     goes-or (on nextLineByte) w _ _ refl
-    (λ _ _. quiet (on nextLineByte) w done _ (gone-kept (w .state) (nextOut (w .state) (w .tx)) ∙ sym (and-true (w .state .notes .request))))
+    (λ _ _. quiet (on nextLineByte) w done _ (given-kept (w .state) (nextOut (w .state) (w .tx)) ∙ sym (and-true (w .state .notes .request))))
 goes (on (loopFrame f)) w = frame-goes w f
 goes (show side) w = goes-or (show side) w _ _ refl (λ _ _. still-goes (show side) w (calls.notRefused (show side) w .said) refl)
 

@@ -46,7 +46,7 @@ use Rattle.runs.proofs.FrameKinds.{Kind, no-data, kind-of, address-high
 use Rattle.runs.proofs.FrameKinds as kinds
 use Rattle.laws.proofs.Ways.{Way, isNext, isBack, isLast, isDamaged, isStored, isPassed, isCleared}
 use Rattle.laws.proofs.Ways.{isObeyed, isAssigned, isSendAsked, isTold, isFinishing, isReady, isIdentified, way}
-use Rattle.runs.proofs.Untouched.{Untouched, both-untouched, settled-untouched, break-untouched, key-untouched, line-untouched, gone-untouched, write-untouched}
+use Rattle.runs.proofs.Untouched.{Untouched, both-untouched, settled-untouched, break-untouched, key-untouched, line-untouched, given-untouched, write-untouched}
 use Rattle.runs.proofs.Steps.{answer, after, end, some, Without, ours, at-call, at-left}
 
 -- the frame under way is g but for the service bit, the talker is active, with status where k holds, and finishing is e
@@ -135,7 +135,7 @@ module _ (k : Bool) (g : ℕ) (e : Bool) where
   done-on (on lineBreak) w u n = same (w .state) _ false (both-untouched _ _ _ (break-untouched (w .state)) (settled-untouched (w .state) false _)) refl u
   done-on (on key) w u n = same (w .state) _ false (both-untouched _ _ _ (key-untouched (w .state)) (settled-untouched (w .state) false _)) refl u
   done-on (on nextLineByte) w u n =
-      same (w .state) _ false (both-untouched _ _ _ (gone-untouched (w .state) (nextOut (w .state) (w .tx))) (settled-untouched (w .state) false _)) refl u
+      same (w .state) _ false (both-untouched _ _ _ (given-untouched (w .state) (nextOut (w .state) (w .tx))) (settled-untouched (w .state) false _)) refl u
   done-on (on (loopFrame f)) w u n =
       let m = neither (isData f) (eqb (controlOf f) 4)
       ((λ i. not (sym (frame-not-refused (w .state) (w .rx) f) i) && (isData f || eqb (controlOf f) 4)) ∙ n) in

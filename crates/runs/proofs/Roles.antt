@@ -44,7 +44,7 @@ use Rattle.laws.proofs.Ways.{isPassed, isCleared, isObeyed, isAssigned, isSendA
 use Rattle.runs.proofs.Passing.{assigns-same}
 use Rattle.runs.proofs.Obeying.{obeyed-right}
 use Rattle.runs.proofs.Remote.{remote-way}
-use Rattle.runs.proofs.Untouched.{Untouched, settled-untouched, break-untouched, key-untouched, line-untouched, gone-untouched, write-untouched}
+use Rattle.runs.proofs.Untouched.{Untouched, settled-untouched, break-untouched, key-untouched, line-untouched, given-untouched, write-untouched}
 use Rattle.runs.proofs.Steps.{ours}
 
 -- ---- frames
@@ -184,7 +184,7 @@ done-goes (on (write n v)) w B e q = untouched (w .state) _ (write-untouched (w 
 done-goes (on (lineByte b)) w B e q = untouched (w .state) _ (line-untouched (w .state) b)
 done-goes (on lineBreak) w B e q = untouched (w .state) _ (break-untouched (w .state))
 done-goes (on key) w B e q = untouched (w .state) _ (key-untouched (w .state))
-done-goes (on nextLineByte) w B e q = untouched (w .state) _ (gone-untouched (w .state) (nextOut (w .state) (w .tx)))
+done-goes (on nextLineByte) w B e q = untouched (w .state) _ (given-untouched (w .state) (nextOut (w .state) (w .tx)))
 done-goes (on (loopFrame f)) w B e q =
     let o : Outcome = frameTaken (w .state) (w .rx) f in
     let u : Untouched (o .state) _ = settled-untouched (w .state) (deviceClear (w .state) f) (o .state) in

@@ -222,11 +222,11 @@ line-left s b =
     (λ _. record { talker = refl; frame = refl; seen = noting overrun (s .notes .seen); again = noting overrun (s .notes .again) })
     (λ _. same s _ refl))
 
-gone-left : (s : State) (o : Out) → Left s (part (afterGiving s o))
+given-left : (s : State) (o : Out) → Left s (part (afterGiving s o))
 unfolding afterGiving
-gone-left s (out.Own b) = same s _ refl
-gone-left s (out.Held b) = same s _ refl
-gone-left s out.Nothing = same s _ refl
+given-left s (out.Own b) = same s _ refl
+given-left s (out.Held b) = same s _ refl
+given-left s out.Nothing = same s _ refl
 
 write-left : (s : State) (n v : ℕ) → Left s (part (afterWrite s n (written (s .regs) n v)))
 unfolding afterWrite setAfresh
@@ -262,6 +262,6 @@ kind (on lineBreak) w =
 kind (on key) w =
     refused-or (on key) w _ _
     (goesOn refl refl (record { talker = refl; frame = refl; seen = noting pressed (w .state .notes .seen); again = noting pressed (w .state .notes .again) }))
-kind (on nextLineByte) w = refused-or (on nextLineByte) w _ _ (goesOn refl refl (gone-left (w .state) (nextOut (w .state) (w .tx))))
+kind (on nextLineByte) w = refused-or (on nextLineByte) w _ _ (goesOn refl refl (given-left (w .state) (nextOut (w .state) (w .tx))))
 kind (on (loopFrame f)) w = refused-or (on (loopFrame f)) w _ _ (frame-kind w f)
 kind (show side) w = refused-or (show side) w _ _ (goesOn refl refl (same _ _ refl))

@@ -40,11 +40,11 @@ line-untouched s b =
     by-cond (Untouched s) (isGoOrStop (s .regs) b) _ _ (λ _. record { talker = refl; remote = refl })
     (λ _. by-cond (Untouched s) (full (s .rx)) _ _ (λ _. record { talker = refl; remote = refl }) (λ _. record { talker = refl; remote = refl }))
 
-pub gone-untouched : (s : State) (o : Out) → Untouched s (afterGiving s o)
+pub given-untouched : (s : State) (o : Out) → Untouched s (afterGiving s o)
 unfolding afterGiving
-gone-untouched s (out.Own b) = record { talker = refl; remote = refl }
-gone-untouched s (out.Held b) = record { talker = refl; remote = refl }
-gone-untouched s out.Nothing = record { talker = refl; remote = refl }
+given-untouched s (out.Own b) = record { talker = refl; remote = refl }
+given-untouched s (out.Held b) = record { talker = refl; remote = refl }
+given-untouched s out.Nothing = record { talker = refl; remote = refl }
 
 pub write-untouched : (s : State) (n v : ℕ) → Untouched s (afterWrite s n (written (s .regs) n v))
 unfolding afterWrite setAfresh

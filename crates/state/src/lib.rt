@@ -33,14 +33,14 @@ pub struct Counts {
 // The state goes into every call by value and comes back with the answer; the caller keeps it. The rings record the stores' lengths.
 pub struct State {
     pub margin: usize,
-    pub regs: Registers,
-    pub talker: Talker,
-    pub remote: Remote,
     pub rx: Ring,
     pub tx: Ring,
+    pub counts: Counts,
+    pub talker: Talker,
+    pub regs: Registers,
     pub line: Line,
     pub notes: Notes,
-    pub counts: Counts,
+    pub remote: Remote,
 }
 
 // The next line byte: our own go or stop, one held in the transmit store, or none.

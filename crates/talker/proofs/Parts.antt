@@ -17,7 +17,7 @@ use Rattle.talker.specs.Talker.{noFrame, startTalker}
 use Rattle.talker.specs.Obeying.{forgotten, obeyedTalker}
 use Rattle.talker.specs.Readied.{assignedTalker}
 use Rattle.talker.specs.UnderWay.{talking}
-use Rattle.talker.specs.Returns.{returnOf}
+use Rattle.talker.specs.Returning.{returnOf}
 use Rattle.talker.specs.TalkerFit.{fitTest}
 
 pub start-met : (r : Role) → r ≡ startRole → record { role = r; under = noFrame } ≡ startTalker

@@ -3,5 +3,5 @@ pub mod Talker
 pub mod Obeying
 pub mod Readied
 pub mod UnderWay
-pub mod Returns
+pub mod Returning
 pub mod TalkerFit

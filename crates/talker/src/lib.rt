@@ -4,7 +4,7 @@ ghost use Rattle.talker.specs.Talker.{startTalker};
 ghost use Rattle.talker.specs.Obeying.{obeyedTalker};
 ghost use Rattle.talker.specs.Readied.{assignedTalker, finishingTalker};
 ghost use Rattle.talker.specs.UnderWay.{talking, endedTalker};
-ghost use Rattle.talker.specs.Returns.{returnOf};
+ghost use Rattle.talker.specs.Returning.{returnOf};
 ghost use Rattle.talker.specs.TalkerFit.{fitTest};
 use role::Order;
 use role::Role;

@@ -23,7 +23,7 @@ use Rattle.bridge.specs.Calls.{on, nextLineByte, World, Did, checksOn, checks, 
 use Rattle.laws.specs.Fitting.{Fits}
 use Rattle.store.specs.Bytes.{Bytes}
 use Rattle.laws.proofs.Fitting.{keeps-fit, keeps-bytes}
-use Rattle.transcript.specs.Passing.{lineOut, asks}
+use Rattle.transcript.specs.Transcript.{lineOut, asks}
 use Rattle.transcript.specs.UntilNone.{lineWorld, Enough}
 
 -- how much there is to give: the bytes held, and the go or stop that is owed

@@ -14,7 +14,7 @@ use Rattle.bridge.specs.Calls.{on, write, lineByte, nextLineByte, loopFrame, Wo
 use Rattle.transcript.specs.declared.Set.{Set}
 use Rattle.transcript.specs.Text.{decimal, answerText, bytesText, overwritten, Wrote}
 use Rattle.transcript.specs.Input.{high}
-use Rattle.transcript.specs.Passing.{setRegisters, takeBytes, framesText, framesWorld, Offers, lineOut}
+use Rattle.transcript.specs.Transcript.{setRegisters, takeBytes, framesText, framesWorld, Offers, lineOut}
 use Rattle.transcript.proofs.Writing.{overwritten-then, overwritten-none}
 
 none-left : (n : ℕ) → n ≤ 0 → n ≡ 0

@@ -18,7 +18,7 @@ use Rattle.laws.proofs.Fitting.{keeps-fit, keeps-bytes, stores-stay}
 use Rattle.transcript.specs.declared.Set.{Set}
 use Rattle.transcript.specs.Input.{high, sectionsOf}
 use Rattle.answers.specs.Answers.{faultOf}
-use Rattle.transcript.specs.Passing.{setRegisters, takeBytes, framesWorld, store}
+use Rattle.transcript.specs.Transcript.{setRegisters, takeBytes, framesWorld, store}
 use Rattle.transcript.specs.UntilNone.{runWorld, UntilNone}
 use Rattle.transcript.proofs.Asks.{asks-enough}
 

@@ -15,7 +15,7 @@ use Rattle.transcript.specs.declared.Sections.{Sections}
 use Rattle.transcript.specs.declared.Set.{Set}
 use Rattle.transcript.specs.Text.{decimal, newline, firstLine, lineWord, refusedText, bytesText, Wrote, Within}
 use Rattle.transcript.specs.Input.{high, secondAt, thirdAt, endAt, counted, malformed, byCount, endOf, thirdOf, secondOf, sectionsOf, Whole}
-use Rattle.transcript.specs.Passing.{setRegisters, takeBytes, Offers, lineOut, asks, lineText, restText, setText, runText, store, printed}
+use Rattle.transcript.specs.Transcript.{setRegisters, takeBytes, Offers, lineOut, asks, lineText, restText, setText, runText, store, printed}
 use Rattle.transcript.proofs.Writing.{wrote-then}
 
 -- ---- the sections of well-formed input

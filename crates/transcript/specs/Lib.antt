@@ -1,7 +1,7 @@
--- `Text` is what is printed of numbers and answers, `Input` the three sections, `Passing` the run, `Start` the law of its first state, `UntilNone`
+-- `Text` is what is printed of numbers and answers, `Input` the three sections, `Transcript` the run, `Start` the law of its first state, `UntilNone`
 -- the law of its last line.
 pub mod Text
 pub mod Input
-pub mod Passing
+pub mod Transcript
 pub mod Start
 pub mod UntilNone

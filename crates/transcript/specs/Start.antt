@@ -5,7 +5,7 @@ use Rattle.state.specs.declared.State.{State}
 use Rattle.answers.specs.Answers.{done}
 use Rattle.state.specs.Sizes.{startState}
 use Rattle.bridge.specs.Calls.{create, world, step}
-use Rattle.transcript.specs.Passing.{store}
+use Rattle.transcript.specs.Transcript.{store}
 
 -- create is done, whatever state stood there, and leaves the state that the registers are then set in
 abbrev pub StartsCreated : Type 0

@@ -7,7 +7,7 @@ use Rattle.answers.specs.Answers.{none, isByte}
 use Rattle.bridge.specs.Calls.{on, nextLineByte, World, world, step}
 use Rattle.store.specs.Bytes.{Bytes}
 use Rattle.transcript.specs.Input.{sectionsOf}
-use Rattle.transcript.specs.Passing.{lineOut, asks, lastWorld, registersSet, store}
+use Rattle.transcript.specs.Transcript.{lineOut, asks, lastWorld, registersSet, store}
 
 -- the world after the bytes of `lineOut`
 unfoldable pub lineWorld : ℕ → World → World

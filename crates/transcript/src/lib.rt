@@ -5,7 +5,7 @@ ghost use lib.ListN.{length};
 ghost use Rattle.bridge.specs.Calls.{world};
 ghost use Rattle.transcript.specs.Text.{Wrote, Within};
 ghost use Rattle.transcript.specs.Input.{Whole};
-ghost use Rattle.transcript.specs.Passing.{lineText, restText, runText, printed};
+ghost use Rattle.transcript.specs.Transcript.{lineText, restText, runText, printed};
 use state::State;
 
 mod input;

@@ -4,7 +4,7 @@ ghost use Prim.Native.Nat.{_+_, _*_, _≤_, _<_};
 ghost use lib.ListN.{length};
 ghost use Rattle.bridge.specs.Calls.{world};
 ghost use Rattle.transcript.specs.Text.{bytesText, Wrote};
-ghost use Rattle.transcript.specs.Passing.{setRegisters, Offers, takeBytes, lineOut};
+ghost use Rattle.transcript.specs.Transcript.{setRegisters, Offers, takeBytes, lineOut};
 use crate::Offered;
 use crate::Set;
 use state::State;

@@ -13,7 +13,7 @@ use Rattle.role.specs.Commands as commands
 use Rattle.role.specs.Remote.{obeyedRemote}
 use Rattle.role.specs.ReadyFrames.{readyOf}
 use Rattle.talker.specs.Obeying as talker-commands
-use Rattle.talker.specs.Returns.{returnOf}
+use Rattle.talker.specs.Returning.{returnOf}
 use Rattle.talker.specs.TalkerFit as talker-fit
 use Rattle.store.specs.Ring.{fitTest, putRing, putBytes, putsRing, putsBytes, dropRing}
 use Rattle.status.specs.Status.{statusByte}

@@ -18,7 +18,7 @@ use Rattle.bridge.specs.Calls.{reset, write, lineByte, lineBreak, key, nextLine
 use Rattle.laws.specs.Bridges.{ByteCall, bridge}
 use Rattle.laws.specs.Observers.{any, onLineByte}
 use Rattle.laws.specs.Worlds.{heldToSend}
-use Rattle.wrong.specs.Worlds.{ring, twoLines, full, undecidedBytes, undecided, oneToFour}
+use Rattle.wrong.specs.Trials.{ring, twoLines, full, undecidedBytes, undecided, oneToFour}
 
 -- ---- bytes
 

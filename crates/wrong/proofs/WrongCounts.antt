@@ -4,8 +4,8 @@ use mathlib.Core.Path.{refl}
 use mathlib.Core.Bool.{false}
 use mathlib.Core.List.{[], _∷_}
 use Rattle.bridge.specs.Calls.{World, on, reset, lineByte, lineBreak, loopFrame}
-use Rattle.laws.specs.Counts.{CountsGo, CountsSince, Small}
-use Rattle.wrong.specs.Worlds.{full, cameIn, sendStatus, clearAll}
+use Rattle.laws.specs.Counting.{CountsGo, CountsSince, Small}
+use Rattle.wrong.specs.Trials.{full, cameIn, sendStatus, clearAll}
 use Rattle.wrong.specs.WrongSends.{swallowsThePoint}
 use Rattle.wrong.specs.WrongTelling.{losesUnnoted}
 use Rattle.wrong.specs.WrongCounts.{countsEveryCall, countsStatus, restartKeepsCounts, clearRestartsCounts}

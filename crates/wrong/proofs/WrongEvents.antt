@@ -13,7 +13,7 @@ use Rattle.laws.specs.Bridges.{bridge}
 use Rattle.laws.specs.Events.{Event, broken, overrun, pressed, noted, happens, Alone}
 use Rattle.laws.specs.Cleared.{NotInvented, NotAtStart}
 use Rattle.wrong.specs.SmallWorlds.{fresh, holdingBytes, happened, takesCommand}
-use Rattle.wrong.specs.Worlds.{forbidding}
+use Rattle.wrong.specs.Trials.{forbidding}
 use Rattle.wrong.specs.Seeing.{noting}
 use Rattle.wrong.specs.WrongEvents.{breakEmpties, breakPresses, pressPermits, pressForgets}
 use Rattle.wrong.specs.WrongEvents.{commandSets, lineByteSets, clearKeeps, resetKeeps, createSets}

@@ -11,7 +11,7 @@ use Rattle.laws.specs.Passing.{FramesPass}
 use Rattle.laws.specs.Service.{ServiceBit}
 use Rattle.laws.specs.Worlds.{heldToSend}
 use Rattle.wrong.specs.SmallWorlds.{fresh, activeTalker, hiddenRequest, shownRequest, takes, takesCommand, takesReady}
-use Rattle.wrong.specs.Worlds.{oneToFour}
+use Rattle.wrong.specs.Trials.{oneToFour}
 use Rattle.wrong.specs.WrongFrames.{sameAddressOn, serviceOnCommands, takesService, showsHidden, carriesServiceOver, countsReadyOn, packsControl}
 use Rattle.wrong.specs.Broken.{Breaks}
 use Rattle.wrong.proofs.Computing.{computes}

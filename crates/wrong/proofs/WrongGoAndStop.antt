@@ -5,7 +5,7 @@ use mathlib.Core.List.{List, [], _∷_}
 use Rattle.answers.specs.Answers.{done, byte}
 use Rattle.bridge.specs.Calls.{on, reset, write, nextLineByte, World}
 use Rattle.laws.specs.LastSent.{LastKept, LastSince, OwnGiven}
-use Rattle.wrong.specs.Worlds.{cameIn, switchedOff, begunWith, oneForTheLine}
+use Rattle.wrong.specs.Trials.{cameIn, switchedOff, begunWith, oneForTheLine}
 use Rattle.wrong.specs.WrongLine.{takesDataForStop, neverRecordsSent, switchOffDropsGo, withholdsGoWhenOff}
 use Rattle.wrong.specs.Broken.{Breaks}
 use Rattle.wrong.proofs.Computing.{computes}

@@ -10,7 +10,7 @@ use Rattle.bridge.specs.Calls.{on, lineByte, loopFrame}
 use Rattle.laws.specs.Demands.{NoneLost}
 use Rattle.laws.specs.Holding.{HoldingGoes}
 use Rattle.wrong.specs.Seeing.{having}
-use Rattle.wrong.specs.Worlds.{fullOf, oneToFour, cameIn, talkerCameIn, oneGone, sendData}
+use Rattle.wrong.specs.Trials.{fullOf, oneToFour, cameIn, talkerCameIn, oneGone, sendData}
 use Rattle.wrong.specs.WrongHolding.{beginsLate, endsAtMargin}
 use Rattle.wrong.specs.Broken.{Breaks}
 use Rattle.wrong.proofs.Computing.{computes}

@@ -8,7 +8,7 @@ use Rattle.line.specs.HoldingOff.{withHolding}
 use Rattle.laws.specs.LineBytes.{LineKept, LineSince}
 use Rattle.laws.specs.NextByte.{NextGiven, ForbiddenGoes}
 use Rattle.wrong.specs.Seeing.{having}
-use Rattle.wrong.specs.Worlds.{cameIn, switchedOff, forbidding, begunWith, oneForTheLine, listenerAddingEnds, clearAll}
+use Rattle.wrong.specs.Trials.{cameIn, switchedOff, forbidding, begunWith, oneForTheLine, listenerAddingEnds, clearAll}
 use Rattle.wrong.specs.WrongLine.{stuttering, leavesOutC03, withholdsGoWhenOff, dataBeforeOwn, givesWhileForbidden}
 use Rattle.wrong.specs.WrongLine.{clearKeepsForbidden, writeKeepsForbidden}
 use Rattle.wrong.specs.Broken.{Breaks}

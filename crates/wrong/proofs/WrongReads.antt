@@ -6,7 +6,7 @@ use mathlib.Core.List.{[], _∷_}
 use Rattle.bridge.specs.Calls.{on, reset, lineByte, loopFrame}
 use Rattle.laws.specs.Demands.{FramesRead}
 use Rattle.laws.specs.SendRule.{FramesSince}
-use Rattle.wrong.specs.Worlds.{full, twoLines, cameIn, oneToFour, sendData, clearAll}
+use Rattle.wrong.specs.Trials.{full, twoLines, cameIn, oneToFour, sendData, clearAll}
 use Rattle.wrong.specs.WrongSends.{impatient, repeats, swallowsThePoint, clearKeepsStore, restartKeepsStore}
 use Rattle.wrong.specs.Broken.{Breaks}
 use Rattle.wrong.proofs.Computing.{computes}

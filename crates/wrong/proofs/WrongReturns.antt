@@ -14,7 +14,7 @@ use Rattle.laws.specs.Bridges.{bridge}
 use Rattle.laws.specs.Observers.{taken}
 use Rattle.laws.specs.StatusWay.{endsWay}
 use Rattle.laws.specs.Returns.{Judged, finishes, ReturnsJudged}
-use Rattle.wrong.specs.Worlds.{ring, full, oneSent, twoLines, sendData, finish, firstFrame, firstRequested}
+use Rattle.wrong.specs.Trials.{ring, full, oneSent, twoLines, sendData, finish, firstFrame, firstRequested}
 use Rattle.wrong.specs.WrongReturns.{comparesService, recordsFrame0, damageGives64, finishesAtOnce, neverFinishes}
 use Rattle.wrong.specs.Broken.{Breaks}
 use Rattle.wrong.proofs.Computing.{computes}

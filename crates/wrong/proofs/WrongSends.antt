@@ -11,7 +11,7 @@ use Rattle.store.proofs.Laws.{held-at, wrap-high}
 use Rattle.bridge.specs.Calls.{on, lineByte, lineBreak, loopFrame}
 use Rattle.laws.specs.SendRule.{SendRule, NoneRemoved}
 use Rattle.laws.specs.Resuming.{EmptySendResumes}
-use Rattle.wrong.specs.Worlds.{ring, full, fullOf, twoLines, pairAfterLine, pairFirst, undecided, sendData}
+use Rattle.wrong.specs.Trials.{ring, full, fullOf, twoLines, pairAfterLine, pairFirst, undecided, sendData}
 use Rattle.wrong.specs.WrongSends.{silent, passesAll, tired, endsNothing, removesPairsBehind, removesPairsAlways, keepsPairsAtNone, holdsOnAtNone}
 use Rattle.wrong.specs.WrongSends.{dropsOldestWhenFull, commandEmpties}
 use Rattle.wrong.specs.Broken.{Breaks, BreaksAs}

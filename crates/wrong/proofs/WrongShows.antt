@@ -11,7 +11,7 @@ use Rattle.bridge.specs.Calls.{write, show, on}
 use Rattle.laws.specs.Showing.{ShowsSo}
 use Rattle.laws.specs.Starting.{SizesStay}
 use Rattle.wrong.specs.SmallWorlds.{holdingBytes, misfitting, takesCommand}
-use Rattle.wrong.specs.Worlds.{oneToFour}
+use Rattle.wrong.specs.Trials.{oneToFour}
 use Rattle.wrong.specs.WrongShows.{showsNothing, showsMisfits, clearsMargin, writesMargin, wideBytes, wide}
 use Rattle.wrong.specs.Broken.{Breaks}
 use Rattle.wrong.proofs.Small.{bytes, are-bytes}

@@ -10,7 +10,7 @@ use Rattle.bridge.specs.Calls.{write, key, on}
 use Rattle.laws.specs.StatusTold.{StatusTold}
 use Rattle.laws.specs.Requests.{RequestsGo}
 use Rattle.wrong.specs.SmallWorlds.{transmitBytes, fresh, holdingBytes, talkerOfOne, talkerWithoutRoom}
-use Rattle.wrong.specs.Worlds.{oneToFour}
+use Rattle.wrong.specs.Trials.{oneToFour}
 use Rattle.wrong.specs.SmallWorlds.{hiddenRequest, shownRequest, takesCommand, takesReady}
 use Rattle.wrong.specs.WrongStatus.{showsExchanged, showsRoom, showsAfter, showsAnyRequest}
 use Rattle.wrong.specs.WrongStatus.{enablesExchanged, enablesAll, requestsOn, requestsForever}

@@ -10,7 +10,7 @@ use Rattle.bridge.specs.Calls.{write, lineByte, nextLineByte, create, on}
 use Rattle.laws.specs.CallPlaces.{Places}
 use Rattle.laws.specs.Fitting.{KeepsFit, CreateMakesFit, KeepsStores}
 use Rattle.wrong.specs.SmallWorlds.{fresh, holdingBytes, takesCommand}
-use Rattle.wrong.specs.Worlds.{oneForTheLine}
+use Rattle.wrong.specs.Trials.{oneForTheLine}
 use Rattle.wrong.specs.Changing.{heedless}
 use Rattle.wrong.specs.WrongStores.{oneTooFar, clearsInPlace, wiping, growing, clearsAway, createsAlike}
 use Rattle.wrong.specs.Broken.{Breaks}

@@ -9,7 +9,7 @@ use Rattle.bridge.specs.Calls.{Call, on, lineByte, loopFrame}
 use Rattle.laws.specs.Events.{Event, overrun, Stays}
 use Rattle.laws.specs.StatusTold.{TellsUntilBack}
 use Rattle.laws.specs.Cleared.{Clears}
-use Rattle.wrong.specs.Worlds.{full, statusUnderWay, sendStatus}
+use Rattle.wrong.specs.Trials.{full, statusUnderWay, sendStatus}
 use Rattle.wrong.specs.WrongTelling.{forgetful, clearsThoughAgain, clearsOnAnyReturn, stubborn, takesForStatus, losesUnnoted}
 use Rattle.wrong.specs.WrongSends.{swallowsThePoint}
 use Rattle.wrong.specs.Broken.{Breaks}

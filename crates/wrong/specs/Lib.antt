@@ -1,8 +1,8 @@
--- Bridges that are wrong in one way each, by theme, and otherwise ours: `Changing` and `Seeing` say how one is made from ours, `Worlds` are
+-- Bridges that are wrong in one way each, by theme, and otherwise ours: `Changing` and `Seeing` say how one is made from ours, `Trials` are
 -- the worlds that they are tried in, and `Broken` says what it is to break a law.
 pub mod Changing
 pub mod Seeing
-pub mod Worlds
+pub mod Trials
 pub mod Broken
 pub mod WrongSends
 pub mod WrongReturns

@@ -15,7 +15,7 @@ use Rattle.bridge.specs.Calls.{Call, on, loopFrame, World, world}
 use Rattle.laws.specs.Events.{Event}
 use Rattle.wrong.specs.Changing.{withRole, withUnder}
 use Rattle.wrong.specs.Seeing.{withNoted}
-use Rattle.wrong.specs.Worlds.{ring, oneToFour}
+use Rattle.wrong.specs.Trials.{ring, oneToFour}
 
 -- the bytes of a transmit store of three places
 abbrev pub transmitBytes : List ℕ

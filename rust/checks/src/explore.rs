@@ -49,9 +49,9 @@ pub struct Found {
 
 /// Room for a block and both stores.
 const ROOM: usize = block::LEN + 9;
-/// The three counts, the last of the block. They would make every state new, so they are 0 in all
+/// The three counts. They would make every state new, so they are 0 in all
 /// states that are taken up; each transition is held to what it adds to them.
-const COUNTS: std::ops::Range<usize> = block::LEN - 12..block::LEN;
+const COUNTS: std::ops::Range<usize> = 15..27;
 
 /// A state: block and stores in one piece, and what the watcher of a run that led here knows.
 #[derive(Clone, Copy, PartialEq, Eq, Hash)]

@@ -17,13 +17,6 @@ pub fn pack(bridge: &Bridge) -> [u8; LEN] {
     let mut out = Writer::new();
     out.bytes([VERSION]);
     out.size(bridge.margin);
-    let r = &bridge.registers;
-    out.bytes([r.r00, r.r01, r.r02, r.r10, r.r11]);
-    out.bytes(r.c);
-    out.bytes([bridge.address, bridge.talker]);
-    out.flags([bridge.listener]);
-    out.bytes(bridge.under_way.to_le_bytes());
-    out.flags([bridge.finishing, bridge.remote_enabled, bridge.remote]);
     for (len, ring) in [
         (bridge.receive_len, &bridge.receive),
         (bridge.transmit_len, &bridge.transmit),
@@ -32,13 +25,20 @@ pub fn pack(bridge: &Bridge) -> [u8; LEN] {
         out.size(ring.oldest);
         out.size(ring.held);
     }
-    out.flags([bridge.holding, bridge.forbidden, bridge.stop_sent_last]);
-    out.flags([bridge.break_seen, bridge.overrun_seen, bridge.key_seen]);
-    out.flags([bridge.break_again, bridge.overrun_again, bridge.key_again]);
-    out.flags([bridge.request]);
     for count in [bridge.stored, bridge.lost, bridge.sent] {
         out.bytes(count.to_le_bytes());
     }
+    out.bytes([bridge.address, bridge.talker]);
+    out.flags([bridge.listener]);
+    out.bytes(bridge.under_way.to_le_bytes());
+    out.flags([bridge.finishing]);
+    let r = &bridge.registers;
+    out.bytes([r.r00, r.r01, r.r02, r.r10, r.r11]);
+    out.bytes(r.c);
+    out.flags([bridge.holding, bridge.forbidden, bridge.stop_sent_last]);
+    out.flags([bridge.break_seen, bridge.overrun_seen, bridge.key_seen]);
+    out.flags([bridge.break_again, bridge.overrun_again, bridge.key_again]);
+    out.flags([bridge.request, bridge.remote_enabled, bridge.remote]);
     out.block
 }
 
@@ -51,18 +51,19 @@ pub fn unpack(block: &[u8]) -> Option<Bridge> {
     // Fields of a literal are read in the order in which they are written here.
     let bridge = Bridge {
         margin: from.size(),
-        registers: from.registers(),
+        receive_len: from.size(),
+        receive: from.ring(),
+        transmit_len: from.size(),
+        transmit: from.ring(),
+        stored: u32::from_le_bytes(from.bytes()),
+        lost: u32::from_le_bytes(from.bytes()),
+        sent: u32::from_le_bytes(from.bytes()),
         address: from.byte(),
         talker: from.byte(),
         listener: from.flag(),
         under_way: u16::from_le_bytes(from.bytes()),
         finishing: from.flag(),
-        remote_enabled: from.flag(),
-        remote: from.flag(),
-        receive_len: from.size(),
-        receive: from.ring(),
-        transmit_len: from.size(),
-        transmit: from.ring(),
+        registers: from.registers(),
         holding: from.flag(),
         forbidden: from.flag(),
         stop_sent_last: from.flag(),
@@ -73,9 +74,8 @@ pub fn unpack(block: &[u8]) -> Option<Bridge> {
         overrun_again: from.flag(),
         key_again: from.flag(),
         request: from.flag(),
-        stored: u32::from_le_bytes(from.bytes()),
-        lost: u32::from_le_bytes(from.bytes()),
-        sent: u32::from_le_bytes(from.bytes()),
+        remote_enabled: from.flag(),
+        remote: from.flag(),
     };
     (version == VERSION && from.flags_sound).then_some(bridge)
 }
@@ -183,7 +183,7 @@ mod tests {
     fn numbered() -> [u8; LEN] {
         let mut block = [0; LEN];
         for (place, byte) in block.iter_mut().enumerate() {
-            let flag = matches!(place, 16 | 19..=21 | 34..=43);
+            let flag = matches!(place, 29 | 32 | 44..=55);
             *byte = if flag { place as u8 & 1 } else { place as u8 };
         }
         block[0] = VERSION;
@@ -195,16 +195,16 @@ mod tests {
         let block = numbered();
         let bridge = unpack(&block).expect("every flag is 0 or 1");
         assert_eq!(pack(&bridge), block);
-        assert_eq!((bridge.margin, bridge.registers.r11), (0x0201, 7));
-        assert_eq!((bridge.registers.c[5], bridge.address), (13, 14));
-        assert_eq!((bridge.talker, bridge.under_way), (15, 0x1211));
-        assert!(!bridge.listener && bridge.finishing && !bridge.remote_enabled && bridge.remote);
+        assert_eq!((bridge.margin, bridge.registers.r11), (0x0201, 37));
+        assert_eq!((bridge.registers.c[5], bridge.address), (43, 27));
+        assert_eq!((bridge.talker, bridge.under_way), (28, 0x1f1e));
+        assert!(bridge.listener && !bridge.finishing && !bridge.remote_enabled && bridge.remote);
         let ring = |oldest, held| Ring { oldest, held };
         let receive = (bridge.receive_len, bridge.receive);
-        assert_eq!(receive, (0x1716, ring(0x1918, 0x1b1a)));
+        assert_eq!(receive, (0x0403, ring(0x0605, 0x0807)));
         let transmit = (bridge.transmit_len, bridge.transmit);
-        assert_eq!(transmit, (0x1d1c, ring(0x1f1e, 0x2120)));
-        assert_eq!(bridge.sent, 0x3736_3534);
+        assert_eq!(transmit, (0x0a09, ring(0x0c0b, 0x0e0d)));
+        assert_eq!(bridge.sent, 0x1a19_1817);
         assert!(!bridge.holding && bridge.forbidden && !bridge.stop_sent_last);
     }
 

@@ -86,7 +86,7 @@ extern "C" {
     ///     raftershim_key(b, 56, r, 4, t, 3);
     ///     raftershim_reset(b, 56, r, 4, t, 3)
     /// };
-    /// assert_eq!((word, block[39]), (0, 0));
+    /// assert_eq!((word, block[49]), (0, 0));
     /// ```
     pub fn raftershim_reset(
         block: *mut u8,
@@ -113,7 +113,7 @@ extern "C" {
     ///     raftershim_create(b, 56, r, 4, t, 3, 1);
     ///     raftershim_write_register(b, 56, r, 4, t, 3, 10, 8)
     /// };
-    /// assert_eq!((word, block[6]), (0, 8));
+    /// assert_eq!((word, block[36]), (0, 8));
     /// ```
     pub fn raftershim_write_register(
         block: *mut u8,
@@ -170,7 +170,7 @@ extern "C" {
     ///     raftershim_create(b, 56, r, 4, t, 3, 1);
     ///     raftershim_break(b, 56, r, 4, t, 3)
     /// };
-    /// assert_eq!((word, block[37]), (0, 1));
+    /// assert_eq!((word, block[47]), (0, 1));
     /// ```
     pub fn raftershim_break(
         block: *mut u8,
@@ -197,7 +197,7 @@ extern "C" {
     ///     raftershim_create(b, 56, r, 4, t, 3, 1);
     ///     raftershim_key(b, 56, r, 4, t, 3)
     /// };
-    /// assert_eq!((word, block[39]), (0, 1));
+    /// assert_eq!((word, block[49]), (0, 1));
     /// ```
     pub fn raftershim_key(
         block: *mut u8,

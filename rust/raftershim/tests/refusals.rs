@@ -71,7 +71,7 @@ fn a_damaged_block_is_refused_everywhere() {
     held.line_byte(50).unwrap();
     let (block, receive, transmit) = held.into_parts();
     // The flag at 16 would be neither 0 nor 1, the address at 14 above 31, the length at 22 wrong.
-    for (place, value) in [(16, 2), (14, 32), (22, 9)] {
+    for (place, value) in [(29, 2), (27, 32), (3, 9)] {
         let mut damaged = block;
         damaged[place] = value;
         let bridge = Bridge::from_parts(damaged, receive, transmit);

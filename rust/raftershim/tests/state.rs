@@ -235,15 +235,15 @@ fn every_byte_of_a_block_but_the_version_belongs_to_a_field() {
     for (place, byte) in block.iter_mut().enumerate() {
         *byte = place as u8;
     }
-    let expected = (0x2F2E_2D2C, 0x3332_3130, 0x3736_3534);
+    let expected = (0x1211_100F, 0x1615_1413, 0x1A19_1817);
     assert_eq!(counts(State::of(&block)), expected);
     let state = State::of(&block);
-    assert_eq!((state.margin, state.under_way), (0x0201, 0x1211));
-    let (oldest, held) = (0x1918, 0x1B1A);
-    assert_eq!(state.receive_len, 0x1716);
+    assert_eq!((state.margin, state.under_way), (0x0201, 0x1F1E));
+    let (oldest, held) = (0x0605, 0x0807);
+    assert_eq!(state.receive_len, 0x0403);
     assert_eq!(state.receive, Ring { oldest, held });
-    let (oldest, held) = (0x1F1E, 0x2120);
-    assert_eq!(state.transmit_len, 0x1D1C);
+    let (oldest, held) = (0x0C0B, 0x0E0D);
+    assert_eq!(state.transmit_len, 0x0A09);
     assert_eq!(state.transmit, Ring { oldest, held });
 }
 

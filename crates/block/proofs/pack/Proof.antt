@@ -1,4 +1,4 @@
-use Rattle.block.proofs.Over.{packed-over}
+use Rattle.block.proofs.Copied.{packed-copied}
 use borrow.Author.Needs.{needs}
 use Rattle.block.proofs.pack.Statement.{statement}
 use Rattle.block.proofs.pack.Tie as tie
@@ -19,5 +19,5 @@ pack-spec =
     (λ c. search needs)
     (λ c.
     let p = c .before .before .before .before .before .before .before in
-    packed-over _ _ _ _ _ _ (p .before .before .before .before .packed-head .ensures) (p .before .before .before .packed-tail .ensures) (p .before .before .before .before .before .before .pre)
+    packed-copied _ _ _ _ _ _ (p .before .before .before .before .packed-head .ensures) (p .before .before .before .packed-tail .ensures) (p .before .before .before .before .before .before .pre)
     (p .copy .ensures .1) (c .before .before .copy2 .ensures .1)))

@@ -4,7 +4,7 @@ use native.Mathlib.Omega.{arith}
 use mathlib.Core.Path.{_≡_, ap}
 use lib.ListN.{length}
 use Rattle.bridge.specs.Calls.{world}
-use Rattle.transcript.specs.Passing.{lineOut}
+use Rattle.transcript.specs.Transcript.{lineOut}
 use Rattle.transcript.proofs.Turns.{line-stops, line-goes, count-ends}
 use Rattle.transcript.proofs.passing.count_line.Statement.{statement}
 use Rattle.transcript.proofs.passing.count_line.Tie as tie

@@ -4,7 +4,7 @@ use native.Mathlib.Omega.{arith}
 use lib.ListN.{length}
 use Rattle.bridge.specs.Calls.{world}
 use Rattle.transcript.specs.Text.{bytesText}
-use Rattle.transcript.specs.Passing.{lineOut}
+use Rattle.transcript.specs.Transcript.{lineOut}
 use Rattle.transcript.proofs.Turns.{Rest, rest-start, bytes-end, bytes-again, line-stops, line-goes, line-none}
 use Rattle.transcript.proofs.passing.put_line.Statement.{statement}
 use Rattle.transcript.proofs.passing.put_line.Tie as tie

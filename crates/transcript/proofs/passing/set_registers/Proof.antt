@@ -4,7 +4,7 @@ use native.Mathlib.Omega.{arith}
 use mathlib.Core.Path.{_≡_, refl}
 use lib.ListN.{length}
 use Rattle.bridge.specs.Calls.{world}
-use Rattle.transcript.specs.Passing.{setRegisters}
+use Rattle.transcript.specs.Transcript.{setRegisters}
 use Rattle.transcript.proofs.Turns.{set-again, set-stops, set-ends}
 use Rattle.transcript.proofs.passing.set_registers.Statement.{statement}
 use Rattle.transcript.proofs.passing.set_registers.Tie as tie

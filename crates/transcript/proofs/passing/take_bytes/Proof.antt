@@ -4,7 +4,7 @@ use native.Mathlib.Omega.{arith}
 use mathlib.Core.Path.{_≡_, refl}
 use lib.ListN.{length}
 use Rattle.bridge.specs.Calls.{world}
-use Rattle.transcript.specs.Passing.{takeBytes}
+use Rattle.transcript.specs.Transcript.{takeBytes}
 use Rattle.transcript.proofs.Turns.{take-again, take-ends}
 use Rattle.transcript.proofs.passing.take_bytes.Statement.{statement}
 use Rattle.transcript.proofs.passing.take_bytes.Tie as tie

@@ -8,9 +8,9 @@ use lib.Seq.{take-all, take-length, take-at, drop-at}
 use Rattle.state.specs.declared.State.{State}
 use Rattle.block.specs.Packed.{blockLen, packed, packedHead, packedTail}
 
-over-both : (n : ℕ) (h t b b₁ ys : List ℕ) → length h ≡ n → length b ≡ n + length t → b₁ ≡ take (length h) h ++ drop (length h) b →
+both-copied : (n : ℕ) (h t b b₁ ys : List ℕ) → length h ≡ n → length b ≡ n + length t → b₁ ≡ take (length h) h ++ drop (length h) b →
     ys ≡ take (length t) t ++ drop (length t) (take (length b₁ - n) (drop n b₁)) → take n b₁ ++ (ys ++ drop (length b₁ - n) (drop n b₁)) ≡ h ++ t
-over-both n h t b b₁ ys lh lb p q =
+both-copied n h t b b₁ ys lh lb p q =
     let first : b₁ ≡ h ++ drop n b = p ∙ (λ j. take-length h j ++ drop (lh j) b) in
     let front : take n b₁ ≡ h = ap (take n) first ∙ take-at h (drop n b) n lh in
     let back : drop n b₁ ≡ drop n b = ap (drop n) first ∙ drop-at h (drop n b) n lh in
@@ -22,8 +22,8 @@ over-both n h t b b₁ ys lh lb p q =
     rw (front, there, back, room, none, append-nil)
 
 -- a state's bytes, whose two parts are copied so
-pub packed-over : (s : State) (h t b b₁ ys : List ℕ) → h ≡ packedHead s → t ≡ packedTail s → length b ≡ blockLen → b₁ ≡ take (length h) h ++ drop (length h) b →
-    ys ≡ take (length t) t ++ drop (length t) (take (length b₁ - 22) (drop 22 b₁)) → take 22 b₁ ++ (ys ++ drop (length b₁ - 22) (drop 22 b₁)) ≡ packed s
+pub packed-copied : (s : State) (h t b b₁ ys : List ℕ) → h ≡ packedHead s → t ≡ packedTail s → length b ≡ blockLen → b₁ ≡ take (length h) h ++ drop (length h) b →
+    ys ≡ take (length t) t ++ drop (length t) (take (length b₁ - 27) (drop 27 b₁)) → take 27 b₁ ++ (ys ++ drop (length b₁ - 27) (drop 27 b₁)) ≡ packed s
 unfolding packed
-packed-over s h t b b₁ ys eh et lb p q =
-    over-both 22 h t b b₁ ys (ap length eh) (lb ∙ ap (λ (n : ℕ). 22 + n) (sym (ap length et))) p q ∙ (λ j. eh j ++ et j)
+packed-copied s h t b b₁ ys eh et lb p q =
+    both-copied 27 h t b b₁ ys (ap length eh) (lb ∙ ap (λ (n : ℕ). 27 + n) (sym (ap length et))) p q ∙ (λ j. eh j ++ et j)
