@@ -10,6 +10,7 @@ import sys
 
 sys.dont_write_bytecode = True
 import listing
+import pages
 
 CODE = re.compile(r"`([^`]+)`")
 DECLARING = ("crates", "rust", "include", "tests", "tools")
@@ -56,14 +57,16 @@ def declares(path, name):
         ".antt": rf"^\s*(?:(?:abbrev|unfoldable|pub|record|data) )*{word}(?: [^=\n]*)? ?:",
         ".rt": rf"\b(?:fn|struct|enum|const) {word}\b",
         ".rs": rf"\b(?:fn|struct|enum|const|mod) {word}\b",
+        ".c": rf"^(?:\w+ )+\**{word}\(",
+        ".py": rf"^(?:def|class) {word}\b",
     }
     form = forms.get(os.path.splitext(path)[1], rf"(^|[^\w'-]){word}([^\w'-]|$)")
     return re.search(form, open(path, encoding="utf-8").read(), re.M)
 
 
 def missing_names(path):
-    """Files that a document names and that are not there, and names that the file named before them does not declare."""
-    wrong = []
+    """Files that a document names and that are not there, and, in the promises, names that the file named before them does not declare."""
+    wrong, promises = [], path == pages.CONTENTS or path.startswith(pages.FOLDER)
     for number, line in enumerate(open(path, encoding="utf-8"), 1):
         where = None
         for word in CODE.findall(line):
@@ -71,10 +74,17 @@ def missing_names(path):
                 where = word if os.path.isfile(word) and PLACE.match(word).group(1) in DECLARING else None
                 if not os.path.exists(word):
                     wrong.append(f"{path}:{number}: no file {word}")
-            elif where and path.endswith("PROMISES.md"):
-                if not declares(where, word):
-                    wrong.append(f"{path}:{number}: no {word} in {where}")
+            elif where and promises and not declares(where, word):
+                wrong.append(f"{path}:{number}: no {word} in {where}")
     return wrong
+
+
+def form(documents):
+    """The faults of the form of documents: headings, lines, contents and entries."""
+    wrong = [fault for path in documents for fault in pages.disorder(path)]
+    short = [pages.CONTENTS, "CONTRIBUTING.md", *pages.pages()]
+    wrong += [fault for path in short for fault in pages.too_long(path)]
+    return wrong + pages.contents() + [fault for path in pages.pages() for fault in pages.entries(path)]
 
 
 def main():
@@ -85,9 +95,10 @@ def main():
     wrong = []
     if sizes() not in listing.read("docs/CHECKS.md"):
         wrong.append("docs/CHECKS.md: its table of sizes is not the repository's (python3 tools/documents.py --sizes)")
-    documents = sorted(glob.glob("docs/**/*.md", recursive=True)) + ["README.md"]
+    documents = sorted(glob.glob("docs/**/*.md", recursive=True)) + ["README.md", "CONTRIBUTING.md", "CHANGELOG.md"]
     for path in documents:
         wrong += missing_names(path)
+    wrong += form(documents)
     for line in wrong:
         print(line)
     print(f"{len(documents)} documents, {len(wrong)} faults")

@@ -1,8 +1,8 @@
-"""Holds every law of a bridge to two wrong bridges that are proved to break it, and the documents to their tables and numbers of these.
+"""Holds every law of a bridge to two wrong bridges that are proved to break it, and the documents to their lists and numbers of these.
 
-Usage: python3 tools/laws.py           fails where a law has fewer than two, where a table of docs/PROMISES.md is not the repository's, and
-                                       where a number of docs/CHECKS.md is not
-       python3 tools/laws.py --table   prints the table of wrong bridges of docs/PROMISES.md
+Usage: python3 tools/laws.py           fails where a law has fewer than two, where a page of laws is not true of the repository, and where a
+                                       number of docs/CHECKS.md is not
+       python3 tools/laws.py --lists   prints for each law the lists of wrong bridges of its page
 The laws are the list of crates/laws/specs/Laws.antt. A refutation is a theorem of a file of crates/wrong/proofs in one of these forms:
     pub NAME : Breaks BRIDGE LAW
     pub NAME : BreaksAs MACHINE LAW
@@ -17,15 +17,13 @@ import sys
 from typing import NamedTuple
 
 sys.dont_write_bytecode = True
+import law_pages
 import listing
 
 LAWS = "crates/laws/specs/Laws.antt"
 PROOFS = "crates/wrong/proofs"
 SPECS = "crates/wrong/specs"
-PROMISES = "docs/PROMISES.md"
 CHECKS = "docs/CHECKS.md"
-STATED = "| Law | What it says | Stated by | Proved by |"
-WRONG = "| Law | Wrong bridge | What it does | Refuted by |"
 LEAST = 2
 REMARK = re.compile(r"--[^\n]*")
 LIST = re.compile(r"^laws =(.*?)∷ \[\]", re.M | re.S)
@@ -48,10 +46,6 @@ class Refutation(NamedTuple):
     def family(self):
         """The law's name without an event."""
         return self.law.split()[0]
-
-    def row(self):
-        """What its row of the table must have."""
-        return self.law, self.bridge, self.path, self.name
 
 
 def plain(term):
@@ -126,74 +120,10 @@ def own_meaning(laws):
     return wrong
 
 
-def described():
-    """What each wrong bridge does, by the name of its definition: the last remark above it, and the words that its arguments have there."""
-    known = {}
-    for path in sorted(glob.glob(f"{SPECS}/*.antt")):
-        remark, last = [], ""
-        for line in listing.read(path).split("\n"):
-            if line.startswith("-- "):
-                remark = remark + [line[3:]] if last.startswith("--") else [line[3:]]
-            elif found := re.match(r"(?:abbrev |unfoldable )?pub (\w+) :", line):
-                known.setdefault(found.group(1), [" ".join(remark)])
-            elif (words := line.partition(" =")[0].split()) and len(known.get(words[0], "..")) == 1:
-                known[words[0]] += words[1:] or [""]
-            last = line
-    return known
-
-
-def deed(known, bridge):
-    """What a wrong bridge does, with its numbers in the place of the words that stand for them."""
-    name, *given = bridge.split()
-    said, *words = known.get(name, [""])
-    for word, value in zip(words, given):
-        said = re.sub(rf"\b{word}\b", value, said) if word else said
-    return said
-
-
 def undefined(found):
     """Refutations of what is defined nowhere in the specs."""
-    known = described()
+    known = law_pages.described()
     return [f"{one.path}: {one.name} is of {one.bridge}, which no file of {SPECS} defines" for one in found if one.bridge.split()[0] not in known]
-
-
-def ordered(laws, found):
-    """The refutations in the order of their laws."""
-    place = {law: at for at, law in enumerate(families(laws))}
-    return sorted(found, key=lambda one: place.get(one.family(), len(place)))
-
-
-def table(laws, found):
-    """The table of wrong bridges."""
-    known = described()
-    rows = [f"| `{one.law}` | `{one.bridge}` | {deed(known, one.bridge)} | `{one.path}` `{one.name}` |" for one in ordered(laws, found)]
-    return "\n".join([WRONG, "|---|---|---|---|", *rows])
-
-
-def rows_below(head):
-    """The rows of the table of docs/PROMISES.md with this head: of each the names that stand in its cells."""
-    rows, inside = [], False
-    for line in listing.read(PROMISES).split("\n"):
-        if inside and not line.startswith("|"):
-            break
-        if inside and not line.startswith("|---"):
-            rows.append([re.findall(r"`([^`]+)`", cell) for cell in line.strip("|").split("|")])
-        inside = inside or line == head
-    return rows
-
-
-def differing(what, there, right):
-    """The faults of rows that are there and not right, or right and not there, or there twice."""
-    wrong = [f"{PROMISES}: no row of {what} for {' '.join(row)}" for row in right if row not in there]
-    wrong += [f"{PROMISES}: a row of {what} for {' '.join(row)}, which there is not" for row in dict.fromkeys(there) if row not in right]
-    return wrong + [f"{PROMISES}: two rows of {what} for {' '.join(row)}" for row in dict.fromkeys(there) if there.count(row) > 1]
-
-
-def wrong_tables(laws, found):
-    """The faults of the two tables of docs/PROMISES.md."""
-    bridges = [tuple(cells[0] + cells[1] + cells[-1]) for cells in rows_below(WRONG)]
-    stated = [tuple(cells[0]) for cells in rows_below(STATED)]
-    return differing("wrong bridges", bridges, [one.row() for one in found]) + differing("laws", stated, [(law,) for law in families(laws)])
 
 
 def numbers(laws, found):
@@ -209,15 +139,15 @@ def wrong_numbers(laws, found):
 
 
 def main():
-    """Prints the table, or every fault and the numbers; 1 if there is a fault."""
+    """Prints the lists, or every fault and the numbers; 1 if there is a fault."""
     laws = listed()
     found, wrong = refutations()
-    if "--table" in sys.argv:
-        print(table(laws, found))
+    if "--lists" in sys.argv:
+        print(law_pages.lists(families(laws), found), end="")
         return 0
     wrong += [] if laws else [f"{LAWS}: no list of laws"]
     wrong += unlisted(laws, found) + too_few(laws, found) + unread(found) + undefined(found) + own_meaning(laws)
-    wrong += wrong_tables(laws, found) + wrong_numbers(laws, found)
+    wrong += law_pages.faults(families(laws), found) + wrong_numbers(laws, found)
     print("".join(f"{fault}\n" for fault in wrong), end="")
     print(", ".join(f"{count} {what}" for what, count in {**numbers(laws, found), "faults": len(wrong)}.items()))
     return 1 if wrong else 0
