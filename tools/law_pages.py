@@ -72,7 +72,7 @@ def read():
                 laws.append((law,))
             elif text.endswith(":"):
                 path = (FILE.fullmatch(text) or [""] * 2)[1]
-            elif path and (found := LINE.fullmatch(text)):
+            elif path and (found := LINE.fullmatch(text)) and (found.group(2) or f"{law} ").startswith(f"{law} "):
                 bridge, event, does, name = found.groups()
                 rows.append(((event or law, bridge, path, name), does))
             elif path and text:

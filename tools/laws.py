@@ -22,7 +22,7 @@ import listing
 
 LAWS = "crates/laws/specs/Laws.antt"
 PROOFS = "crates/wrong/proofs"
-SPECS = "crates/wrong/specs"
+SPECS = law_pages.SPECS
 CHECKS = "docs/CHECKS.md"
 LEAST = 2
 REMARK = re.compile(r"--[^\n]*")

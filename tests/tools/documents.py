@@ -4,6 +4,53 @@ from planting import Room
 TOOL = ["python3", "tools/documents.py"]
 NOTE = "docs/NOTE.md"
 PROMISES = "docs/PROMISES.md"
+PAGE = "docs/promises/one.md"
+LAWS = "docs/promises/laws-all.md"
+ENTRY = """# One
+
+## First sentence: it is seven
+
+Stated by:
+
+- `crates/one/specs/Lib.antt`: `seven`, `known`
+
+Proved by:
+
+- `crates/one/src/lib.rt`: `first`
+
+Run by:
+
+- `tests/c/calls.c`: `calls`
+- `tests/run.py`: `runs`
+- `tests/run.rs`: `holds`
+
+## Second sentence: nobody runs it
+
+Stated by:
+
+- `crates/one/src/lib.rt`
+
+Proved by: nothing; it is run.
+
+Run by: nothing; the proof alone.
+"""
+LAW = """# Laws
+
+## `First`: it is so
+
+Stated by:
+
+- `crates/one/specs/Lib.antt`: `seven`
+
+Proved by:
+
+- `crates/one/src/lib.rt`: `first`
+
+Broken by, in `crates/one/src/lib.rt`:
+
+- `naysayer`: says no. Proof: `naysayer-falls`.
+"""
+CONTENTS = "# Contents\n\n- [One](promises/one.md)\n- [Laws](promises/laws-all.md)\n- [Signs](promises/signs.md)\n"
 
 
 def build(room):
@@ -12,10 +59,79 @@ def build(room):
     room.write("crates/one/src/lib.rt", "// a comment\npub fn first() -> u8 {\n    7\n}\n")
     room.write("crates/one/specs/Lib.antt", "-- a comment\nabbrev pub seven : ℕ\nseven = 7\n\npub record Known : Type 0 where\n  pub known : ℕ\n")
     room.write("crates/one/edits/e.edit", "file: src/lib.rt\n")
-    room.write("README.md", "See `docs/NOTE.md`.\n")
-    room.write(NOTE, "See `crates/one/src/lib.rt`.\n")
-    room.write(PROMISES, "| `crates/one/specs/Lib.antt` | `seven`, `known` |\n| `crates/one/src/lib.rt` | `first` |\n")
-    room.write("docs/CHECKS.md", room.run(TOOL + ["--sizes"])[1])
+    room.write("tests/c/calls.c", "/* a comment */\nstatic void calls(void) {\n    helps();\n}\n")
+    room.write("tests/run.py", "# a comment\ndef runs():\n    helps()\n")
+    room.write("tests/run.rs", "// a comment\nfn holds() {\n    helps();\n}\n")
+    for path in ("README.md", "CONTRIBUTING.md", "CHANGELOG.md"):
+        room.write(path, "# All\n\nSee `docs/NOTE.md`.\n\n```\n# no heading\n```\n")
+    room.write(NOTE, "# Note\n\nSee `crates/one/src/lib.rt`.\n")
+    room.write(PROMISES, CONTENTS)
+    room.write(PAGE, ENTRY)
+    room.write(LAWS, LAW)
+    room.write("docs/promises/signs.md", "# Signs\n\n## Plain\n\nIt has no entry.\n")
+    room.write("docs/CHECKS.md", f"# Checks\n\n{room.run(TOOL + ['--sizes'])[1]}")
+
+
+def figures(room):
+    """A table of sizes that is not the repository's."""
+    for path in ("crates/one/src/lib.rt", "crates/one/specs/Lib.antt"):
+        room.finds(TOOL, "its table of sizes is not the repository's", (path, room.text(path) + "more\n"))
+    room.finds(TOOL, "its table of sizes", ("crates/one/edits/f.edit", ""))
+    room.finds(TOOL, "its table of sizes", ("crates/one/proofs/Lib.antt", "more = 7\n"))
+
+
+def names(room):
+    """Files that are not there, and names that a file does not declare."""
+    for path in ("crates/one/src/gone.rt", "rust/gone", "include/gone.h", "tests/gone", "tools/gone.py", "docs/GONE.md", "scripts/gone", ".ci/gone"):
+        room.finds(TOOL, f"docs/NOTE.md:3: no file {path}", (NOTE, f"# Note\n\nSee `{path}`.\n"))
+    for path in ("README.md", "CONTRIBUTING.md", "CHANGELOG.md"):
+        room.finds(TOOL, f"{path}:3: no file docs/NOTE.md", (NOTE, None))
+    room.finds(TOOL, "docs/deep/NOTE.md:1: no file docs/GONE.md", ("docs/deep/NOTE.md", "See `docs/GONE.md`.\n"))
+    room.finds(TOOL, "docs/PROMISES.md:6: no eight in", (PROMISES, CONTENTS + "`crates/one/specs/Lib.antt`: `eight`\n"))
+    for line, name in ((7, "seven"), (7, "known"), (11, "first"), (15, "calls"), (16, "runs"), (17, "holds")):
+        for other in ("gone", "comment", "helps"):
+            room.finds(TOOL, f"{PAGE}:{line}: no {other} in", (PAGE, f"`{name}`", f"`{other}`"))
+    room.finds(TOOL, f"{LAWS}:7: no eight in", (LAWS, "`seven`", "`eight`"))
+
+
+def headings(room):
+    """Headings that are not in order, in any document."""
+    room.finds(TOOL, "docs/NOTE.md:1: a heading of level 2 after one of level 0", (NOTE, "## Note\n"))
+    room.finds(TOOL, "docs/NOTE.md:2: a heading of level 3 after one of level 1", (NOTE, "# Note\n### Deep\n"))
+    room.finds(TOOL, "README.md:2: a heading of level 1 after one of level 1", ("README.md", "# One\n# Two\n"))
+    room.finds(TOOL, "docs/NOTE.md:3: a second heading 'Part'", (NOTE, "# Note\n## Part\n## Part\n"))
+    room.finds(TOOL, "docs/NOTE.md: it has no heading", (NOTE, "Note\n"))
+
+
+def lines(room):
+    """Lines that are too long to listen to."""
+    for path in (PROMISES, PAGE, LAWS, "CONTRIBUTING.md"):
+        room.finds(TOOL, "a line of 301 characters, above 300", (path, room.text(path) + "x" * 301 + "\n"))
+
+
+def contents(room):
+    """Pages that the contents leave out, name twice or call by another title, and pages that are not there."""
+    room.finds(TOOL, f"{PAGE} stands in it 0 times", (PROMISES, "- [One](promises/one.md)\n", ""))
+    room.finds(TOOL, f"{PAGE} stands in it 2 times", (PROMISES, "- [One]", "- [One](promises/one.md)\n- [One]"))
+    room.finds(TOOL, "docs/PROMISES.md: no page two.md", (PROMISES, "- [One]", "- [Two](promises/two.md)\n- [One]"))
+    room.finds(TOOL, f"'Two' is not the title of {PAGE}", (PROMISES, "[One]", "[Two]"))
+    room.finds(TOOL, "docs/promises/new.md stands in it 0 times", ("docs/promises/new.md", ENTRY))
+
+
+def entries(room):
+    """Entries that lack a part, or have one without anything in it."""
+    room.finds(TOOL, f"{PAGE}:3: the heading 'First sentence' has no place and words", (PAGE, "First sentence: it is seven", "First sentence"))
+    room.finds(TOOL, f"{PAGE}: it has no entry", (PAGE, "# One\n"))
+    for label in ("Stated by", "Proved by", "Run by"):
+        room.finds(TOOL, "'First sentence: it is seven' has", (PAGE, f"{label}:\n", "And:\n"))
+        room.finds(TOOL, f"nothing, or two things, after '{label}'", (PAGE, f"{label}:\n", f"{label}: nothing.\n"))
+    room.finds(TOOL, "has Stated by, Proved by, and not Stated by, Proved by, Run by", (PAGE, "Run by: nothing; the proof alone.\n", ""))
+    room.finds(TOOL, f"{PAGE}:25: nothing, or two things, after 'Proved by'", (PAGE, "Proved by: nothing; it is run.", "Proved by:"))
+    room.finds(TOOL, "has Proved by, Stated by, Run by", (PAGE, ENTRY.replace("Stated", "Xed").replace("Proved", "Stated").replace("Xed", "Proved")))
+    room.finds(TOOL, f"{PAGE}:11: the item begins with no file", (PAGE, "- `crates/one/src/lib.rt`: `first`", "- the function `first`"))
+    room.finds(TOOL, f"{PAGE}:11: the item begins with no file", (PAGE, "- `crates/one/src/lib.rt`: `first`", "- `first`"))
+    room.finds(TOOL, "and not Stated by, Proved by, Broken by", (LAWS, "Broken by, in", "Run by, in"))
+    room.finds(TOOL, "nothing, or two things, after 'Broken by'", (LAWS, "- `naysayer`: says no. Proof: `naysayer-falls`.\n", ""))
 
 
 def run():
@@ -23,16 +139,6 @@ def run():
     with Room("tools") as room:
         build(room)
         room.passes(TOOL, "0 faults")
-        for path in ("crates/one/src/lib.rt", "crates/one/specs/Lib.antt"):
-            room.finds(TOOL, "its table of sizes is not the repository's", (path, room.text(path) + "more\n"))
-        room.finds(TOOL, "its table of sizes", ("crates/one/edits/f.edit", ""))
-        room.finds(TOOL, "its table of sizes", ("crates/one/proofs/Lib.antt", "more = 7\n"))
-        for path in ("crates/one/src/gone.rt", "rust/gone", "include/gone.h", "tests/gone", "tools/gone.py", "docs/GONE.md", "scripts/gone", ".ci/gone"):
-            room.finds(TOOL, f"docs/NOTE.md:1: no file {path}", (NOTE, f"See `{path}`.\n"))
-        room.finds(TOOL, "README.md:1: no file docs/NOTE.md", (NOTE, None))
-        room.finds(TOOL, "docs/deep/NOTE.md:1: no file docs/GONE.md", ("docs/deep/NOTE.md", "See `docs/GONE.md`.\n"))
-        room.finds(TOOL, "docs/PROMISES.md:1: no eight in", (PROMISES, "`seven`", "`eight`"))
-        room.finds(TOOL, "docs/PROMISES.md:1: no comment in", (PROMISES, "`seven`", "`comment`"))
-        room.finds(TOOL, "docs/PROMISES.md:2: no second in", (PROMISES, "`first`", "`second`"))
-        room.finds(TOOL, "docs/PROMISES.md:2: no comment in", (PROMISES, "`first`", "`comment`"))
+        for faults in (figures, names, headings, lines, contents, entries):
+            faults(room)
         return room.count

@@ -1,4 +1,4 @@
-"""Laws, refutations and tables with faults that tools/laws.py must find."""
+"""Laws, refutations and pages of laws with faults that tools/laws.py must find."""
 from planting import Room
 
 TOOL = ["python3", "tools/laws.py"]
@@ -7,9 +7,8 @@ LIB = "crates/wrong/proofs/Lib.antt"
 SPECS = "crates/wrong/specs/Wrong.antt"
 BROKEN = "crates/wrong/specs/Broken.antt"
 PROOFS = "crates/wrong/proofs/Wrong.antt"
-PROMISES = "docs/PROMISES.md"
+PAGE = "docs/promises/laws-all.md"
 CHECKS = "docs/CHECKS.md"
-STATED = "| Law | What it says | Stated by | Proved by |\n|---|---|---|---|\n| `First` | one | | |\n| `Stays` | two | | |\n"
 BRIDGES = """-- says no
 abbrev pub naysayer : Call → World → Did
 naysayer = refusing 2
@@ -30,18 +29,19 @@ every-one e law = law
 pub one-of-them : Breaks (without 8) (Stays broken)
 one-of-them law = law
 """
+LINE = "- `without 7`: leaves the number 7 out. Proof: `without-7-falls`."
 FIRST, SECOND, THIRD = "pub naysayer-falls", "pub without-7-falls : BreaksAs (without 7) First", "pub one-of-them : Breaks (without 8) (Stays broken)"
 
 
 def build(room):
-    """A small repository with two laws, one of them a family, and tables that are true of it."""
+    """A small repository with two laws, one of them a family, and a page that is true of it."""
     room.write(LAWS, "-- all of them\nlaws =\n    First ∷ Stays broken\n    ∷ Stays pressed\n    ∷ []\n")
     room.write(LIB, "pub mod Wrong\n")
     room.write(SPECS, BRIDGES)
     room.write(BROKEN, "abbrev pub Breaks : (Call → World → Did) → Law → Type 0\n")
     room.write(PROOFS, THEOREMS)
     room.write(CHECKS, "- Laws: 2. Two.\n- Wrong bridges: 3. Three.\n- Refutations: 4.\n")
-    room.write(PROMISES, f"{STATED}\n{room.run(TOOL + ['--table'])[1]}\nThe end.\n")
+    room.write(PAGE, "# Laws\n\n" + room.run(TOOL + ["--lists"])[1].replace("`First`\n", "`First`: it is so\n\nStated by:\n\n- `other`: `x`\n"))
 
 
 def few(room):
@@ -69,19 +69,34 @@ def odd(room):
     room.finds(TOOL, "Lib.antt does not bring it in", (LIB, "pub mod Other\n"))
 
 
-def tables(room):
-    """Tables of the document that are not the repository's."""
-    row = next(line for line in room.text(PROMISES).split("\n") if "without-7-falls" in line) + "\n"
-    room.finds(TOOL, "no row of wrong bridges for First without 7", (PROMISES, row, ""))
-    room.finds(TOOL, "no row of wrong bridges for First without 7", (PROMISES, "`without 7`", "`without 6`"))
-    room.finds(TOOL, "a row of wrong bridges for First without 6", (PROMISES, "`without 7`", "`without 6`"))
-    room.finds(TOOL, "a row of wrong bridges for Stays without 7", (PROMISES, "| `First` | `without 7`", "| `Stays` | `without 7`"))
-    room.finds(TOOL, "a row of wrong bridges for First without 7 crates/wrong/proofs/Wrong.antt gone", (PROMISES, "`without-7-falls`", "`gone`"))
-    room.finds(TOOL, "two rows of wrong bridges for First without 7", (PROMISES, row, row + row))
-    room.finds(TOOL, "a row of wrong bridges for First naysayer", (PROOFS, FIRST, "-- pub naysayer-falls"))
-    room.finds(TOOL, "no row of laws for Stays", (PROMISES, "| `Stays` | two | | |\n", ""))
-    room.finds(TOOL, "a row of laws for Third", (PROMISES, "| `Stays` | two", "| `Third` | three | | |\n| `Stays` | two"))
-    room.finds(TOOL, "no row of wrong bridges", (PROMISES, "| Wrong bridge |", "| Bridge |"))
+def lists(room):
+    """Lists of wrong bridges that are not the repository's."""
+    row = LINE + "\n"
+    room.finds(TOOL, "no wrong bridge First without 7", (PAGE, row, ""))
+    room.finds(TOOL, "no wrong bridge First without 7", (PAGE, "`without 7`", "`without 6`"))
+    room.finds(TOOL, "a wrong bridge First without 6", (PAGE, "`without 7`", "`without 6`"))
+    room.finds(TOOL, "no line of a wrong bridge: - `without 7`, for `Stays e`", (PAGE, "`without 7`", "`without 7`, for `Stays e`"))
+    room.finds(TOOL, "a wrong bridge First e without 7", (PAGE, "`without 7`", "`without 7`, for `First e`"))
+    room.finds(TOOL, "a wrong bridge First without 7 crates/wrong/proofs/Wrong.antt gone", (PAGE, "`without-7-falls`", "`gone`"))
+    room.finds(TOOL, "a wrong bridge First without 7 crates/wrong/proofs/Other.antt", (PAGE, "proofs/Wrong.antt`:", "proofs/Other.antt`:"))
+    room.finds(TOOL, "two of wrong bridge First without 7", (PAGE, row, row + row))
+    room.finds(TOOL, "a wrong bridge First naysayer", (PROOFS, FIRST, "-- pub naysayer-falls"))
+    room.finds(TOOL, "a wrong bridge Stays e without 8", (PAGE, "for `Stays broken`", "for `Stays e`"))
+    room.finds(TOOL, "without 7 does not do this: leaves the number 6 out", (PAGE, "the number 7", "the number 6"))
+    room.finds(TOOL, "no line of a wrong bridge: - `without 7`, which", (PAGE, "`without 7`: leaves", "`without 7`, which leaves"))
+    room.finds(TOOL, "no wrong bridge First naysayer", (PAGE, "Broken by, in", "By, in"))
+
+
+def headings(room):
+    """Laws without a heading, with two, and headings of what is no law."""
+    room.finds(TOOL, "no law Stays", (PAGE, "## `Stays`", "## Stays"))
+    room.finds(TOOL, "a law Third, which there is not", (PAGE, "## `Stays`", "## `Third`\n\n## `Stays`"))
+    room.finds(TOOL, "two of law Stays", (PAGE, "## `Stays`", "## `Stays`\n\n## `Stays`"))
+    room.finds(TOOL, "no law First", (PAGE, None))
+
+
+def figures(room):
+    """Numbers of the document that are not the repository's."""
     for line in ("Laws: 2.", "Wrong bridges: 3.", "Refutations: 4."):
         room.finds(TOOL, f"it does not say '- {line}'", (CHECKS, line, line.replace(":", ": 1")))
 
@@ -91,8 +106,7 @@ def run():
     with Room("tools") as room:
         build(room)
         room.passes(TOOL, "2 laws, 3 wrong bridges, 4 refutations, 0 faults")
-        room.passes(TOOL + ["--table"], "| `First` | `without 7` | leaves the number 7 out | `crates/wrong/proofs/Wrong.antt` `without-7-falls` |")
-        few(room)
-        odd(room)
-        tables(room)
+        room.passes(TOOL + ["--lists"], LINE)
+        for faults in (few, odd, lists, headings, figures):
+            faults(room)
         return room.count
