@@ -18,7 +18,7 @@ LABELS = ("Stated by", "Proved by", "Run by")
 LAW_LABELS = ("Stated by", "Proved by", "Broken by")
 LONGEST = 300
 HEADING = re.compile(r"(#+) (.*)")
-LINK = re.compile(r"\[([^\]]+)\]\(promises/([^)]+)\)")
+LINK = re.compile(r"\[([^\]]+)\]\(promises/([^)]+)\)(?:: (\d+) entr)?")
 LABEL = re.compile(rf"({'|'.join(dict.fromkeys(LABELS + LAW_LABELS))})[:,]")
 ITEM = re.compile(r"- `([^`]+)`")
 
@@ -64,17 +64,20 @@ def too_long(path):
 
 
 def contents():
-    """Pages that the page of contents leaves out, names twice or by other words than their title, and pages that are not there."""
+    """Pages that the contents leave out, name twice, or with another title or number of entries, and pages that are not there."""
     linked = LINK.findall(listing.read(CONTENTS))
     there = {os.path.basename(path): path for path in pages()}
-    wrong = [f"{CONTENTS}: no page {page}" for _, page in linked if page not in there]
+    wrong = [f"{CONTENTS}: no page {page}" for _, page, _ in linked if page not in there]
     for page, path in there.items():
-        words = [said for said, named in linked if named == page]
+        named = [(words, count) for words, other, count in linked if other == page]
         titles = [title for _, level, title in headings(path) if level == 1]
-        if len(words) != 1:
-            wrong.append(f"{CONTENTS}: {path} stands in it {len(words)} times")
-        elif words != titles:
-            wrong.append(f"{CONTENTS}: '{words[0]}' is not the title of {path}")
+        entered = "" if path in PLAIN else str(len(sections(path)))
+        if len(named) != 1:
+            wrong.append(f"{CONTENTS}: {path} stands in it {len(named)} times")
+        elif [named[0][0]] != titles:
+            wrong.append(f"{CONTENTS}: '{named[0][0]}' is not the title of {path}")
+        elif named[0][1] != entered:
+            wrong.append(f"{CONTENTS}: {path} has {entered or 'no'} entries, and not {named[0][1] or 'none'}")
     return wrong
 
 

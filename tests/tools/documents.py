@@ -50,7 +50,7 @@ Broken by, in `crates/one/src/lib.rt`:
 
 - `naysayer`: says no. Proof: `naysayer-falls`.
 """
-CONTENTS = "# Contents\n\n- [One](promises/one.md)\n- [Laws](promises/laws-all.md)\n- [Signs](promises/signs.md)\n"
+CONTENTS = "# Contents\n\n- [One](promises/one.md): 2 entries.\n- [Laws](promises/laws-all.md): 1 entry.\n- [Signs](promises/signs.md): how to read.\n"
 
 
 def build(room):
@@ -111,10 +111,14 @@ def lines(room):
 
 def contents(room):
     """Pages that the contents leave out, name twice or call by another title, and pages that are not there."""
-    room.finds(TOOL, f"{PAGE} stands in it 0 times", (PROMISES, "- [One](promises/one.md)\n", ""))
+    room.finds(TOOL, f"{PAGE} stands in it 0 times", (PROMISES, "- [One](promises/one.md): 2 entries.\n", ""))
     room.finds(TOOL, f"{PAGE} stands in it 2 times", (PROMISES, "- [One]", "- [One](promises/one.md)\n- [One]"))
     room.finds(TOOL, "docs/PROMISES.md: no page two.md", (PROMISES, "- [One]", "- [Two](promises/two.md)\n- [One]"))
     room.finds(TOOL, f"'Two' is not the title of {PAGE}", (PROMISES, "[One]", "[Two]"))
+    room.finds(TOOL, f"{PAGE} has 2 entries, and not 3", (PROMISES, "2 entries", "3 entries"))
+    room.finds(TOOL, f"{PAGE} has 2 entries, and not none", (PROMISES, ": 2 entries", ""))
+    room.finds(TOOL, f"{PAGE} has 1 entries, and not 2", (PAGE, "## Second", "Second"))
+    room.finds(TOOL, "docs/promises/signs.md has no entries, and not 1", (PROMISES, "how to read", "1 entry"))
     room.finds(TOOL, "docs/promises/new.md stands in it 0 times", ("docs/promises/new.md", ENTRY))
 
 
