@@ -15,7 +15,7 @@ use Rattle.state.specs.declared.Out.{Out}
 use Rattle.state.specs.declared.Out.the-variants.{Own, Held, Nothing}
 use Rattle.answers.specs.declared.Answer.{Answer}
 use Rattle.answers.specs.declared.Answer.the-variants as answer
-use Rattle.state.specs.State.{withRegisters, withLine, withRx, withTx, withNotes}
+use Rattle.state.specs.State.{withRegisters, withLine, withRx, withTx, withOverrun, noted}
 use Rattle.state.specs.Counts.{storedMore, lostMore}
 
 -- ---- line bytes in
@@ -45,14 +45,7 @@ storedState s = storedWith s (putRing (s .rx))
 
 -- Holding the line off, second: a byte is lost, which sets overrun and the note that it happened again
 unfoldable pub lostState : State → State
-lostState s =
-    lostMore
-    (withNotes s
-    (record {
-      seen = record { brk = s .notes .seen .brk; overrun = true; key = s .notes .seen .key };
-      again = record { brk = s .notes .again .brk; overrun = true; key = s .notes .again .key };
-      request = s .notes .request;
-    }))
+lostState s = lostMore (noted s withOverrun)
 
 -- the state after a line byte, and the receive store's bytes
 unfoldable pub lineState : State → ℕ → State

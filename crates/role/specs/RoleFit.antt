@@ -16,6 +16,12 @@ pub record Fit (r : Role) : Type 0 where
   pub phase : r .phase ≤ activeStatus
   pub apart : Apart r
 
--- the same, as a test
+-- the same, as tests: address and phase in their ranges, and not talker and listener at once
+abbrev pub inRange : Role → Bool
+inRange r = leb (r .address) unassigned && leb (r .phase) activeStatus
+
+abbrev pub notBoth : Role → Bool
+notBoth r = not (isTalker r && r .listener)
+
 abbrev pub fitTest : Role → Bool
-fitTest r = (leb (r .address) unassigned && leb (r .phase) activeStatus) && not (isTalker r && r .listener)
+fitTest r = inRange r && notBoth r

@@ -11,7 +11,7 @@ use Rattle.status.specs.Status.{statusByte, both, begins, acknowledged}
 use Rattle.store.specs.Ring.{full}
 use Rattle.state.specs.declared.State.{State}
 use Rattle.state.specs.declared.Outcome.{Outcome}
-use Rattle.state.specs.State.{withNotes, noEvents}
+use Rattle.state.specs.State.{noEvents, notesWith, withBreak, withKey, noted}
 
 -- Status byte, bits: the seven conditions as they are in this state
 unfoldable pub conditions : State → Conditions
@@ -45,7 +45,7 @@ asking s = both (enabledBy (s .regs)) (conditions s)
 
 -- the same state, with a request or without
 abbrev pub withRequest : State → Bool → State
-withRequest s r = withNotes s (record { seen = s .notes .seen; again = s .notes .again; request = r })
+withRequest s r = notesWith s (s .notes .seen) (s .notes .again) r
 
 -- Status byte, requests: the state after a call, with a request if one began by it
 unfoldable pub settled : State → State → State
@@ -69,27 +69,15 @@ statusOf s = statusByte (conditions s) (shows s)
 
 -- Status byte, requests: sending status ends one; and the notes that a thing happened again begin anew
 unfoldable pub afterStatus : State → State
-afterStatus s = withNotes s (record { seen = s .notes .seen; again = noEvents; request = false })
+afterStatus s = notesWith s (s .notes .seen) noEvents false
 
 -- Status byte, last: the status byte d came back unchanged
 unfoldable pub afterStatusBack : State → ℕ → State
-afterStatusBack s d = withNotes s (record { seen = acknowledged (s .notes .seen) (s .notes .again) d; again = s .notes .again; request = s .notes .request })
+afterStatusBack s d = notesWith s (acknowledged (s .notes .seen) (s .notes .again) d) (s .notes .again) (s .notes .request)
 
 -- Status byte, break and key: each sets its bit and the note that it happened again
 unfoldable pub breakState : State → State
-breakState s =
-    withNotes s
-    (record {
-      seen = record { brk = true; overrun = s .notes .seen .overrun; key = s .notes .seen .key };
-      again = record { brk = true; overrun = s .notes .again .overrun; key = s .notes .again .key };
-      request = s .notes .request;
-    })
+breakState s = noted s withBreak
 
 unfoldable pub keyState : State → State
-keyState s =
-    withNotes s
-    (record {
-      seen = record { brk = s .notes .seen .brk; overrun = s .notes .seen .overrun; key = true };
-      again = record { brk = s .notes .again .brk; overrun = s .notes .again .overrun; key = true };
-      request = s .notes .request;
-    })
+keyState s = noted s withKey

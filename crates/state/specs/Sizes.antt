@@ -2,13 +2,14 @@
 use Prim.Native.Nat.{ℕ, _+_, _*_, _≤_}
 use mathlib.Core.List.{List, [], _∷_}
 use mathlib.Core.Bool.{Bool, true, false, _&&_, not}
-use lib.Dec.{leb, ltb}
+use lib.Dec.{leb}
 use Rattle.registers.specs.Table.{startRegisters}
 use Rattle.registers.specs.RegistersFit.{values, allInRange}
 use Rattle.registers.specs.Writing.{goIsStop}
-use Rattle.role.specs.Role.{unassigned, activeStatus, isTalker}
+use Rattle.role.specs.RoleFit as role-fit
 use Rattle.role.specs.Remote.{startRemote}
 use Rattle.talker.specs.Talker.{startTalker}
+use Rattle.talker.specs.TalkerFit as talker-fit
 use Rattle.store.specs.Ring as store-ring
 use Rattle.state.specs.declared.State.{State}
 use Rattle.state.specs.State.{noEvents}
@@ -66,10 +67,10 @@ abbrev pub registersInRange : State → Bool
 registersInRange s = allInRange (values (s .regs))
 
 abbrev pub roleInRange : State → Bool
-roleInRange s = leb (s .talker .role .address) unassigned && leb (s .talker .role .phase) activeStatus
+roleInRange s = role-fit.inRange (s .talker .role)
 
 abbrev pub frameInRange : State → Bool
-frameInRange s = ltb (s .talker .under .frame) 1024
+frameInRange s = talker-fit.frameInRange (s .talker)
 
 -- go and stop differ
 abbrev pub goAndStopDiffer : State → Bool
@@ -77,7 +78,7 @@ goAndStopDiffer s = not (goIsStop (s .regs))
 
 -- not talker and listener at once
 abbrev pub notBoth : State → Bool
-notBoth s = not (isTalker (s .talker .role) && s .talker .role .listener)
+notBoth s = role-fit.notBoth (s .talker .role)
 
 abbrev pub fitTests : State → ℕ → ℕ → List Bool
 fitTests s rx tx =

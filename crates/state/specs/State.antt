@@ -1,6 +1,6 @@
 -- A state with one of its parts changed.
 use Prim.Native.Nat.{ℕ}
-use mathlib.Core.Bool.{Bool, false}
+use mathlib.Core.Bool.{Bool, true, false}
 use Rattle.registers.specs.declared.Registers.{Registers}
 use Rattle.role.specs.declared.remote.Remote.{Remote}
 use Rattle.talker.specs.declared.Talker.{Talker}
@@ -57,3 +57,17 @@ noEvents = record { brk = false; overrun = false; key = false }
 -- the same state with these notes
 abbrev pub notesWith : State → Events → Events → Bool → State
 notesWith s seen again request = withNotes s (record { seen = seen; again = again; request = request })
+
+-- these events and a break, a lost byte or a press of the key
+abbrev pub withBreak : Events → Events
+withBreak e = record { brk = true; overrun = e .overrun; key = e .key }
+
+abbrev pub withOverrun : Events → Events
+withOverrun e = record { brk = e .brk; overrun = true; key = e .key }
+
+abbrev pub withKey : Events → Events
+withKey e = record { brk = e .brk; overrun = e .overrun; key = true }
+
+-- an event joins what was seen and what happened again
+abbrev pub noted : State → (Events → Events) → State
+noted s event = notesWith s (event (s .notes .seen)) (event (s .notes .again)) (s .notes .request)

@@ -10,6 +10,9 @@ pub record Fit (t : Talker) : Type 0 where
   pub role : role-fit.Fit (t .role)
   pub frame : t .under .frame < 1024
 
--- the same, as a test
+-- the same, as tests
+abbrev pub frameInRange : Talker → Bool
+frameInRange t = ltb (t .under .frame) 1024
+
 unfoldable pub fitTest : Talker → Bool
-fitTest t = role-fit.fitTest (t .role) && ltb (t .under .frame) 1024
+fitTest t = role-fit.fitTest (t .role) && frameInRange t
