@@ -80,11 +80,11 @@ def missing_names(path):
 
 
 def form(documents):
-    """The faults of the form of documents: headings, lines, contents and entries."""
+    """The faults of the form of documents: headings, lines, contents, entries and signs."""
     wrong = [fault for path in documents for fault in pages.disorder(path)]
     short = [pages.CONTENTS, "CONTRIBUTING.md", *pages.pages()]
     wrong += [fault for path in short for fault in pages.too_long(path)]
-    return wrong + pages.contents() + [fault for path in pages.pages() for fault in pages.entries(path)]
+    return wrong + pages.contents() + pages.unspoken() + [fault for path in pages.pages() for fault in pages.entries(path)]
 
 
 def main():

@@ -1,4 +1,4 @@
-"""The form of documents that are read by ear: headings in order, short lines, a page of contents, and entries that lack nothing.
+"""The form of documents that are read by ear: headings in order, short lines, a page of contents, entries that lack nothing, spoken signs.
 
 The promises are pages of docs/promises, and docs/PROMISES.md is their page of contents. An entry is a section of such a page: a heading
 with a place and a few words, and under it what states the sentence, what proves it and what runs it. On a page of laws an entry has the
@@ -7,13 +7,15 @@ wrong bridges in the place of what runs it.
 import glob
 import os
 import re
+import unicodedata
 
 import listing
 
 CONTENTS = "docs/PROMISES.md"
 FOLDER = "docs/promises"
 LAWS = f"{FOLDER}/laws-"
-PLAIN = (f"{FOLDER}/laws.md", f"{FOLDER}/signs.md")
+SIGNS = f"{FOLDER}/signs.md"
+PLAIN = (f"{FOLDER}/laws.md", SIGNS)
 LABELS = ("Stated by", "Proved by", "Run by")
 LAW_LABELS = ("Stated by", "Proved by", "Broken by")
 LONGEST = 300
@@ -21,6 +23,7 @@ HEADING = re.compile(r"(#+) (.*)")
 LINK = re.compile(r"\[([^\]]+)\]\(promises/([^)]+)\)(?:: (\d+) entr)?")
 LABEL = re.compile(rf"({'|'.join(dict.fromkeys(LABELS + LAW_LABELS))})[:,]")
 ITEM = re.compile(r"- `([^`]+)`")
+SIGN = re.compile(r"^\| `([^\x00-\x7f])` \| ([^|]+) \|", re.M)
 
 
 def pages():
@@ -134,3 +137,13 @@ def entries(path):
         return []
     found = sections(path)
     return [fault for number, words, body in found for fault in entry(path, (number, words), body)] or ([] if found else [f"{path}: it has no entry"])
+
+
+def unspoken():
+    """Signs of the crates that the page of signs leaves out or calls by another name than Unicode does, and rows for signs of no crate."""
+    files = [path for path in glob.glob("crates/**/*", recursive=True) if path.endswith((".rt", ".antt"))]
+    used = {sign for path in files for sign in listing.read(path) if ord(sign) > 127}
+    said = {sign: name.lower() for sign, name in SIGN.findall(listing.read(SIGNS))}
+    names = {sign: unicodedata.name(sign).lower() for sign in sorted(used)}
+    wrong = [f"{SIGNS}: no row that calls {sign} {name}" for sign, name in names.items() if said.get(sign) != name]
+    return wrong + [f"{SIGNS}: a row for {sign}, which no crate has" for sign in said if sign not in used]

@@ -6,6 +6,7 @@ NOTE = "docs/NOTE.md"
 PROMISES = "docs/PROMISES.md"
 PAGE = "docs/promises/one.md"
 LAWS = "docs/promises/laws-all.md"
+SIGNS = "docs/promises/signs.md"
 ENTRY = """# One
 
 ## First sentence: it is seven
@@ -68,7 +69,7 @@ def build(room):
     room.write(PROMISES, CONTENTS)
     room.write(PAGE, ENTRY)
     room.write(LAWS, LAW)
-    room.write("docs/promises/signs.md", "# Signs\n\n## Plain\n\nIt has no entry.\n")
+    room.write(SIGNS, "# Signs\n\n## Plain\n\n| Sign | Name | Read |\n|---|---|---|\n| `ℕ` | double-struck capital N | numbers |\n")
     room.write("docs/CHECKS.md", f"# Checks\n\n{room.run(TOOL + ['--sizes'])[1]}")
 
 
@@ -138,11 +139,20 @@ def entries(room):
     room.finds(TOOL, "nothing, or two things, after 'Broken by'", (LAWS, "- `naysayer`: says no. Proof: `naysayer-falls`.\n", ""))
 
 
+def signs(room):
+    """Signs without a row, with another name, and a row for a sign that no crate has."""
+    spec = "crates/one/specs/Lib.antt"
+    room.finds(TOOL, f"{SIGNS}: no row that calls ≡ identical to", (spec, "seven = 7", "seven = 7 ≡"))
+    room.finds(TOOL, f"{SIGNS}: no row that calls λ greek small letter lamda", ("crates/one/src/lib.rt", "a comment", "a λ"))
+    room.finds(TOOL, f"{SIGNS}: no row that calls ℕ double-struck capital n", (SIGNS, "double-struck capital N", "nat"))
+    room.finds(TOOL, f"{SIGNS}: a row for ⊎, which no crate has", (SIGNS, "| `ℕ`", "| `⊎` | multiset union | or |\n| `ℕ`"))
+
+
 def run():
     """Plants every fault; how many."""
     with Room("tools") as room:
         build(room)
         room.passes(TOOL, "0 faults")
-        for faults in (figures, names, headings, lines, contents, entries):
+        for faults in (figures, names, headings, lines, contents, entries, signs):
             faults(room)
         return room.count
