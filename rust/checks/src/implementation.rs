@@ -1,8 +1,9 @@
 //! The implementations of the bridge behind the block that are compared with each other.
 
+use crate::archive;
 use crate::call::Call;
 use crate::lent::Lent;
-use crate::{archive, second};
+use crate::second::{by_model, by_peer};
 
 /// One implementation: its create and its other calls.
 #[derive(Clone, Copy)]
@@ -24,8 +25,15 @@ pub const ARCHIVE: Implementation = Implementation {
 /// The model, which is written to be read.
 pub const MODEL: Implementation = Implementation {
     name: "model",
-    create: second::create,
-    call: second::call,
+    create: by_model::create,
+    call: by_model::call,
+};
+
+/// The peer, which is written for speed.
+pub const PEER: Implementation = Implementation {
+    name: "peer",
+    create: by_peer::create,
+    call: by_peer::call,
 };
 
 /// What is compared unless something else is said.
