@@ -4,12 +4,12 @@
 
 #include "raftershim.h"
 
-#define BLOCK 56
+#define BLOCK ((int)RAFTERSHIM_BLOCK_LEN)
 #define MOST 32768
 
 static uint8_t block[BLOCK + 1], rx[MOST + 1], tx[MOST + 1];
 static uint8_t block_was[BLOCK + 1], rx_was[MOST + 1], tx_was[MOST + 1];
-static size_t block_len = BLOCK, rx_len, tx_len;
+static uint64_t block_len = BLOCK, rx_len, tx_len;
 static int compared, differ;
 
 static void expect(int line, uint64_t got, uint64_t wanted) {
@@ -48,7 +48,7 @@ static uint64_t changed(void) {
 #define R rx, rx_len
 #define T tx, tx_len
 
-static uint64_t create(size_t r, size_t t, uint32_t margin) {
+static uint64_t create(uint64_t r, uint64_t t, uint32_t margin) {
     rx_len = r;
     tx_len = t;
     return raftershim_create(B, R, T, margin);
@@ -249,7 +249,7 @@ static void onepass(void) {
     static const uint8_t bytes[] = {0x32, 0x2E, 0x35, 0x0D, 0x0A};
     IS(create(64, 64, 8), DONE);
     IS(writes(10, 8), DONE);
-    for (size_t i = 0; i < sizeof bytes; i++) IS(line(bytes[i]), DONE);
+    for (uint64_t i = 0; i < sizeof bytes; i++) IS(line(bytes[i]), DONE);
     IS(frame(5, 129), FRAME(5, 130));
     IS(frame(4, 65), FRAME(4, 65));
     IS(frame(5, 96), FRAME(0, 50));
