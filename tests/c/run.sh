@@ -10,5 +10,6 @@ for triple in "${@:-$own}"; do
     out=target/c/$triple
     mkdir -p "$out"
     "${prefix}gcc" -std=c11 -Wall -Wextra -Werror -O2 -static -Iinclude tests/c/calls.c "$(archive_of "$triple")" -o "$out/calls"
-    echo "$triple: $($emulator "$out/calls")"
+    printf '%s: ' "$triple"
+    $emulator "$out/calls"
 done
