@@ -52,6 +52,9 @@ extern "C" {
 #define RAFTERSHIM_FRAME 3u
 #define RAFTERSHIM_REFUSED 4u
 
+/* The one refusal that passes: the frame is offered again when the line has taken bytes. */
+#define RAFTERSHIM_BUSY 4u
+
 /* The start and the length of a part that raftershim_show answered. */
 #define RAFTERSHIM_START(answer) ((uint32_t)((answer) >> 32))
 #define RAFTERSHIM_LENGTH(answer) ((uint32_t)((answer) & 0xFFFFFFFFu))
@@ -79,7 +82,7 @@ extern "C" {
 #define RAFTERSHIM_AT_LOST 19u /* four: bytes lost because it was full */
 #define RAFTERSHIM_AT_SENT 23u /* four: data frames sent from it */
 #define RAFTERSHIM_AT_ADDRESS 27u /* byte: our address, 31 when unassigned */
-#define RAFTERSHIM_AT_TALKER 28u /* byte: 0 not talker, 1 addressed, 2 active with data, 3 active with status */
+#define RAFTERSHIM_AT_TALKER 28u /* byte: one of the talker phases below */
 #define RAFTERSHIM_AT_LISTENER 29u /* flag: we are listener */
 #define RAFTERSHIM_AT_UNDER_WAY 30u /* two: our frame under way, 0 when there is none */
 #define RAFTERSHIM_AT_FINISHING 32u /* flag: sending ends after the frame under way */
@@ -106,6 +109,12 @@ extern "C" {
 #define RAFTERSHIM_AT_REQUEST 53u /* flag: a service request has begun and not ended */
 #define RAFTERSHIM_AT_REMOTE_ENABLED 54u /* flag: remote is enabled */
 #define RAFTERSHIM_AT_REMOTE 55u /* flag: we are remote */
+
+/* The talker phases. */
+#define RAFTERSHIM_TALKER_NOT 0u
+#define RAFTERSHIM_TALKER_ADDRESSED 1u
+#define RAFTERSHIM_TALKER_DATA 2u
+#define RAFTERSHIM_TALKER_STATUS 3u
 
 /* Reads a field of two or of four bytes at its place. */
 #define RAFTERSHIM_TWO(block, at) ((uint32_t)(block)[at] | (uint32_t)(block)[(at) + 1u] << 8)
