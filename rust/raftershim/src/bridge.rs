@@ -325,11 +325,11 @@ where
         let word = unsafe {
             raw::raftershim_show(
                 block.as_ptr(),
-                block.len(),
+                block.len() as u64,
                 rx.as_ptr(),
-                rx.len(),
+                rx.len() as u64,
                 tx.as_ptr(),
-                tx.len(),
+                tx.len() as u64,
                 side as u32,
             )
         };
@@ -346,18 +346,18 @@ where
     /// uses them meanwhile, whatever the types of the stores do.
     fn lend(
         &mut self,
-        call: impl FnOnce(*mut u8, usize, *mut u8, usize, *mut u8, usize) -> u64,
+        call: impl FnOnce(*mut u8, u64, *mut u8, u64, *mut u8, u64) -> u64,
     ) -> Answered {
         let block = &mut self.block;
         let rx = self.receive.as_mut();
         let tx = self.transmit.as_mut();
         Answer::of(call(
             block.as_mut_ptr(),
-            block.len(),
+            block.len() as u64,
             rx.as_mut_ptr(),
-            rx.len(),
+            rx.len() as u64,
             tx.as_mut_ptr(),
-            tx.len(),
+            tx.len() as u64,
         ))
     }
 }

@@ -32,7 +32,7 @@ const CALLS: [(&str, Call); 7] = [
 #[test]
 fn the_archive_has_blocks_of_this_length() {
     // SAFETY: it takes nothing.
-    assert_eq!(unsafe { raw::raftershim_block_len() }, BLOCK_LEN);
+    assert_eq!(unsafe { raw::raftershim_block_len() }, BLOCK_LEN as u64);
 }
 
 #[test]
