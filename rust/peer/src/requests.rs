@@ -26,7 +26,7 @@ fn enabled(block: &Block) -> u8 {
 /// 1 if a request shows, else 0.
 #[inline(always)]
 pub fn shows(block: &Block) -> u8 {
-    block[REQUEST] & block[R00] / BIT_3
+    block[REQUEST] & (block[R00] / BIT_3)
 }
 
 /// What was enabled and holding before a call.
