@@ -1,10 +1,9 @@
-//! All sentences that the program says, in words that a screen reader reads well.
+//! The sentences of the answers, in words that a screen reader reads well.
 
-use crate::run::Counts;
+use crate::counts::number_of;
 use raftershim::{Answer, Answered, Registers, State};
-use std::ffi::OsStr;
+use script::Expected;
 use std::fmt;
-use std::io;
 
 /// What `--help` says.
 pub const HELP: &str = "\
@@ -27,19 +26,25 @@ state: say the state, a fact a line.
 
 A script that does not start with create gets stores of 64 bytes and margin 8.
 A store can have at most 1000000 bytes here. The bridge judges all other values.
+A create that is refused as expected leaves the bridge that the script made before it.
+After any other refused create no line is played until the next create.
 A comment starts with # and goes to the end of the line. Empty lines are passed over.
+A line has at most 4096 bytes.
 
 Each answer is said after the number of its line, as in line 7: frame 0,50.
 The sign => after a call is followed by the answer that the script expects, as in frame 5,96 => frame 0,50.
+The words count, and not the marks between them or the case of letters: bytes lost 0 is bytes lost: 0.
 For a refusal its number suffices, as in frame 0,50 => refusal 4.
 After state one fact is expected, in the words of state, and then only that fact is said: state => overrun seen.
 If the answer is another one, the line says what was expected and what the answer was, and the run goes on.
+A refusal that is not expected counts as a difference, and so does a line that is not played.
 The last line says how many lines were as expected and how many differ.
 A mistake in the script ends the run, and the program says in which line it is.
 
-The exit status is 0 if no answer differs.
-It is 1 if an answer differs or the script has a mistake.
+The exit status is 0 if the script expects answers and every line was as expected.
+It is 1 if a line was not as expected or the script has a mistake.
 It is 2 if the arguments are wrong, the script cannot be read or the answers cannot be written.
+It is 3 if no line expects an answer, as in an empty script: nothing was compared.
 ";
 
 /// What there is to say to a call.
@@ -51,25 +56,39 @@ pub enum Said {
     Shown(Vec<u8>),
     /// The facts of the state.
     Facts(Vec<String>),
+    /// There is no bridge to play on.
+    NotPlayed {
+        /// The line of the create that was refused.
+        refused: u64,
+    },
+}
+
+impl From<Answered> for Said {
+    fn from(answered: Answered) -> Said {
+        Said::Answered(answered)
+    }
 }
 
 impl Said {
     /// The sentence that is as expected, if there is one.
-    pub fn meeting(&self, expected: &str) -> Option<String> {
-        let met = match self {
-            Said::Answered(Err(refusal)) if expected == format!("refusal {}", refusal.number()) => {
-                return Some(refusal.to_string());
+    pub fn meeting(&self, expected: &Expected) -> Option<String> {
+        let heard = self.to_string();
+        match self {
+            Said::NotPlayed { .. } => None,
+            Said::Answered(Err(refusal)) => {
+                let number = format!("refusal {}", refusal.number());
+                let met = expected.is(&number) || expected.is(&heard);
+                met.then_some(heard)
             }
-            Said::Facts(facts) => facts.iter().any(|fact| fact == expected),
-            said => said.to_string() == expected,
-        };
-        Some(expected.to_string()).filter(|_| met)
+            Said::Facts(facts) => facts.iter().find(|fact| expected.is(fact)).cloned(),
+            _ => expected.is(&heard).then_some(heard),
+        }
     }
 
     /// The sentence about an answer that is not the expected one.
-    pub fn different(&self, expected: &str) -> String {
+    pub fn different(&self, expected: &Expected) -> String {
         match self {
-            Said::Facts(_) => format!("expected {expected}, but {self}"),
+            Said::Facts(_) | Said::NotPlayed { .. } => format!("expected {expected}, but {self}"),
             _ => format!("expected {expected}, the answer was {self}"),
         }
     }
@@ -89,6 +108,12 @@ impl fmt::Display for Said {
             Said::Facts(facts) => {
                 f.write_str("the state is this")?;
                 facts.iter().try_for_each(|fact| write!(f, "\n{fact}"))
+            }
+            Said::NotPlayed { refused } => {
+                write!(
+                    f,
+                    "this is not played, since the create in line {refused} was refused"
+                )
             }
         }
     }
@@ -196,41 +221,6 @@ pub fn default_bridge(store: u32, margin: u32) -> String {
     format!("no create so far, so both stores have {store} bytes and the margin is {margin}")
 }
 
-/// The last sentence of a run.
-pub fn counts(counts: Counts) -> String {
-    let as_expected = number_of(counts.as_expected, "line", "lines");
-    let differ = number_of(counts.differ, "differs", "differ");
-    format!("{as_expected} as expected, {differ}")
-}
-
-/// About an argument that starts with a hyphen.
-pub fn unknown_option(option: &OsStr) -> String {
-    format!(
-        "there is no option {}, try replay --help",
-        option.to_string_lossy()
-    )
-}
-
-/// About an argument after the script.
-pub fn too_many(argument: &OsStr) -> String {
-    format!(
-        "expected one script, found {} after it",
-        argument.to_string_lossy()
-    )
-}
-
-/// About a script that cannot be opened.
-pub fn cannot_open(path: &OsStr, error: &io::Error) -> String {
-    format!(
-        "the script {} cannot be opened: {error}",
-        path.to_string_lossy()
-    )
-}
-
 fn either(is: bool, yes: &str, no: &str) -> String {
     String::from(if is { yes } else { no })
-}
-
-fn number_of(number: u64, one: &str, many: &str) -> String {
-    format!("{number} {}", if number == 1 { one } else { many })
 }

@@ -1,6 +1,6 @@
 //! The program as a whole: arguments, exit statuses, mistakes, and writing that fails.
 
-use replay::{program, say};
+use raftershim_replay::{program, say, AS_EXPECTED, DIFFERENT, NOTHING_EXPECTED, NOT_RUN};
 use std::ffi::OsString;
 use std::io::{self, ErrorKind, Write};
 
@@ -48,31 +48,100 @@ fn a_script_from_a_file() {
 #[test]
 fn a_script_without_create_is_told_its_bridge() {
     let told = "no create so far, so both stores have 64 bytes and the margin is 8";
-    let none = "0 lines as expected, 0 differ\n";
-    let said = format!("line 2: {told}\nline 2: done\nline 3: no line byte\n{none}");
-    assert_eq!(play("# key\nkey\nnext\n"), strings(0, &said, ""));
-    let said = format!("line 1: refusal 1\nline 2: {told}\nline 2: no line byte\n{none}");
-    let (status, heard, _) = play("create 1 1 1\nnext");
-    assert_eq!(status, 0);
-    assert_eq!(without_reasons(&heard), said);
-    assert_eq!(play(""), strings(0, none, ""));
+    let said = format!(
+        "line 2: {told}\nline 2: done\nline 3: no line byte\n1 line as expected, 0 differ\n"
+    );
+    let script = "# key\nkey\nnext => no line byte\n";
+    assert_eq!(play(script), strings(0, &said, ""));
 }
 
-/// The refusals by their numbers alone.
-fn without_reasons(said: &str) -> String {
-    let number = |line: &str| match line.find("refusal ") {
-        Some(place) => format!("{}\n", &line[..place + "refusal 1".len()]),
-        None => format!("{line}\n"),
-    };
-    said.lines().map(number).collect()
+/// What the program says last, and its exit status.
+fn ends(script: &str) -> (u8, String) {
+    let (status, said, mistakes) = play(script);
+    assert_eq!(mistakes, "", "{script}");
+    let last = said.lines().last().unwrap_or_default();
+    (status, last.to_string())
+}
+
+fn end(status: u8, last: &str) -> (u8, String) {
+    (status, last.to_string())
 }
 
 #[test]
-fn a_refused_create_leaves_the_bridge() {
+fn a_script_that_expects_nothing_is_never_as_expected() {
+    let none = end(3, "0 lines with a call, no answer is expected");
+    assert_eq!(ends(""), none);
+    assert_eq!(ends("\n# key => done\n\n"), none);
+    let one = end(3, "1 line with a call, no answer is expected");
+    assert_eq!(ends("key"), one);
+    let refused =
+        "2 lines with a call, no answer is expected, 1 refusal not expected, first in line 2";
+    assert_eq!(ends("key\nframe 2048"), end(3, refused));
+}
+
+#[test]
+fn a_refusal_that_nobody_expects_is_a_difference() {
+    assert_eq!(ends("key => done"), end(0, "1 line as expected, 0 differ"));
+    let refused = "1 line as expected, 0 differ, 1 refusal not expected, first in line 1";
+    assert_eq!(ends("frame 2048\nkey => done"), end(1, refused));
+    assert_eq!(ends("frame 2048 => refusal 3\nkey").0, 0);
+    let refused = "1 line as expected, 1 differs, 2 refusals not expected, first in line 2";
+    let script = "key => done\nframe 2048\nkey => frame 0,0\nregister R03 1";
+    assert_eq!(ends(script), end(1, refused));
+}
+
+#[test]
+fn nothing_is_played_after_a_refused_create() {
+    let script = "create 4 3 1\ncreate 3 3 1\nkey\nnext => no line byte\n";
+    let (status, said, _) = play(script);
+    let not_played = "this is not played, since the create in line 2 was refused";
+    let lines = format!(
+        "line 3: {not_played}\nline 4: expected no line byte, but {not_played}\n\
+         0 lines as expected, 1 differs, 1 refusal not expected, 1 line not played, first in line 2\n"
+    );
+    assert_eq!(status, 1);
+    assert!(said.ends_with(&lines), "{said}");
+    // Not on the bridge that a script without create gets either, though the refusal is expected.
+    let script = "create 3 3 1 => refusal 1\nkey\n";
+    let last = "1 line as expected, 0 differ, 1 line not played, first in line 2";
+    assert_eq!(ends(script), end(1, last));
+    let script = "create 3 3 1 => done\nkey\ncreate 4 3 1 => done\nkey => done\n";
+    let last = "2 lines as expected, 1 differs, 1 line not played, first in line 2";
+    assert_eq!(ends(script), end(1, last));
+}
+
+#[test]
+fn a_create_that_is_refused_as_expected_leaves_the_bridge() {
     let script = "create 4 3 1\nline 7\ncreate 3 3 1 => refusal 1\nshow receive => 1 byte: 7\n";
     assert_eq!(play(script).0, 0);
     let script = "create 4 3 1\nline 7\ncreate 4 3 1 => done\nshow receive => nothing\n";
     assert_eq!(play(script).0, 0);
+}
+
+#[test]
+fn marks_and_the_case_of_letters_are_not_heard() {
+    let script = "create 4 3 1\nline 7 8\nstate => bytes lost 0\nstate => Bytes lost: 0\n\
+                  show receive => 2 bytes 7 8\nstate => receive store 2 of 4 bytes held\n";
+    assert_eq!(ends(script), end(0, "4 lines as expected, 0 differ"));
+    // What is said is the bridge's own sentence.
+    assert!(play(script).1.contains("line 3: bytes lost: 0\n"));
+    assert_eq!(ends("state => bytes lost 1").0, 1);
+    assert_eq!(ends("state => bytes lost").0, 1);
+}
+
+#[test]
+fn the_help_tells_the_limits_and_the_exit_statuses() {
+    let told = [
+        format!("A line has at most {} bytes.", script::LONGEST_LINE),
+        format!("at most {} bytes here", script::LONGEST_STORE),
+        format!("status is {AS_EXPECTED} if the script expects answers"),
+        format!("It is {DIFFERENT} if a line was not as expected"),
+        format!("It is {NOT_RUN} if the arguments are wrong"),
+        format!("It is {NOTHING_EXPECTED} if no line expects an answer"),
+    ];
+    for sentence in told {
+        assert!(say::HELP.contains(&sentence), "{sentence}");
+    }
 }
 
 #[test]
@@ -83,7 +152,7 @@ fn refusals_are_named() {
     assert!(lines[2].starts_with("line 3: refusal 5: "), "{said}");
     let whole = lines[1].trim_start_matches("line 2: ");
     assert_eq!(play(&format!("frame 2048 => {whole}")).0, 0);
-    for wrong in ["refusal", "refusal 30", "refusal 3:", "3", "frame 8,0"] {
+    for wrong in ["refusal", "refusal 30", "refusal 3 4", "3", "frame 8,0"] {
         assert_eq!(play(&format!("frame 2048 => {wrong}")).0, 1, "{wrong}");
     }
 }
@@ -106,7 +175,7 @@ fn files_of_other_systems() {
     let (status, _, mistakes) = play(&"#".repeat(5000));
     let sentence = "line 1: expected a line of at most 4096 bytes, found a longer one\n";
     assert_eq!((status, mistakes.as_str()), (1, sentence));
-    assert_eq!(play(&"#".repeat(4096)).0, 0);
+    assert_eq!(play(&"#".repeat(4096)).2, "");
 }
 
 /// Takes some bytes and then fails.
@@ -176,7 +245,7 @@ bytes lost: 1
 frames sent: 1
 control registers: R00 9, R01 0, R02 0, R10 0, R11 8
 character registers: C00 13, C01 10, C02 13, C03 10, C04 17, C05 19
-0 lines as expected, 0 differ
+13 lines with a call, no answer is expected
 ";
 
 #[test]

@@ -1,6 +1,6 @@
 //! The scripts of the folder scripts, and what happens when an answer is not the expected one.
 
-use replay::program;
+use raftershim_replay::program;
 use std::fs;
 use std::path::PathBuf;
 

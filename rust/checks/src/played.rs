@@ -1,0 +1,39 @@
+//! Plays a script on two implementations, as replay plays it on the bridge.
+
+use crate::call::Call;
+use crate::implementation::Implementation;
+use crate::pair::Pair;
+use script::{Script, DEFAULT_MARGIN, DEFAULT_STORE};
+
+/// Two implementations on fresh stores, and the answer to create.
+fn created(both: [Implementation; 2], sizes: [u32; 3]) -> Result<(Pair, u64), String> {
+    let [receive, transmit, margin] = sizes;
+    let (rx, tx) = (vec![0; receive as usize], vec![0; transmit as usize]);
+    let mut pair = Pair::of(both, &[0; model::block::LEN], &rx, &tx);
+    let answer = pair.recreate(margin)?;
+    Ok((pair, answer))
+}
+
+/// Plays a script on both, call by call; a refused create leaves what was there. Gives how many
+/// calls were compared, or a sentence that says what differs.
+pub fn play(both: [Implementation; 2], script: &Script) -> Result<usize, String> {
+    let (mut pair, _) = created(both, [DEFAULT_STORE, DEFAULT_STORE, DEFAULT_MARGIN])?;
+    let mut asked = 0;
+    for step in &script.steps {
+        if let script::Call::Create {
+            receive,
+            transmit,
+            margin,
+        } = step.call
+        {
+            let (new, answer) = created(both, [receive, transmit, margin])?;
+            pair = if answer == 0 { new } else { pair };
+            asked += 1;
+        }
+        for call in Call::all_of(&step.call) {
+            pair.call(call)?;
+            asked += 1;
+        }
+    }
+    Ok(asked)
+}

@@ -1,0 +1,94 @@
+//! Faults that are planted on purpose: the draws find each, and the script that is told is short,
+//! is read as it was printed, and leads to the same difference again.
+
+use crate::counts::Counts;
+use crate::draw::{Difference, Draws};
+use crate::runs::{from_create, from_states, on_damaged, Kind};
+use raftershim_checks::implementation::{Implementation, ARCHIVE, MODEL};
+use raftershim_checks::planted;
+use raftershim_checks::played::play;
+use raftershim_checks::written::script_in;
+use script::{Call, Script};
+
+/// The first difference between a planted fault and the model in a few runs of a kind.
+fn found(fault: Implementation, kind: Kind) -> Option<Difference> {
+    let draws = Draws { runs: 300, seed: 0 };
+    kind([fault, MODEL], draws, &mut Counts::default())
+}
+
+/// A finding without the script that leads to it.
+fn without_script(told: &str) -> &str {
+    let script = script_in(told).expect("a script is told");
+    &told[..told.len() - script.len()]
+}
+
+/// Reads the script that was told, which is printed again as it was and shows the same difference.
+/// Gives the lengths of its stores.
+fn stores_of(fault: Implementation, told: &str) -> (usize, usize) {
+    let printed = script_in(told).expect("a script is told");
+    let script: Script = printed.parse().expect("it has no mistake");
+    assert_eq!(script.to_string(), printed);
+    let again = play([fault, MODEL], &script).expect_err("it differs again");
+    assert_eq!(without_script(&again), without_script(told));
+    match script.steps[0].call {
+        Call::Create {
+            receive, transmit, ..
+        } => (receive as usize, transmit as usize),
+        ref other => panic!("{other} is first"),
+    }
+}
+
+#[test]
+fn a_byte_that_is_lost_silently() {
+    let fault = planted::SILENT_LOSS;
+    let found = found(fault, from_create).expect("it is found");
+    let (receive, _) = stores_of(fault, &found.told);
+    // Nothing is left but the bytes that fill the store and the one that is lost.
+    assert_eq!(found.steps, receive + 1, "{}", found.told);
+    println!("planted: {}", found.told);
+}
+
+#[test]
+fn a_place_that_is_not_written() {
+    let fault = planted::LAST_PLACE_UNWRITTEN;
+    let found = found(fault, from_create).expect("it is found");
+    let (receive, _) = stores_of(fault, &found.told);
+    assert_eq!(found.steps, receive, "{}", found.told);
+}
+
+#[test]
+fn a_refused_call_that_changes_the_state() {
+    let fault = planted::REFUSED_YET_CHANGED;
+    let found = found(fault, from_create).expect("it is found");
+    assert!(found
+        .told
+        .starts_with("refused or shown, yet block place 55"));
+    let (_, transmit) = stores_of(fault, &found.told);
+    // An address, listen, the frames that fill the store and one more.
+    assert!(found.steps <= transmit + 3, "{}", found.told);
+}
+
+#[test]
+fn a_count_that_stops_at_its_largest_number() {
+    let fault = planted::STUCK_COUNT;
+    assert!(found(fault, from_create).is_none());
+    let found = found(fault, from_states).expect("it is found");
+    // Talk and send data, at most.
+    assert!(found.steps <= 2, "{}", found.told);
+    assert!(found.told.contains("block place 23"), "{}", found.told);
+}
+
+#[test]
+fn a_block_of_another_version_that_is_taken() {
+    let fault = planted::ANOTHER_VERSION_TAKEN;
+    assert!(found(fault, from_create).is_none() && found(fault, from_states).is_none());
+    let found = found(fault, on_damaged).expect("it is found");
+    assert!(found.steps <= 1, "{}", found.told);
+}
+
+#[test]
+fn nothing_is_found_where_nothing_is_planted() {
+    for kind in [from_create as Kind, from_states, on_damaged] {
+        assert!(found(ARCHIVE, kind).is_none());
+    }
+}
