@@ -39,7 +39,7 @@ pub struct Notes<G, X> {
 /// - A reset or a device clear throws away what the bridge holds. Readings that ended in it are
 ///   gone. The one that it cuts in two has a gap; the one after that has none.
 /// - Data frames that the app takes by [`loop_frame`](Meter::loop_frame) are missing in the reading
-///   that they belong to. If they reach its end byte, it is not given.
+///   that they belong to. A reading whose end the app has so taken is not given.
 /// - A reading that is longer than the text has a gap.
 /// - If R10, C00 or C01 is written in the middle of a line so that its end comes without a byte to
 ///   be the end byte, two readings run into one, which has a gap.
@@ -339,32 +339,25 @@ where
     /// A send has taken bytes off: first the ends of lines that came by themselves, then what
     /// became the frame that was sent. That is a byte, and for an end byte its end of line too.
     fn read_off(&mut self, before: &State, gone: usize, sent: Option<Frame>, reader: Reader) {
-        let sent_from = match sent {
+        let alone = match sent {
             None => gone,
             Some(frame) if frame.is_end() => gone.saturating_sub(3),
             Some(_) => gone.saturating_sub(1),
         };
-        for index in (0..sent_from).step_by(2) {
+        for index in 0..gone {
             let missing = self.gaps.take(place(before, index));
-            self.line.lacks(missing);
-            let missing = self.gaps.take(place(before, index + 1));
-            self.line.end_alone(missing);
-        }
-        if let Some(frame) = sent {
-            match reader {
-                Reader::Meter => self.line.put(frame.data()),
-                Reader::App => self.line.lacks(true),
+            let ends = match sent {
+                Some(frame) if index >= alone => frame.is_end() && index + 1 == gone,
+                _ => index % 2 == 1,
+            };
+            match (sent.filter(|_| index == alone), reader) {
+                (None, _) => {}
+                (Some(frame), Reader::Meter) => self.line.put(frame.data()),
+                (Some(_), Reader::App) => self.line.lacks(true),
             }
-            self.sent_off(before, sent_from..gone, frame.is_end(), reader);
-        }
-    }
-
-    /// The bytes with these indices became a frame.
-    fn sent_off(&mut self, before: &State, bytes: core::ops::Range<usize>, end: bool, by: Reader) {
-        for index in bytes.clone() {
-            let missing = self.gaps.take(place(before, index));
-            match (end && index + 1 == bytes.end, by) {
+            match (ends, reader) {
                 (false, _) => self.line.lacks(missing),
+                (true, Reader::Meter) if index < alone => self.line.end_alone(missing),
                 (true, Reader::Meter) => self.line.end(missing),
                 (true, Reader::App) => self.line.drop(missing),
             }

@@ -1,0 +1,81 @@
+//! Last spring a full receive store swallowed the point of 2.5, and a user heard 25 volts.
+
+use raftershim::{Meter, Notes, Reading, Refusal, Stores};
+
+/// What an app says that asks for a reading whenever it comes round, and speaks what is whole.
+fn said(bursts: &[&str]) -> Result<Vec<String>, Refusal> {
+    let stores = Stores {
+        receive: [0; 6],
+        transmit: [0; 3],
+    };
+    let notes = Notes {
+        gaps: [0; 1],
+        text: [0; 32],
+    };
+    let mut meter = Meter::create(stores, notes, 2)?;
+    let mut said = Vec::new();
+    for burst in bursts {
+        meter.line_bytes(burst.as_bytes())?;
+        loop {
+            said.push(match meter.reading()? {
+                Reading::Whole(text) => format!("{text} volts"),
+                Reading::Gap(_) => "measure again".to_string(),
+                _ => break,
+            });
+        }
+    }
+    Ok(said)
+}
+
+#[test]
+fn of_ten_readings_the_one_without_its_point_is_not_spoken() {
+    let bursts = [
+        "0.5\r\n",
+        "1.5\r\n2.",
+        "5\r\n",
+        "3.5\r\n",
+        "4.5\r\n",
+        "5.5\r\n",
+        "6.5\r\n",
+        "7.5\r\n",
+        "8.5\r\n",
+        "9.5\r\n",
+    ];
+    let spoken = said(&bursts).unwrap();
+    assert_eq!(spoken.len(), 10);
+    for (volts, spoken) in spoken.iter().enumerate() {
+        match volts {
+            2 => assert_eq!(spoken, "measure again"),
+            _ => assert_eq!(*spoken, format!("{volts}.5 volts")),
+        }
+    }
+}
+
+#[test]
+fn of_ten_readings_exactly_three_have_gaps() {
+    // The point of 2, the end of 5, which runs into 6, and all text of 8.
+    let bursts = [
+        "0.5\r\n",
+        "1.5\r\n2.",
+        "5\r\n",
+        "3.5\r\n",
+        "4.5\r\n5.5\r\n",
+        "6.5\r\n",
+        "77.7\r\n8",
+        "8.8",
+        "8\r\n",
+        "9.5\r\n",
+    ];
+    let expected = [
+        "0.5 volts",
+        "1.5 volts",
+        "measure again",
+        "3.5 volts",
+        "4.5 volts",
+        "measure again",
+        "77.7 volts",
+        "88.88 volts",
+        "9.5 volts",
+    ];
+    assert_eq!(said(&bursts).unwrap(), expected);
+}
