@@ -10,6 +10,15 @@ triple=${1?'the first word is the target'}
 shift
 if [ "$triple" = "$own" ]; then cd "$here" && exec cargo "$@"; fi
 
+# A chip has no system: its programs are linked with a C library and run on the emulated board.
+if [ "$triple" = thumbv6m-none-eabi ]; then
+    . tests/board/build.sh
+    RUSTFLAGS="--sysroot $(sh rust/core.sh "$triple") -C linker=$(pwd)/tests/board/link.sh -C linker-flavor=gcc -C default-linker-libraries=yes"
+    export RUSTFLAGS RUSTC=/usr/bin/rustc CARGO_BUILD_TARGET="$triple" CARGO_NET_OFFLINE=true
+    export CARGO_TARGET_THUMBV6M_NONE_EABI_RUNNER="sh $(pwd)/tests/board/emulate.sh"
+    cd "$here" && exec /usr/bin/cargo "$@"
+fi
+
 for_target "$triple"
 case $triple in
     x86_64-*) debian=amd64 ;;
