@@ -1,9 +1,8 @@
 //! The implementations of the bridge behind the block that are compared with each other.
 
-use crate::archive;
 use crate::call::Call;
 use crate::lent::Lent;
-use crate::second::{by_model, by_peer};
+use crate::{archive, second, third};
 
 /// One implementation: its create and its other calls.
 #[derive(Clone, Copy)]
@@ -25,15 +24,15 @@ pub const ARCHIVE: Implementation = Implementation {
 /// The model, which is written to be read.
 pub const MODEL: Implementation = Implementation {
     name: "model",
-    create: by_model::create,
-    call: by_model::call,
+    create: second::create,
+    call: second::call,
 };
 
 /// The peer, which is written for speed.
 pub const PEER: Implementation = Implementation {
     name: "peer",
-    create: by_peer::create,
-    call: by_peer::call,
+    create: third::create,
+    call: third::call,
 };
 
 /// What is compared unless something else is said.

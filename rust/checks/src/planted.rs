@@ -3,7 +3,7 @@
 use crate::call::Call;
 use crate::implementation::{Implementation, MODEL};
 use crate::lent::Lent;
-use crate::second::by_model;
+use crate::second;
 use model::boundary::{kind, REFUSED};
 use model::{block, Bridge};
 
@@ -37,7 +37,7 @@ pub const STUCK_COUNT: Implementation = planted(|lent, call| {
 /// A frame that is refused as busy still ends the remote state.
 pub const REFUSED_YET_CHANGED: Implementation = planted(|lent, call| {
     let Lent { block, rx, tx } = lent;
-    let answer = by_model::call(Lent { block, rx, tx }, call);
+    let answer = second::call(Lent { block, rx, tx }, call);
     if answer == REFUSED << 16 | 4 && block.len() == block::LEN {
         block[block::LEN - 1] ^= 1;
     }
@@ -48,7 +48,7 @@ pub const REFUSED_YET_CHANGED: Implementation = planted(|lent, call| {
 pub const LAST_PLACE_UNWRITTEN: Implementation = planted(|lent, call| {
     let Lent { block, rx, tx } = lent;
     let last = rx.last().copied();
-    let answer = by_model::call(Lent { block, rx, tx }, call);
+    let answer = second::call(Lent { block, rx, tx }, call);
     if let (Some(place), Some(byte)) = (rx.last_mut(), last) {
         *place = byte;
     }
@@ -61,7 +61,7 @@ pub const ANOTHER_VERSION_TAKEN: Implementation = planted(|lent, call| {
     if let Some(version @ 0) = block.first_mut() {
         *version = block::VERSION;
     }
-    by_model::call(Lent { block, rx, tx }, call)
+    second::call(Lent { block, rx, tx }, call)
 });
 
 /// Makes a call as the model does and then changes the state, given the state before the call. A
@@ -69,7 +69,7 @@ pub const ANOTHER_VERSION_TAKEN: Implementation = planted(|lent, call| {
 fn changed(lent: Lent, call: Call, change: impl FnOnce(&Bridge, &mut Bridge)) -> u64 {
     let Lent { block, rx, tx } = lent;
     let before = block::unpack(block);
-    let answer = by_model::call(Lent { block, rx, tx }, call);
+    let answer = second::call(Lent { block, rx, tx }, call);
     let quiet = matches!(call, Call::Show(_)) || kind(answer) == REFUSED;
     if let (Some(before), Some(mut after), false) = (before, block::unpack(block), quiet) {
         change(&before, &mut after);
