@@ -17,7 +17,7 @@ mod side;
 mod stack;
 mod works;
 
-use side::Side;
+use side::{Side, ARCHIVE, MODEL, PEER};
 use std::process::ExitCode;
 use works::Work;
 
@@ -36,7 +36,7 @@ fn answered(words: &[&str]) -> Result<String, String> {
     let (store, rounds) = (number(store)?, number(rounds)?);
     let round = round::written_down(work, store);
     if what == "compare" {
-        let calls = compared::calls(store, &round, rounds)?;
+        let calls = compared::calls([ARCHIVE, MODEL, PEER], store, &round, rounds)?;
         return Ok(format!("{calls} calls compared"));
     }
     let side = Side::named(what).ok_or("no such side")?;
