@@ -5,15 +5,23 @@
 //! three buffers must not overlap.
 
 use model::boundary;
-use std::slice::{from_raw_parts as lent, from_raw_parts_mut as lent_mut};
+use std::slice::{from_raw_parts, from_raw_parts_mut};
+
+unsafe fn lent<'a>(start: *const u8, len: u64) -> &'a [u8] {
+    from_raw_parts(start, len as usize)
+}
+
+unsafe fn lent_mut<'a>(start: *mut u8, len: u64) -> &'a mut [u8] {
+    from_raw_parts_mut(start, len as usize)
+}
 
 pub unsafe extern "C" fn create(
     block: *mut u8,
-    block_len: usize,
+    block_len: u64,
     rx: *const u8,
-    rx_len: usize,
+    rx_len: u64,
     tx: *const u8,
-    tx_len: usize,
+    tx_len: u64,
     margin: u32,
 ) -> u64 {
     let block = lent_mut(block, block_len);
@@ -22,11 +30,11 @@ pub unsafe extern "C" fn create(
 
 pub unsafe extern "C" fn reset(
     block: *mut u8,
-    block_len: usize,
+    block_len: u64,
     rx: *const u8,
-    rx_len: usize,
+    rx_len: u64,
     tx: *const u8,
-    tx_len: usize,
+    tx_len: u64,
 ) -> u64 {
     let block = lent_mut(block, block_len);
     boundary::reset(block, lent(rx, rx_len), lent(tx, tx_len))
@@ -34,11 +42,11 @@ pub unsafe extern "C" fn reset(
 
 pub unsafe extern "C" fn write_register(
     block: *mut u8,
-    block_len: usize,
+    block_len: u64,
     rx: *const u8,
-    rx_len: usize,
+    rx_len: u64,
     tx: *const u8,
-    tx_len: usize,
+    tx_len: u64,
     number: u32,
     value: u32,
 ) -> u64 {
@@ -48,11 +56,11 @@ pub unsafe extern "C" fn write_register(
 
 pub unsafe extern "C" fn line_byte(
     block: *mut u8,
-    block_len: usize,
+    block_len: u64,
     rx: *mut u8,
-    rx_len: usize,
+    rx_len: u64,
     tx: *const u8,
-    tx_len: usize,
+    tx_len: u64,
     byte: u8,
 ) -> u64 {
     let block = lent_mut(block, block_len);
@@ -61,11 +69,11 @@ pub unsafe extern "C" fn line_byte(
 
 pub unsafe extern "C" fn take_break(
     block: *mut u8,
-    block_len: usize,
+    block_len: u64,
     rx: *mut u8,
-    rx_len: usize,
+    rx_len: u64,
     tx: *const u8,
-    tx_len: usize,
+    tx_len: u64,
 ) -> u64 {
     let block = lent_mut(block, block_len);
     boundary::line_break(block, lent(rx, rx_len), lent(tx, tx_len))
@@ -73,11 +81,11 @@ pub unsafe extern "C" fn take_break(
 
 pub unsafe extern "C" fn key(
     block: *mut u8,
-    block_len: usize,
+    block_len: u64,
     rx: *const u8,
-    rx_len: usize,
+    rx_len: u64,
     tx: *const u8,
-    tx_len: usize,
+    tx_len: u64,
 ) -> u64 {
     let block = lent_mut(block, block_len);
     boundary::key(block, lent(rx, rx_len), lent(tx, tx_len))
@@ -85,11 +93,11 @@ pub unsafe extern "C" fn key(
 
 pub unsafe extern "C" fn next_line_byte(
     block: *mut u8,
-    block_len: usize,
+    block_len: u64,
     rx: *const u8,
-    rx_len: usize,
+    rx_len: u64,
     tx: *const u8,
-    tx_len: usize,
+    tx_len: u64,
 ) -> u64 {
     let block = lent_mut(block, block_len);
     boundary::next_line_byte(block, lent(rx, rx_len), lent(tx, tx_len))
@@ -97,11 +105,11 @@ pub unsafe extern "C" fn next_line_byte(
 
 pub unsafe extern "C" fn loop_frame(
     block: *mut u8,
-    block_len: usize,
+    block_len: u64,
     rx: *const u8,
-    rx_len: usize,
+    rx_len: u64,
     tx: *mut u8,
-    tx_len: usize,
+    tx_len: u64,
     frame: u32,
 ) -> u64 {
     let block = lent_mut(block, block_len);
@@ -110,11 +118,11 @@ pub unsafe extern "C" fn loop_frame(
 
 pub unsafe extern "C" fn show(
     block: *const u8,
-    block_len: usize,
+    block_len: u64,
     rx: *const u8,
-    rx_len: usize,
+    rx_len: u64,
     tx: *const u8,
-    tx_len: usize,
+    tx_len: u64,
     side: u32,
 ) -> u64 {
     let block = lent(block, block_len);

@@ -4,14 +4,14 @@ use crate::{idle, plain};
 use raftershim::raw;
 
 /// A call that takes the block and the stores alone: reset, key and next line byte.
-type Alone = unsafe extern "C" fn(*mut u8, usize, *const u8, usize, *const u8, usize) -> u64;
-type Break = unsafe extern "C" fn(*mut u8, usize, *mut u8, usize, *const u8, usize) -> u64;
-type Create = unsafe extern "C" fn(*mut u8, usize, *const u8, usize, *const u8, usize, u32) -> u64;
+type Alone = unsafe extern "C" fn(*mut u8, u64, *const u8, u64, *const u8, u64) -> u64;
+type Break = unsafe extern "C" fn(*mut u8, u64, *mut u8, u64, *const u8, u64) -> u64;
+type Create = unsafe extern "C" fn(*mut u8, u64, *const u8, u64, *const u8, u64, u32) -> u64;
 type WriteRegister =
-    unsafe extern "C" fn(*mut u8, usize, *const u8, usize, *const u8, usize, u32, u32) -> u64;
-type LineByte = unsafe extern "C" fn(*mut u8, usize, *mut u8, usize, *const u8, usize, u8) -> u64;
-type LoopFrame = unsafe extern "C" fn(*mut u8, usize, *const u8, usize, *mut u8, usize, u32) -> u64;
-type Show = unsafe extern "C" fn(*const u8, usize, *const u8, usize, *const u8, usize, u32) -> u64;
+    unsafe extern "C" fn(*mut u8, u64, *const u8, u64, *const u8, u64, u32, u32) -> u64;
+type LineByte = unsafe extern "C" fn(*mut u8, u64, *mut u8, u64, *const u8, u64, u8) -> u64;
+type LoopFrame = unsafe extern "C" fn(*mut u8, u64, *const u8, u64, *mut u8, u64, u32) -> u64;
+type Show = unsafe extern "C" fn(*const u8, u64, *const u8, u64, *const u8, u64, u32) -> u64;
 
 /// The nine C functions that take a block.
 #[derive(Clone, Copy)]

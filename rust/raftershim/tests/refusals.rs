@@ -66,7 +66,7 @@ fn damaged(saved: Saved, place: usize, value: u8) -> Result<Saved, Refusal> {
 fn the_archive_has_blocks_of_this_length() {
     // SAFETY: it takes nothing.
     let len = unsafe { raw::raftershim_block_len() };
-    assert_eq!(u64::try_from(len), u64::try_from(BLOCK_LEN));
+    assert_eq!(len, BLOCK_LEN as u64);
 }
 
 fn create(receive: usize, transmit: usize, margin: u32) -> Result<(), BadSize> {
