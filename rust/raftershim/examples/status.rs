@@ -27,11 +27,13 @@ fn main() -> Result<(), Refusal> {
     Ok(())
 }
 
-// Asks for the status byte and gives it back, so that the bridge knows that it was told.
+// Asks for the status byte and gives it back, so that the bridge knows that it was told. One that
+// comes back changed is not believed, and is asked for again.
 fn poll(bridge: &mut Polled) -> Result<StatusByte, Refusal> {
-    let status = bridge.loop_frame(Frame::SEND_STATUS)?;
-    match bridge.loop_frame(status)? {
-        Frame::END_OF_TRANSMISSION => Ok(status.data().into()),
-        _ => Err(Refusal::MISFIT),
+    loop {
+        let status = bridge.loop_frame(Frame::SEND_STATUS)?;
+        if bridge.loop_frame(status)? == Frame::END_OF_TRANSMISSION {
+            return Ok(status.data().into());
+        }
     }
 }

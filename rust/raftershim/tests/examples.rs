@@ -7,20 +7,17 @@ thread_local! {
     static SAID: RefCell<String> = RefCell::new(String::new());
 }
 
-/// Takes an example in, with what it says kept.
+/// Keeps what an example says, in the place of the macro that prints it.
+macro_rules! println {
+    ($($said:tt)*) => {
+        crate::SAID.with(|said| said.borrow_mut().push_str(&(format!($($said)*) + "\n")))
+    };
+}
+
+/// Takes an example in.
 macro_rules! example {
     ($name:ident, $file:literal) => {
         mod $name {
-            macro_rules! println {
-                ($form:literal $(, $value:expr)*) => {
-                    crate::SAID.with(|said| {
-                        let mut said = said.borrow_mut();
-                        said.push_str(&format!($form $(, $value)*));
-                        said.push('\n');
-                    })
-                };
-            }
-
             include!($file);
 
             pub fn run() -> Result<(), Refusal> {
