@@ -7,10 +7,14 @@ thread_local! {
     static SAID: RefCell<String> = RefCell::new(String::new());
 }
 
+fn keep(line: &str) {
+    SAID.with(|said| said.borrow_mut().push_str(&format!("{line}\n")));
+}
+
 /// Keeps what an example says, in the place of the macro that prints it.
 macro_rules! println {
     ($($said:tt)*) => {
-        crate::SAID.with(|said| said.borrow_mut().push_str(&(format!($($said)*) + "\n")))
+        crate::keep(&format!($($said)*))
     };
 }
 
