@@ -4,7 +4,7 @@ use raftershim::Refusal;
 use std::cell::RefCell;
 
 thread_local! {
-    static SAID: RefCell<String> = RefCell::new(String::new());
+    static SAID: RefCell<String> = const { RefCell::new(String::new()) };
 }
 
 fn keep(line: &str) {
