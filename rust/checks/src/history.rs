@@ -9,7 +9,7 @@ use crate::seen::{seen, Seen};
 use crate::told::{Act, Reader, Told, Worth};
 use model::boundary::value;
 use model::{block, Bridge, UNASSIGNED};
-use raftershim::{Answer, LineByte};
+use raftershim::{Answer, LineByte, BLOCK_LEN};
 use std::collections::VecDeque;
 
 /// The end bit of data frames.
@@ -103,7 +103,8 @@ impl History {
         let (gone, due) = rule.send(&self.held());
         assert_eq!(frame, due, "the frame that the rule gives");
         for _ in 0..(gone - own(frame)) / 2 {
-            self.mark_alone(by);
+            self.become_of(2, Fate::Mark);
+            self.cut(by);
         }
         if let Some(frame) = frame {
             let fate = [Fate::Missing, Fate::Read][usize::from(by == By::Reading)];
@@ -112,17 +113,6 @@ impl History {
                 self.become_of(2, Fate::Mark);
                 self.cut(by);
             }
-        }
-    }
-
-    /// An end of line by itself. After text that was read it ends nothing: the rule was changed.
-    fn mark_alone(&mut self, by: By) {
-        let text = self.line.iter().any(|(_, fate)| *fate == Fate::Read);
-        if by == By::Reading && text {
-            self.become_of(2, Fate::Missing);
-        } else {
-            self.become_of(2, Fate::Mark);
-            self.cut(by);
         }
     }
 
@@ -217,8 +207,8 @@ impl Reader for History {
         }
     }
 
-    fn block(&self) -> Vec<u8> {
-        self.buffers.block().to_vec()
+    fn block(&self) -> [u8; BLOCK_LEN] {
+        self.buffers.block().try_into().expect("a whole block")
     }
 }
 

@@ -1,7 +1,7 @@
 //! What an app does at a meter's bridge, and what it is told.
 
 use crate::call::Call;
-use raftershim::{Answer, Answered, Frame, LineByte, Meter, Reading, Refusal, Register};
+use raftershim::{Answer, Answered, Frame, LineByte, Meter, Reading, Refusal, Register, BLOCK_LEN};
 
 /// What the app does.
 #[derive(Clone, Copy, Debug, PartialEq, Eq)]
@@ -33,7 +33,7 @@ pub trait Reader {
     fn act(&mut self, act: Act) -> Told;
 
     /// The block after it.
-    fn block(&self) -> Vec<u8>;
+    fn block(&self) -> [u8; BLOCK_LEN];
 }
 
 impl<R, T, G, X> Reader for Meter<R, T, G, X>
@@ -64,8 +64,8 @@ where
         })
     }
 
-    fn block(&self) -> Vec<u8> {
-        self.bridge().saved().as_bytes().to_vec()
+    fn block(&self) -> [u8; BLOCK_LEN] {
+        *self.bridge().saved().as_bytes()
     }
 }
 

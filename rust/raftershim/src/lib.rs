@@ -12,30 +12,7 @@
 //! reading is told as a gap, and the nine others are whole.
 //!
 //! ```
-//! use raftershim::{Meter, Notes, Reading, Refusal, Stores};
-//!
-//! # fn main() -> Result<(), Refusal> {
-//! let stores = Stores { receive: [0; 6], transmit: [0; 3] };
-//! let mut meter = Meter::create(stores, Notes { gaps: [0; 1], text: [0; 32] }, 2)?;
-//! let bursts = [
-//!     "0.5\r\n", "1.5\r\n2.", "5\r\n", "3.5\r\n", "4.5\r\n",
-//!     "5.5\r\n", "6.5\r\n", "7.5\r\n", "8.5\r\n", "9.5\r\n",
-//! ];
-//! # let mut said = Vec::new();
-//! for burst in bursts {
-//!     meter.line_bytes(burst.as_bytes())?;
-//!     loop {
-//!         match meter.reading()? {
-//!             Reading::Whole(text) => println!("{text} volts"),
-//!             Reading::Gap(_) => println!("a byte is missing, measure again"),
-//!             _ => break,
-//!         }
-//! #       said.push(());
-//!     }
-//! }
-//! # assert_eq!(said.len(), 10);
-//! # Ok(())
-//! # }
+#![doc = include_str!("../examples/meter.rs")]
 //! ```
 //!
 //! The third line that this prints is `a byte is missing, measure again`. [`Meter`] says exactly
@@ -93,9 +70,10 @@
 //!
 //! # The archive
 //!
-//! The archive is for x86-64 Linux. The command `rt staticlib raftershim` makes it. The build takes
-//! it from the folder that the environment variable `RAFTERSHIM_ARCHIVE_DIR` names by its full
-//! path, and otherwise from the folder `target/staticlib` of the repository.
+//! The build takes the archive for the target that is built from the folder of the repository's
+//! archives, and has it made there if it is missing, which needs the Rattle toolchain. If the
+//! environment variable `RAFTERSHIM_ARCHIVE_DIR` is set, it names the archive's folder by its full
+//! path, and none is made.
 //!
 //! # Without the standard library
 //!

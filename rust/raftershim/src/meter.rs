@@ -41,8 +41,6 @@ pub struct Notes<G, X> {
 /// - Data frames that the app takes by [`loop_frame`](Meter::loop_frame) are missing in the reading
 ///   that they belong to. A reading whose end the app has so taken is not given.
 /// - A reading that is longer than the text has a gap.
-/// - If R10, C00 or C01 is written in the middle of a line so that its end comes without a byte to
-///   be the end byte, two readings run into one, which has a gap.
 ///
 /// Neither status polls nor breaks nor keys change any of this.
 ///

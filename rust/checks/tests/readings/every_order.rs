@@ -63,31 +63,6 @@ fn held(name: &str, plan: Plan) {
     );
 }
 
-#[test]
-fn bytes_ends_of_lines_and_reads() {
-    held("every order of bytes and reads, store 4", BYTES_AND_READS);
-    let sizes = Sizes { rx_len: 5, ..TINY };
-    held(
-        "the same, store 5",
-        Plan {
-            sizes,
-            ..BYTES_AND_READS
-        },
-    );
-    let sizes = Sizes {
-        rx_len: 6,
-        margin: 2,
-        longest: 2,
-    };
-    held(
-        "the same, store 6, texts of 2",
-        Plan {
-            sizes,
-            ..BYTES_AND_READS
-        },
-    );
-}
-
 pub const BYTES_AND_READS: Plan = Plan {
     sizes: TINY,
     start: &[],
@@ -96,95 +71,86 @@ pub const BYTES_AND_READS: Plan = Plan {
 };
 
 #[test]
-fn clears_and_resets() {
-    held(
-        "clears and resets",
-        Plan {
-            sizes: TINY,
-            start: &[],
-            letters: &[Line(b'2'), Line(b'\r'), Line(b'\n'), Read, Clear, Reset],
-            length: 8,
+fn bytes_ends_of_lines_and_reads() {
+    held("every order of bytes and reads, store 4", BYTES_AND_READS);
+    let longer = |rx_len, margin, longest| Plan {
+        sizes: Sizes {
+            rx_len,
+            margin,
+            longest,
         },
-    );
+        length: 9,
+        ..BYTES_AND_READS
+    };
+    held("the same, store 5", longer(5, 1, 8));
+    held("the same, store 6, texts of 2", longer(6, 2, 2));
+}
+
+/// Holds every order of these letters on stores of 4 and 5, after these.
+fn held_on_both(
+    name: &str,
+    start: &'static [Letter],
+    letters: &'static [Letter],
+    lengths: [usize; 2],
+) {
+    for (rx_len, length) in [4, 5].into_iter().zip(lengths) {
+        let sizes = Sizes { rx_len, ..TINY };
+        let name = format!("{name}, store {rx_len}");
+        held(
+            &name,
+            Plan {
+                sizes,
+                start,
+                letters,
+                length,
+            },
+        );
+    }
+}
+
+#[test]
+fn clears_and_resets() {
+    let letters = &[Line(b'2'), Line(b'\r'), Line(b'\n'), Read, Clear, Reset];
+    held_on_both("clears and resets", &[], letters, [7, 7]);
+    let letters = &[Line(b'2'), LineEnd, Read, Clear];
+    held_on_both("clears between whole ends of lines", &[], letters, [9, 9]);
 }
 
 #[test]
 fn reads_by_the_app_itself() {
-    held(
-        "reads by the app itself",
-        Plan {
-            sizes: TINY,
-            start: &[],
-            letters: &[Line(b'2'), LineEnd, Read, AskData, Back, Clear],
-            length: 8,
-        },
-    );
+    let letters = &[Line(b'2'), LineEnd, Read, AskData, Back, Clear];
+    held_on_both("reads by the app itself", &[], letters, [7, 7]);
 }
 
 #[test]
 fn status_polls_breaks_and_keys() {
-    held(
-        "status polls, breaks and keys",
-        Plan {
-            sizes: Sizes { rx_len: 5, ..TINY },
-            start: &[Register(0, 9), Register(2, 5)],
-            letters: &[Line(b'2'), LineEnd, Read, AskStatus, Back, Break, Key],
-            length: 7,
-        },
-    );
+    let start = &[Register(0, 9), Register(2, 5)];
+    let letters = &[Line(b'2'), LineEnd, Read, AskStatus, Back, Break, Key];
+    held_on_both("status polls, breaks and keys", start, letters, [7, 6]);
 }
 
 #[test]
 fn an_end_of_line_of_two_equal_characters() {
-    held(
-        "an end of line of two equal characters",
-        Plan {
-            sizes: TINY,
-            start: &[Register(16, 10)],
-            letters: &[Line(b'2'), Line(b'\n'), Read, Clear],
-            length: 10,
-        },
-    );
+    let letters = &[Line(b'2'), Line(b'\n'), Read, Clear];
+    let start = &[Register(16, 10)];
+    held_on_both("an end of line of equal characters", start, letters, [9, 9]);
 }
 
 #[test]
 fn rules_changed_under_way() {
-    held(
-        "rules changed under way",
-        Plan {
-            sizes: TINY,
-            start: &[],
-            letters: &[
-                Line(b'2'),
-                LineEnd,
-                Read,
-                Register(10, 0),
-                Register(10, 8),
-                Register(16, b'2'),
-                Clear,
-            ],
-            length: 7,
-        },
-    );
+    let letters = &[
+        Line(b'2'),
+        LineEnd,
+        Read,
+        Register(10, 0),
+        Register(10, 8),
+        Register(16, b'2'),
+    ];
+    held_on_both("rules changed under way", &[], letters, [7, 7]);
 }
 
 #[test]
 fn go_and_stop() {
-    held(
-        "go and stop",
-        Plan {
-            sizes: TINY,
-            start: &[],
-            letters: &[
-                Line(b'2'),
-                LineEnd,
-                Line(17),
-                Line(19),
-                Read,
-                Next,
-                Register(11, 0),
-            ],
-            length: 7,
-        },
-    );
+    let letters = &[Line(b'2'), LineEnd, Line(17), Line(19), Read, Next];
+    held_on_both("go and stop", &[Line(b'1')], letters, [7, 7]);
 }

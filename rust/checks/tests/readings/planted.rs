@@ -3,6 +3,7 @@
 use crate::at_random::runs;
 use crate::both::{our_meter, OurMeter, Sizes};
 use crate::every_order::{go_through, BYTES_AND_READS};
+use raftershim::BLOCK_LEN;
 use raftershim_checks::told::{Act, Reader, Told, Worth};
 
 /// The crate's meter, with what it tells made wrong.
@@ -51,7 +52,7 @@ impl Reader for Wrong {
         }
     }
 
-    fn block(&self) -> Vec<u8> {
+    fn block(&self) -> [u8; BLOCK_LEN] {
         self.meter.block()
     }
 }

@@ -52,8 +52,8 @@ fn of_ten_readings_the_one_without_its_point_is_not_spoken() {
 }
 
 #[test]
-fn of_ten_readings_exactly_three_have_gaps() {
-    // The point of 2, the end of 5, which runs into 6, and all text of 8.
+fn a_gap_is_told_in_its_own_reading() {
+    // Lost are the point of 2.5, all of 5.5 but its 5, with its end, and the text of 8.8.
     let bursts = [
         "0.5\r\n",
         "1.5\r\n2.",
@@ -61,21 +61,13 @@ fn of_ten_readings_exactly_three_have_gaps() {
         "3.5\r\n",
         "4.5\r\n5.5\r\n",
         "6.5\r\n",
-        "77.7\r\n8",
-        "8.8",
-        "8\r\n",
+        "77.7\r\n8.8",
+        "\r\n",
         "9.5\r\n",
     ];
-    let expected = [
-        "0.5 volts",
-        "1.5 volts",
-        "measure again",
-        "3.5 volts",
-        "4.5 volts",
-        "measure again",
-        "77.7 volts",
-        "88.88 volts",
-        "9.5 volts",
-    ];
-    assert_eq!(said(&bursts).unwrap(), expected);
+    let again = "measure again";
+    let first = ["0.5 volts", "1.5 volts", again, "3.5 volts", "4.5 volts"];
+    // 5 and 6.5 run into one.
+    let then = [again, "77.7 volts", again, "9.5 volts"];
+    assert_eq!(said(&bursts).unwrap(), [&first[..], &then[..]].concat());
 }
