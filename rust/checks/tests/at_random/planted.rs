@@ -22,14 +22,19 @@ fn without_script(told: &str) -> &str {
     &told[..told.len() - script.len()]
 }
 
-/// Reads the script that was told, which is printed again as it was and shows the same difference.
-/// Gives the lengths of its stores.
+/// Reads the script that was told, which is printed again as it was, shows the same difference, and
+/// is played by replay to its end. Gives the lengths of its stores.
 fn stores_of(fault: Implementation, told: &str) -> (usize, usize) {
     let printed = script_in(told).expect("a script is told");
     let script: Script = printed.parse().expect("it has no mistake");
     assert_eq!(script.to_string(), printed);
     let again = play([fault, MODEL], &script).expect_err("it differs again");
     assert_eq!(without_script(&again), without_script(told));
+    let counts = replay::run::run(&mut printed.as_bytes(), &mut Vec::new()).expect("it is played");
+    assert_eq!(
+        (counts.calls, counts.not_played),
+        (script.steps.len() as u64, 0)
+    );
     match script.steps[0].call {
         Call::Create {
             receive, transmit, ..
@@ -73,6 +78,8 @@ fn a_count_that_stops_at_its_largest_number() {
     let fault = planted::STUCK_COUNT;
     assert!(found(fault, from_create).is_none());
     let found = found(fault, from_states).expect("it is found");
+    // Its script fills the stores and restores the block.
+    stores_of(fault, &found.told);
     // Talk and send data, at most.
     assert!(found.steps <= 2, "{}", found.told);
     assert!(found.told.contains("block place 23"), "{}", found.told);
