@@ -1,6 +1,7 @@
 #!/bin/sh
-# Builds the archive of the proved C functions for each target named: sh archives/make.sh [TRIPLE... | all]
-# Without a word it is for this machine. The archive is target/staticlib/TRIPLE/libraftershim.a; archives/targets has the targets.
+# Builds the archive of the proved C functions for each target named: sh archives/make.sh [--stack-sizes] [TRIPLE... | all]
+# Without a target it is for this machine. The archive is target/staticlib/TRIPLE/libraftershim.a; archives/targets has the targets. With
+# --stack-sizes it has a note of each function's stack besides, and stands in target/stack/TRIPLE.
 # The kit proves the code and lowers it to one LLVM module, which its own clang compiles for x86-64. Here a copy of the kit, made of
 # links, has a clang that keeps the module too. The kit's clang then compiles that module for each target, so one proof serves all.
 # The module is kept until a source of a crate or the kit changes. The proofs end at the module: clang is trusted for each target.
@@ -55,13 +56,13 @@ module() {
 archive() { # TRIPLE
     words=$(sed -n "s/^$1 //p" "$top/archives/targets")
     [ -n "$words" ] || { say "there is no target $1; there are: $(known | tr '\n' ' ')"; exit 2; }
-    folder=$top/target/staticlib/$1
+    folder=$top/$place/$1
     mkdir -p "$folder" "$work/$1"
     # shellcheck disable=SC2086 # the words of a target are separate words
-    "$tools/clang" $words $KIT_WORDS -c -x ir "$kept" -o "$work/$1/raftershim.o" 2> "$work/said" || { cat "$work/said" >&2; exit 1; }
+    "$tools/clang" $words $KIT_WORDS $more -c -x ir "$kept" -o "$work/$1/raftershim.o" 2> "$work/said" || { cat "$work/said" >&2; exit 1; }
     if grep -v "is not a recognized processor for this target (ignoring processor)$" "$work/said" >&2; then exit 1; fi
     (cd "$work/$1" && "$tools/llvm-ar" rcs libraftershim.a raftershim.o && mv libraftershim.a "$folder/")
-    echo "target/staticlib/$1/libraftershim.a"
+    echo "$place/$1/libraftershim.a"
 }
 
 # The words that the kit gives its clang for every module, but for the target and the level.
@@ -72,6 +73,13 @@ command -v rt > /dev/null || { say 'the command rt is missing: the Rattle toolch
 home=$(rt doc)
 home=${home%/docs/*}
 tools=$home/on/$(uname -m)/toolchain/bin
+more=
+place=target/staticlib
+if [ "${1-}" = --stack-sizes ]; then
+    more=-fstack-size-section
+    place=target/stack
+    shift
+fi
 case "${1-}" in
     '') set -- "$(uname -m)-unknown-linux-gnu" ;;
     all) set -- $(known) ;;

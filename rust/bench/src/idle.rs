@@ -10,7 +10,9 @@ macro_rules! idle {
 
 idle! {
     create(*mut u8, u64, *const u8, u64, *const u8, u64, u32);
-    alone(*mut u8, u64, *const u8, u64, *const u8, u64);
+    reset(*mut u8, u64, *const u8, u64, *const u8, u64);
+    key(*mut u8, u64, *const u8, u64, *const u8, u64);
+    next_line_byte(*mut u8, u64, *const u8, u64, *const u8, u64);
     write_register(*mut u8, u64, *const u8, u64, *const u8, u64, u32, u32);
     line_byte(*mut u8, u64, *mut u8, u64, *const u8, u64, u8);
     take_break(*mut u8, u64, *mut u8, u64, *const u8, u64);

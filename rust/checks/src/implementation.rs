@@ -2,7 +2,7 @@
 
 use crate::call::Call;
 use crate::lent::Lent;
-use crate::{archive, second};
+use crate::{archive, second, third};
 
 /// One implementation: its create and its other calls.
 #[derive(Clone, Copy)]
@@ -26,6 +26,13 @@ pub const MODEL: Implementation = Implementation {
     name: "model",
     create: second::create,
     call: second::call,
+};
+
+/// The peer, which is written for speed.
+pub const PEER: Implementation = Implementation {
+    name: "peer",
+    create: third::create,
+    call: third::call,
 };
 
 /// What is compared unless something else is said.

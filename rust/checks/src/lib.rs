@@ -4,6 +4,9 @@
 //! The tests are in the folder `tests`, each with a word at its top; all print what they counted:
 //! `cargo test -p raftershim-checks -- --nocapture`.
 
+#[macro_use]
+mod behind;
+
 pub mod answer;
 pub mod archive;
 pub mod call;
@@ -21,6 +24,7 @@ pub mod run;
 pub mod second;
 pub mod seen;
 pub mod shrink;
+pub mod third;
 pub mod told;
 pub mod watch;
 pub mod written;

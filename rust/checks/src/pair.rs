@@ -48,7 +48,7 @@ impl Pair {
             theirs,
             our_buffers: buffers.clone(),
             their_buffers: buffers,
-            written: Written::holding(block, rx.len(), tx.len()),
+            written: Written::holding(block, rx, tx),
         }
     }
 

@@ -3,6 +3,9 @@
 use crate::call::Call;
 use std::fmt;
 
+/// How many bytes of a store a comment shows.
+const MOST_SHOWN: usize = 64;
+
 /// The beginning of a run and its calls so far. It is printed as a script.
 #[derive(Clone, Debug)]
 pub struct Written {
@@ -25,11 +28,16 @@ impl Written {
         }
     }
 
-    /// A run that begins with this block, whatever it means. A script has no call for that, so a
-    /// comment says it.
-    pub fn holding(block: &[u8], rx_len: usize, tx_len: usize) -> Written {
+    /// A run that begins with these buffers, whatever they mean. A script has no call for that, so
+    /// comments say it.
+    pub fn holding(block: &[u8], rx: &[u8], tx: &[u8]) -> Written {
+        let mut beginning = format!("# block {block:?}\n");
+        for (name, store) in [("receive", rx), ("transmit", tx)] {
+            let few = &store[..usize::min(store.len(), MOST_SHOWN)];
+            beginning += &format!("# {name} store of {}, from place 0 {few:?}\n", store.len());
+        }
         Written {
-            beginning: format!("# block {block:?}\n# stores of {rx_len} and {tx_len}\n"),
+            beginning,
             calls: Vec::new(),
         }
     }

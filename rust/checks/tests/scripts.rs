@@ -17,6 +17,9 @@ fn every_script_of_the_folder() {
         calls += play(BOTH, &script).unwrap_or_else(|told| panic!("{}: {told}", path.display()));
         scripts += 1;
     }
-    assert!(scripts > 5 && calls > 300);
+    assert!(
+        scripts > 5 && calls > 200,
+        "{scripts} scripts, {calls} calls"
+    );
     println!("scripts: {scripts} scripts, {calls} calls compared");
 }

@@ -3,7 +3,7 @@
 use crate::counts::Counts;
 use crate::say::{self, Said};
 use crate::stop::Stop;
-use raftershim::{Answer, Answered, Refusal, Side};
+use raftershim::{Answer, BadSize, Frame, LineByte, Refusal, Register, Side, Stores};
 use script::{Call, Expected, Step, Steps, DEFAULT_MARGIN, DEFAULT_STORE};
 use std::io::{self, BufRead, Write};
 
@@ -29,9 +29,12 @@ where
     Ok(player.counts)
 }
 
-fn create(receive: u32, transmit: u32, margin: u32) -> Result<Bridge, Refusal> {
-    let (receive, transmit) = (vec![0; receive as usize], vec![0; transmit as usize]);
-    Bridge::create(receive, transmit, margin)
+fn create(receive: u32, transmit: u32, margin: u32) -> Result<Bridge, BadSize> {
+    let stores = Stores {
+        receive: vec![0; receive as usize],
+        transmit: vec![0; transmit as usize],
+    };
+    Bridge::create(stores, margin)
 }
 
 /// Where a script plays.
@@ -51,7 +54,7 @@ struct Player {
 }
 
 impl Player {
-    fn new() -> Result<Player, Refusal> {
+    fn new() -> Result<Player, BadSize> {
         Ok(Player {
             place: Place::There(create(DEFAULT_STORE, DEFAULT_STORE, DEFAULT_MARGIN)?),
             told: false,
@@ -81,17 +84,20 @@ impl Player {
                 transmit,
                 margin,
             } => self.create(line, create(receive, transmit, margin), step),
-            Call::Reset => self.on(|bridge| bridge.reset().into()),
+            Call::Reset => self.on(|bridge| said(bridge.reset())),
             Call::Register { number, value } => {
-                self.on(|bridge| bridge.write_register(number, value).into())
+                self.on(|bridge| said(write(bridge, number, value)))
             }
-            Call::Line(ref bytes) => self.on(|bridge| take_all(bridge, bytes).into()),
-            Call::Break => self.on(|bridge| bridge.line_break().into()),
-            Call::Key => self.on(|bridge| bridge.key().into()),
-            Call::Next => self.on(|bridge| bridge.next_line_byte().into()),
-            Call::Frame(frame) => self.on(|bridge| bridge.loop_frame(frame).into()),
+            Call::Line(ref bytes) => self.on(|bridge| take_all(bridge, bytes)),
+            Call::Break => self.on(|bridge| said(bridge.line_break())),
+            Call::Key => self.on(|bridge| said(bridge.key())),
+            Call::Next => self.on(|bridge| said(bridge.next_line_byte())),
+            Call::Frame(frame) => self.on(|bridge| said(pass(bridge, frame))),
             Call::Show(side) => self.on(|bridge| Said::Shown(bridge.show(named(side)).to_vec())),
-            Call::State => self.on(|bridge| Said::Facts(say::facts(&bridge.state()))),
+            Call::State => self.on(|bridge| match bridge.state() {
+                Ok(state) => Said::Facts(say::facts(&state)),
+                Err(refusal) => Said::refused(refusal, &refusal),
+            }),
         }
     }
 
@@ -106,15 +112,15 @@ impl Player {
     /// Puts a new bridge in the place of the one that was there. A refused create leaves that one
     /// there if the script made it and expects the refusal. Else the script wanted another bridge
     /// than there is, and plays nowhere until the next create.
-    fn create(&mut self, line: u64, created: Result<Bridge, Refusal>, step: &Step) -> Said {
+    fn create(&mut self, line: u64, created: Result<Bridge, BadSize>, step: &Step) -> Said {
         let told = std::mem::replace(&mut self.told, true);
         match created {
             Ok(bridge) => {
                 self.place = Place::There(bridge);
-                Said::Answered(Ok(Answer::Done))
+                Said::Answered(Answer::Done)
             }
-            Err(refusal) => {
-                let said = Said::Answered(Err(refusal));
+            Err(bad) => {
+                let said = Said::refused(Refusal::from(bad), &bad);
                 let expected = step.expected.as_ref();
                 let stays = expected.map_or(false, |expected| said.meeting(expected).is_some());
                 if !(told && stays) {
@@ -139,7 +145,7 @@ impl Player {
             }
             None => {
                 match said {
-                    Said::Answered(Err(_)) => self.counts.refused(line),
+                    Said::Refused { .. } => self.counts.refused(line),
                     Said::NotPlayed { .. } => self.counts.not_played(line),
                     _ => {}
                 }
@@ -149,12 +155,32 @@ impl Player {
     }
 }
 
-/// Takes line bytes up to the first that is refused.
-fn take_all(bridge: &mut Bridge, bytes: &[u8]) -> Answered {
-    for &byte in bytes {
-        bridge.line_byte(byte)?;
+/// What there is to say to a call that answers so.
+fn said<T: Into<Answer>>(answered: Result<T, Refusal>) -> Said {
+    match answered {
+        Ok(answer) => Said::Answered(answer.into()),
+        Err(refusal) => Said::refused(refusal, &refusal),
     }
-    Ok(Answer::Done)
+}
+
+/// Writes a register; what is no register and no byte is refused in the order of the numbers.
+fn write(bridge: &mut Bridge, number: u32, value: u32) -> Result<(), Refusal> {
+    let register = Register::try_from(number)?;
+    let value = u8::try_from(value).map_err(|_| Refusal::VALUE_TOO_LARGE)?;
+    bridge.write_register(register, value)
+}
+
+fn pass(bridge: &mut Bridge, frame: u32) -> Result<Frame, Refusal> {
+    bridge.loop_frame(Frame::try_from(frame)?)
+}
+
+/// Takes line bytes up to the first that is refused.
+fn take_all(bridge: &mut Bridge, bytes: &[u8]) -> Said {
+    let taken = bytes.iter().map(|&byte| bridge.line_byte(byte));
+    match taken.collect::<Result<Vec<LineByte>, Refusal>>() {
+        Ok(taken) => Said::Taken(taken),
+        Err(refusal) => Said::refused(refusal, &refusal),
+    }
 }
 
 /// The side that a script names.

@@ -1,7 +1,7 @@
 //! The sentences of the answers, in words that a screen reader reads well.
 
 use crate::counts::number_of;
-use raftershim::{Answer, Answered, Registers, State};
+use raftershim::{Answer, LineByte, Refusal, Register, State, Talker};
 use script::Expected;
 use std::fmt;
 
@@ -17,6 +17,7 @@ create 64 64 8: make a bridge with these lengths of the receive and the transmit
 reset: give the bridge the state that create gave.
 register R10 8: write a register. It is R00 to R12, C00 to C05, or a number.
 line 50: take a byte from the line. Several may follow, and text in quotation marks: line \"2.5\" 13 10.
+The answer to line says how many bytes were stored, lost, taken as go or taken as stop, as in 4 stored, 1 lost.
 break: take a break on the line.
 key: take a press of the MSRQ key.
 next: give the next line byte.
@@ -51,11 +52,20 @@ It is 3 if no line expects an answer, as in an empty script: nothing was compare
 #[derive(Clone, Debug, PartialEq, Eq)]
 pub enum Said {
     /// What the bridge answered.
-    Answered(Answered),
+    Answered(Answer),
+    /// What became of each line byte.
+    Taken(Vec<LineByte>),
     /// The bytes that a store showed.
     Shown(Vec<u8>),
     /// The facts of the state.
     Facts(Vec<String>),
+    /// The call was refused.
+    Refused {
+        /// The refusal by its number.
+        refusal: Refusal,
+        /// The refusal in a sentence that starts with its number.
+        sentence: String,
+    },
     /// There is no bridge to play on.
     NotPlayed {
         /// The line of the create that was refused.
@@ -63,24 +73,26 @@ pub enum Said {
     },
 }
 
-impl From<Answered> for Said {
-    fn from(answered: Answered) -> Said {
-        Said::Answered(answered)
-    }
-}
-
 impl Said {
+    /// A refusal, by its number and its sentence.
+    pub fn refused(refusal: Refusal, sentence: &dyn fmt::Display) -> Said {
+        Said::Refused {
+            refusal,
+            sentence: sentence.to_string(),
+        }
+    }
+
     /// The sentence that is as expected, if there is one.
     pub fn meeting(&self, expected: &Expected) -> Option<String> {
         let heard = self.to_string();
         match self {
             Said::NotPlayed { .. } => None,
-            Said::Answered(Err(refusal)) => {
+            Said::Facts(facts) => facts.iter().find(|fact| expected.is(fact)).cloned(),
+            Said::Refused { refusal, .. } => {
                 let number = format!("refusal {}", refusal.number());
                 let met = expected.is(&number) || expected.is(&heard);
                 met.then_some(heard)
             }
-            Said::Facts(facts) => facts.iter().find(|fact| expected.is(fact)).cloned(),
             _ => expected.is(&heard).then_some(heard),
         }
     }
@@ -97,8 +109,8 @@ impl Said {
 impl fmt::Display for Said {
     fn fmt(&self, f: &mut fmt::Formatter<'_>) -> fmt::Result {
         match self {
-            Said::Answered(Ok(answer)) => write!(f, "{answer}"),
-            Said::Answered(Err(refusal)) => write!(f, "{refusal}"),
+            Said::Answered(answer) => write!(f, "{answer}"),
+            Said::Taken(bytes) => f.write_str(&became(bytes)),
             Said::Shown(bytes) if bytes.is_empty() => f.write_str("nothing"),
             Said::Shown(bytes) => {
                 f.write_str(&number_of(bytes.len() as u64, "byte", "bytes"))?;
@@ -109,14 +121,29 @@ impl fmt::Display for Said {
                 f.write_str("the state is this")?;
                 facts.iter().try_for_each(|fact| write!(f, "\n{fact}"))
             }
-            Said::NotPlayed { refused } => {
-                write!(
-                    f,
-                    "this is not played, since the create in line {refused} was refused"
-                )
-            }
+            Said::Refused { sentence, .. } => f.write_str(sentence),
+            Said::NotPlayed { refused } => write!(
+                f,
+                "this is not played, since the create in line {refused} was refused"
+            ),
         }
     }
+}
+
+/// What became of line bytes, by how many of them, in the order in which it first happened.
+fn became(bytes: &[LineByte]) -> String {
+    let mut kinds: Vec<(LineByte, usize)> = Vec::new();
+    for byte in bytes {
+        match kinds.iter_mut().find(|(kind, _)| kind == byte) {
+            Some((_, count)) => *count += 1,
+            None => kinds.push((*byte, 1)),
+        }
+    }
+    let parts: Vec<String> = kinds
+        .iter()
+        .map(|(kind, n)| format!("{n} {kind}"))
+        .collect();
+    parts.join(", ")
 }
 
 /// The facts of a state, each always said, in one of its forms.
@@ -124,24 +151,24 @@ pub fn facts(state: &State) -> Vec<String> {
     let mut facts = role_facts(state);
     facts.extend(store_facts(state));
     facts.extend(status_facts(state));
-    facts.extend(register_facts(&state.registers));
+    facts.extend(register_facts(state));
     facts
 }
 
 fn role_facts(state: &State) -> Vec<String> {
     let address = match state.address {
-        31 => "no address".into(),
-        address => format!("address {address}"),
+        Some(address) => format!("address {address}"),
+        None => "no address".into(),
     };
     let talker = match state.talker {
-        0 => "not talker",
-        1 => "talker, addressed",
-        2 => "talker, active with data",
-        _ => "talker, active with status",
+        Talker::Not => "not talker",
+        Talker::Addressed => "talker, addressed",
+        Talker::Data => "talker, active with data",
+        Talker::Status => "talker, active with status",
     };
-    let under_way = match state.talker {
-        0 | 1 => "no frame under way".into(),
-        _ => format!("{} under way", Answer::Frame(state.under_way)),
+    let under_way = match state.under_way {
+        Some(frame) => format!("frame {frame} under way"),
+        None => "no frame under way".into(),
     };
     vec![
         address,
@@ -180,7 +207,10 @@ fn store_facts(state: &State) -> Vec<String> {
 }
 
 fn status_facts(state: &State) -> Vec<String> {
-    let request = match (state.request, state.registers.r00 & 8) {
+    let request = match (
+        state.request,
+        state.registers.r00 & Register::R00_SHOW_REQUESTS,
+    ) {
         (false, _) => "no service request",
         (true, 0) => "service request, hidden",
         (true, _) => "service request, shown",
@@ -203,16 +233,16 @@ fn status_facts(state: &State) -> Vec<String> {
     ]
 }
 
-fn register_facts(r: &Registers) -> Vec<String> {
+/// The registers with their values, in two facts.
+fn register_facts(state: &State) -> Vec<String> {
+    let values = |registers: &[Register]| {
+        let value = |register: &Register| format!("{register} {}", state.registers.get(*register));
+        registers.iter().map(value).collect::<Vec<_>>().join(", ")
+    };
+    let (control, characters) = Register::ALL.split_at(5);
     vec![
-        format!(
-            "control registers: R00 {}, R01 {}, R02 {}, R10 {}, R11 {}",
-            r.r00, r.r01, r.r02, r.r10, r.r11
-        ),
-        format!(
-            "character registers: C00 {}, C01 {}, C02 {}, C03 {}, C04 {}, C05 {}",
-            r.c00, r.c01, r.c02, r.c03, r.c04, r.c05
-        ),
+        format!("control registers: {}", values(control)),
+        format!("character registers: {}", values(characters)),
     ]
 }
 

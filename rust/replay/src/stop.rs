@@ -1,7 +1,7 @@
 //! Why the program ends before the end of the script.
 
 use crate::{DIFFERENT, NOT_RUN};
-use raftershim::Refusal;
+use raftershim::BadSize;
 use script::Unread;
 use std::error::Error;
 use std::ffi::OsString;
@@ -25,7 +25,7 @@ pub enum Stop {
     /// The script has a mistake or cannot be read.
     Unread(Unread),
     /// The bridge that a script without create gets was refused.
-    Refused(Refusal),
+    Refused(BadSize),
     /// The answers cannot be written.
     Writing(io::Error),
 }
@@ -61,7 +61,7 @@ impl fmt::Display for Stop {
                 write!(f, "the script {path} cannot be opened: {error}")
             }
             Stop::Unread(unread) => write!(f, "{unread}"),
-            Stop::Refused(refusal) => write!(f, "no bridge, {refusal}"),
+            Stop::Refused(bad) => write!(f, "no bridge, {bad}"),
             Stop::Writing(error) => write!(f, "the answers cannot be written: {error}"),
         }
     }

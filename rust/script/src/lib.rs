@@ -8,9 +8,9 @@
 //! ```
 //! use raftershim_script::{Call, Script};
 //!
-//! let script: Script = "create 64 64 8\nline \"2.5\" 13 10 => done # a reading\n".parse()?;
+//! let script: Script = "create 64 64 8\nline \"2.5\" 13 10 => 5 stored # a reading\n".parse()?;
 //! assert_eq!(script.steps[1].call, Call::Line(vec![50, 46, 53, 13, 10]));
-//! assert_eq!(script.to_string(), "create 64 64 8\nline 50 46 53 13 10 => done\n");
+//! assert_eq!(script.to_string(), "create 64 64 8\nline 50 46 53 13 10 => 5 stored\n");
 //! # Ok::<(), raftershim_script::Unread>(())
 //! ```
 

@@ -16,7 +16,7 @@ mod steps;
 
 use counts::Counts;
 use draw::Draws;
-use raftershim_checks::implementation::{Implementation, BOTH};
+use raftershim_checks::implementation::{Implementation, ARCHIVE, BOTH, PEER};
 use runs::Kind;
 
 /// Runs of a kind, in which these two never differ.
@@ -52,5 +52,17 @@ fn runs_from_states_that_calls_never_reach() {
 fn damaged_blocks_and_other_lengths() {
     let name = "damaged blocks and other lengths";
     let counts = held(name, BOTH, runs::on_damaged, 5000);
+    counts.assert_refusals(&[1, 2, 3, 4, 5, 6, 7, 8]);
+}
+
+/// The peer of the benchmarks answers as the archive does.
+#[test]
+fn the_peer_beside_the_archive() {
+    let both = [PEER, ARCHIVE];
+    let counts = held("peer, from create", both, runs::from_create, 1000);
+    counts.assert_refusals(&[3, 4, 5, 6, 7, 8]);
+    counts.assert_answers_and_events();
+    held("peer, from states", both, runs::from_states, 4000);
+    let counts = held("peer, damaged blocks", both, runs::on_damaged, 5000);
     counts.assert_refusals(&[1, 2, 3, 4, 5, 6, 7, 8]);
 }
