@@ -123,7 +123,10 @@ where
         if let Some(bad) = BadSize::of_gaps(notes.gaps.as_ref().len(), receive) {
             return Err(bad);
         }
-        let fresh = matches!(bridge.state(), Ok(state) if state.stored == 0 && state.lost == 0);
+        let counts = bridge
+            .state()
+            .map(|state| [state.stored, state.lost, state.sent]);
+        let fresh = counts == Ok([0; 3]);
         let mut gaps = Gaps::none(notes.gaps);
         if !fresh {
             (0..receive).for_each(|place| gaps.note(place));
