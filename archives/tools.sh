@@ -35,6 +35,8 @@ for_target() { # TRIPLE
     prefix=
     emulator=
     case $1 in
+        # no C library for Android is here: its archive, which asks for nothing, is run under Linux
+        aarch64-linux-android) for_target aarch64-unknown-linux-gnu; return ;;
         "$own") need 'gcc libc6-dev binutils' gcc objdump; return ;;
         x86_64-unknown-linux-gnu) prefix=x86_64-linux-gnu- emulator=qemu-x86_64-static packages='gcc-x86-64-linux-gnu libc6-dev-amd64-cross' ;;
         aarch64-unknown-linux-gnu) prefix=aarch64-linux-gnu- emulator=qemu-aarch64-static packages='gcc-aarch64-linux-gnu libc6-dev-arm64-cross' ;;

@@ -38,6 +38,8 @@ if [ "$triple" = "$own" ]; then
 else
     bench=target/rust/$triple/release/bench
     tool='the emulator'
+    # The emulator is slow: the smallest and the largest store tell.
+    stores='64 32768'
 fi
 
 # Holds the sides together call by call, for every work and store.
