@@ -40,10 +40,12 @@ impl Call {
     }
 
     /// The calls on a state that a call of a script stands for: one for each line byte, and none
-    /// for create and for saying the state.
+    /// for what makes the state and for saying it.
     pub fn all_of(call: &script::Call) -> Vec<Call> {
         vec![match *call {
-            script::Call::Create { .. } | script::Call::State => return Vec::new(),
+            script::Call::Create { .. } | script::Call::Restore(_) | script::Call::State => {
+                return Vec::new()
+            }
             script::Call::Line(ref bytes) => {
                 return bytes.iter().copied().map(Call::Line).collect()
             }

@@ -1,5 +1,6 @@
 //! What the tests share: the archive's C functions and the model, side by side on equal buffers,
-//! draws at random, and a watcher that holds both to demand 3 by history of its own.
+//! draws at random, a watcher that holds both to demand 3 by history of its own, and the history of
+//! a line that holds the crate's meter to the readings that it was.
 //!
 //! The tests are in the folder `tests`, each with a word at its top; all print what they counted:
 //! `cargo test -p raftershim-checks -- --nocapture`.

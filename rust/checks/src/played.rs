@@ -1,4 +1,4 @@
-//! Plays a script on two implementations, as replay plays it on the bridge.
+//! Plays a script on two implementations and compares them, whatever answers it expects.
 
 use crate::call::Call;
 use crate::implementation::Implementation;
@@ -14,25 +14,32 @@ fn created(both: [Implementation; 2], sizes: [u32; 3]) -> Result<(Pair, u64), St
     Ok((pair, answer))
 }
 
-/// Plays a script on both, call by call; a refused create leaves what was there. Gives how many
-/// calls were compared, or a sentence that says what differs.
+/// Plays a script on both, call by call; a refused create leaves what was there, and a restored
+/// block is lent as it is. Gives how many calls were compared, or a sentence that says what differs.
 pub fn play(both: [Implementation; 2], script: &Script) -> Result<usize, String> {
     let (mut pair, _) = created(both, [DEFAULT_STORE, DEFAULT_STORE, DEFAULT_MARGIN])?;
     let mut asked = 0;
     for step in &script.steps {
-        if let script::Call::Create {
-            receive,
-            transmit,
-            margin,
-        } = step.call
-        {
-            let (new, answer) = created(both, [receive, transmit, margin])?;
-            pair = if answer == 0 { new } else { pair };
-            asked += 1;
-        }
-        for call in Call::all_of(&step.call) {
-            pair.call(call)?;
-            asked += 1;
+        match step.call {
+            script::Call::Create {
+                receive,
+                transmit,
+                margin,
+            } => {
+                let (new, answer) = created(both, [receive, transmit, margin])?;
+                pair = if answer == 0 { new } else { pair };
+                asked += 1;
+            }
+            script::Call::Restore(ref block) => {
+                let stores = pair.buffers();
+                pair = Pair::of(both, block, stores.rx(), stores.tx());
+            }
+            ref call => {
+                for call in Call::all_of(call) {
+                    pair.call(call)?;
+                    asked += 1;
+                }
+            }
         }
     }
     Ok(asked)

@@ -124,6 +124,15 @@ impl fmt::Display for Answer {
 /// assert_eq!(bridge.line_byte(19)?, LineByte::Stop);
 /// # Ok::<(), raftershim::Refusal>(())
 /// ```
+///
+/// The compiler warns a caller that does not look:
+///
+/// ```compile_fail
+/// #![deny(unused_must_use)]
+/// # use raftershim::{Bridge, Stores};
+/// # let mut bridge = Bridge::create(Stores { receive: [0; 4], transmit: [0; 3] }, 1).unwrap();
+/// bridge.line_byte(b'5').unwrap();
+/// ```
 #[derive(Clone, Copy, Debug, PartialEq, Eq, Hash)]
 #[must_use = "a lost byte may be the point of a number: a reading with a gap must not be spoken"]
 #[non_exhaustive]

@@ -123,7 +123,10 @@ where
         if let Some(bad) = BadSize::of_gaps(notes.gaps.as_ref().len(), receive) {
             return Err(bad);
         }
-        let fresh = matches!(bridge.state(), Ok(state) if state.stored == 0 && state.lost == 0);
+        let counts = bridge
+            .state()
+            .map(|state| [state.stored, state.lost, state.sent]);
+        let fresh = counts == Ok([0; 3]);
         let mut gaps = Gaps::none(notes.gaps);
         if !fresh {
             (0..receive).for_each(|place| gaps.note(place));
@@ -135,9 +138,10 @@ where
     /// Reads one reading: plays the controller of the loop until an end byte, or until the bridge
     /// has no more to send.
     ///
-    /// The bridge is given [`Address::FIRST`] if it has no address, is made talker and asked to
-    /// send data. Each data frame is given back to it and brings the next one. After an end byte it
-    /// is told 5,66, not ready, so it stops there and keeps what comes after for the next call.
+    /// The bridge is given [`Address::FIRST`] if it has no address, is made talker, so it listens no
+    /// more, and is asked to send data. Each data frame is given back to it and brings the next one.
+    /// After an end byte it is told 5,66, not ready, so it stops there and keeps what comes after
+    /// for the next call.
     ///
     /// Each reading that has ended is told once. [`Reading::NotEnded`] means that the bridge has
     /// nothing more for now; its text stays, and the next call goes on with it.
@@ -275,6 +279,19 @@ where
     /// # Errors
     ///
     /// Refusal 4 if the bridge is busy, and 2.
+    ///
+    /// ```
+    /// use raftershim::{Frame, Meter, Notes, Reading, StatusByte, Stores};
+    ///
+    /// let stores = Stores { receive: [0; 64], transmit: [0; 64] };
+    /// let mut meter = Meter::create(stores, Notes { gaps: [0; 8], text: [0; 32] }, 8)?;
+    /// // After a reading the bridge is talker, so it can be asked for its status.
+    /// assert!(matches!(meter.reading()?, Reading::NotEnded(_)));
+    /// let status = meter.loop_frame(Frame::SEND_STATUS)?;
+    /// assert!(!StatusByte::from(status.data()).has(StatusByte::OVERRUN));
+    /// assert_eq!(meter.loop_frame(status)?, Frame::END_OF_TRANSMISSION);
+    /// # Ok::<(), raftershim::Refusal>(())
+    /// ```
     #[must_use = "the frame that goes on along the loop is in the answer"]
     pub fn loop_frame(&mut self, frame: Frame) -> Result<Frame, Refusal> {
         self.offer(frame, Reader::App)
@@ -286,6 +303,19 @@ where
     /// # Errors
     ///
     /// Refusal 2.
+    ///
+    /// ```
+    /// use raftershim::{Meter, Notes, Reading, Stores};
+    ///
+    /// let stores = Stores { receive: [0; 64], transmit: [0; 64] };
+    /// let mut meter = Meter::create(stores, Notes { gaps: [0; 8], text: [0; 32] }, 8)?;
+    /// meter.line_bytes(b"2.")?;
+    /// meter.reset()?;
+    /// meter.line_bytes(b"5\r\n7\r\n")?;
+    /// assert!(matches!(meter.reading()?, Reading::Gap(_)));
+    /// assert!(matches!(meter.reading()?, Reading::Whole(text) if text.as_bytes() == b"7"));
+    /// # Ok::<(), raftershim::Refusal>(())
+    /// ```
     #[must_use = "a refused reset has changed nothing"]
     pub fn reset(&mut self) -> Result<(), Refusal> {
         let before = self.bridge.state()?;
@@ -309,7 +339,17 @@ where
         &self.bridge
     }
 
-    /// The bridge, to be used without the meter.
+    /// The bridge, to be used without the meter, or to be saved.
+    ///
+    /// ```
+    /// use raftershim::{Meter, Notes, Stores};
+    ///
+    /// let stores = Stores { receive: [0; 64], transmit: [0; 64] };
+    /// let meter = Meter::create(stores, Notes { gaps: [0; 8], text: [0; 32] }, 8)?;
+    /// let (saved, stores) = meter.into_bridge().into_parts();
+    /// assert_eq!((saved.version(), stores.receive.len()), (1, 64));
+    /// # Ok::<(), raftershim::Refusal>(())
+    /// ```
     pub fn into_bridge(self) -> Bridge<R, T> {
         self.bridge
     }

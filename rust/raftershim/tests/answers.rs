@@ -156,4 +156,11 @@ fn a_refusal_is_an_error() {
     let error: Box<dyn std::error::Error + Send + Sync> = Refusal::BUSY.into();
     assert_eq!(error.downcast_ref(), Some(&Refusal::BUSY));
     assert!(error.source().is_none());
+    let stores = raftershim::Stores {
+        receive: [0; 7],
+        transmit: [0; 3],
+    };
+    let bad = raftershim::Bridge::create(stores, 3).unwrap_err();
+    let error: Box<dyn std::error::Error + Send + Sync> = bad.into();
+    assert_eq!(error.downcast_ref(), Some(&bad));
 }

@@ -248,6 +248,22 @@ fn counts_are_read_low_byte_first() {
 }
 
 #[test]
+fn a_byte_is_told_as_stored_or_lost_where_the_counts_come_round() {
+    let (saved, stores) = fresh().into_parts();
+    let mut block = *saved.as_bytes();
+    block[15..27].fill(255);
+    let counted = Bridge::restore(block.as_slice().try_into().unwrap(), stores);
+    let mut bridge = counted.unwrap();
+    line_byte(&mut bridge, 50, LineByte::Stored);
+    assert_eq!(state(&bridge).stored, 0);
+    for _ in 1..600 {
+        line_byte(&mut bridge, 50, LineByte::Stored);
+    }
+    line_byte(&mut bridge, 50, LineByte::Lost);
+    assert_eq!((state(&bridge).stored, state(&bridge).lost), (599, 0));
+}
+
+#[test]
 fn a_saved_bridge_goes_on_where_it_was() {
     let mut bridge = fresh();
     line_byte(&mut bridge, 50, LineByte::Stored);

@@ -3,7 +3,7 @@
 use crate::counts::Counts;
 use crate::say::{self, Said};
 use crate::stop::Stop;
-use raftershim::{Answer, BadSize, Frame, LineByte, Refusal, Register, Side, Stores};
+use raftershim::{Answer, BadSize, Frame, LineByte, Refusal, Register, Saved, Side, Stores};
 use script::{Call, Expected, Step, Steps, DEFAULT_MARGIN, DEFAULT_STORE};
 use std::io::{self, BufRead, Write};
 
@@ -85,6 +85,7 @@ impl Player {
                 margin,
             } => self.create(line, create(receive, transmit, margin), step),
             Call::Reset => self.on(|bridge| said(bridge.reset())),
+            Call::Restore(ref block) => self.on(|bridge| said(restore(bridge, block))),
             Call::Register { number, value } => {
                 self.on(|bridge| said(write(bridge, number, value)))
             }
@@ -161,6 +162,13 @@ fn said<T: Into<Answer>>(answered: Result<T, Refusal>) -> Said {
         Ok(answer) => Said::Answered(answer.into()),
         Err(refusal) => Said::refused(refusal, &refusal),
     }
+}
+
+/// Gives the bridge a saved block; one that does not fit leaves the bridge as it was.
+fn restore(bridge: &mut Bridge, block: &[u8]) -> Result<(), Refusal> {
+    let (_, stores) = bridge.clone().into_parts();
+    *bridge = Bridge::restore(Saved::try_from(block)?, stores)?;
+    Ok(())
 }
 
 /// Writes a register; what is no register and no byte is refused in the order of the numbers.

@@ -26,6 +26,9 @@ pub enum Call {
     },
     /// Reset the bridge.
     Reset,
+    /// Put the bridge together again from this saved block, on its stores as they are; there is at
+    /// least one byte.
+    Restore(Vec<u8>),
     /// Write a register.
     Register {
         /// The register's number.
@@ -58,7 +61,7 @@ impl fmt::Display for Side {
     }
 }
 
-/// Prints the call as a script has it. Up to 1,000 line bytes stay below the longest line.
+/// Prints the call as a script has it. Up to 1,000 bytes stay below the longest line.
 impl fmt::Display for Call {
     fn fmt(&self, f: &mut fmt::Formatter<'_>) -> fmt::Result {
         match self {
@@ -71,10 +74,8 @@ impl fmt::Display for Call {
             Call::Register { number, value } => {
                 write!(f, "register {} {value}", RegisterName(*number))
             }
-            Call::Line(bytes) => {
-                f.write_str("line")?;
-                bytes.iter().try_for_each(|byte| write!(f, " {byte}"))
-            }
+            Call::Restore(bytes) => with_bytes(f, "restore", bytes),
+            Call::Line(bytes) => with_bytes(f, "line", bytes),
             Call::Break => f.write_str("break"),
             Call::Key => f.write_str("key"),
             Call::Next => f.write_str("next"),
@@ -83,4 +84,9 @@ impl fmt::Display for Call {
             Call::State => f.write_str("state"),
         }
     }
+}
+
+fn with_bytes(f: &mut fmt::Formatter<'_>, name: &str, bytes: &[u8]) -> fmt::Result {
+    f.write_str(name)?;
+    bytes.iter().try_for_each(|byte| write!(f, " {byte}"))
 }

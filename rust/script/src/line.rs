@@ -64,8 +64,9 @@ fn parse_call(name: Word<'_>, words: IntoIter<Word<'_>>) -> Result<Call, Mistake
     match name.plain() {
         Some("create") => rest("create").create(),
         Some("reset") => rest("reset").end(Call::Reset),
+        Some("restore") => rest("restore").bytes().map(Call::Restore),
         Some("register") => rest("register").register(),
-        Some("line") => rest("line").line(),
+        Some("line") => rest("line").bytes().map(Call::Line),
         Some("break") => rest("break").end(Call::Break),
         Some("key") => rest("key").end(Call::Key),
         Some("next") => rest("next").end(Call::Next),
@@ -103,7 +104,7 @@ impl Rest<'_> {
     }
 
     /// Bytes and texts up to the end of the line, at least one.
-    fn line(mut self) -> Result<Call, Mistake> {
+    fn bytes(mut self) -> Result<Vec<u8>, Mistake> {
         let mut bytes = Vec::new();
         while bytes.is_empty() || self.words.len() > 0 {
             match self.words.as_slice() {
@@ -114,7 +115,7 @@ impl Rest<'_> {
                 _ => bytes.push(self.number(Wanted::Byte)? as u8),
             }
         }
-        Ok(Call::Line(bytes))
+        Ok(bytes)
     }
 
     fn frame(mut self) -> Result<Call, Mistake> {

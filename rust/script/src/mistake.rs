@@ -4,6 +4,10 @@ use crate::{LONGEST_LINE, LONGEST_STORE};
 use std::error::Error;
 use std::fmt;
 
+/// The names of all calls.
+const CALLS: &str =
+    "create, reset, restore, register, line, break, key, next, frame, show or state";
+
 /// What is wrong in a line: its sentence says what was expected there and what was found.
 #[derive(Clone, Debug, PartialEq, Eq)]
 #[non_exhaustive]
@@ -52,7 +56,7 @@ pub enum Wanted {
     Register,
     /// A register's value.
     Value,
-    /// A line byte.
+    /// A byte.
     Byte,
     /// A loop frame.
     Frame,
@@ -101,8 +105,7 @@ impl fmt::Display for Mistake {
     fn fmt(&self, f: &mut fmt::Formatter<'_>) -> fmt::Result {
         match self {
             Mistake::UnknownCall { found } => {
-                let calls = "create, reset, register, line, break, key, next, frame, show or state";
-                write!(f, "expected {calls}, found {found}")
+                write!(f, "expected {CALLS}, found {found}")
             }
             Mistake::Word {
                 after,

@@ -23,7 +23,7 @@ fn mistakes(expected: &str, lines: &[(&str, &str)]) {
 
 #[test]
 fn mistakes_in_the_call() {
-    let calls = "create, reset, register, line, break, key, next, frame, show or state";
+    let calls = "create, reset, restore, register, line, break, key, next, frame, show or state";
     let found = [
         ("lines 5", "lines"),
         ("\"next\"", "\"next\""),
@@ -48,6 +48,8 @@ fn mistakes_in_line_bytes() {
         ("line \"2\" 2.5", "2.5"),
     ];
     mistakes("a byte from 0 to 255 after line", &found);
+    let found = [("restore", "nothing"), ("restore 1 256", "256")];
+    mistakes("a byte from 0 to 255 after restore", &found);
     mistakes("a closing quotation mark", &[("line \"2.5", "none")]);
     let between = "between the quotation marks";
     mistakes(

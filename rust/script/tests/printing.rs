@@ -26,6 +26,7 @@ fn every_call() -> Vec<Call> {
         Call::Show(Side::Transmit),
         Call::Line((0..=255).collect()),
         Call::Line(vec![255; 1000]),
+        Call::Restore((0..56).collect()),
         Call::Create {
             receive: 0,
             transmit: 1_000_000,

@@ -17,15 +17,15 @@ mod steps;
 use counts::Counts;
 use draw::Draws;
 use raftershim_checks::implementation::{Implementation, ARCHIVE, BOTH, PEER};
-use runs::Kind;
+use runs::{Kind, FROM_CREATE, FROM_STATES, ON_DAMAGED};
 
 /// Runs of a kind, in which these two never differ.
-fn held(name: &str, both: [Implementation; 2], kind: Kind, runs: usize) -> Counts {
-    let draws = Draws::asked_for(runs);
+fn held(name: &str, both: [Implementation; 2], kind: Kind) -> Counts {
+    let draws = Draws::asked_for(kind.runs);
     // Said first, so that a run that dies without a word can be had again.
     println!("at random, {name}: AT_RANDOM_SEED={}", draws.seed);
     let mut counts = Counts::default();
-    if let Some(found) = kind(both, draws, &mut counts) {
+    if let Some(found) = (kind.difference)(both, draws, &mut counts) {
         let (seed, told, start) = (draws.seed, found.told, found.start);
         panic!("{name}, AT_RANDOM_SEED={seed}: {told}\nstarted at {start}");
     }
@@ -35,7 +35,7 @@ fn held(name: &str, both: [Implementation; 2], kind: Kind, runs: usize) -> Count
 
 #[test]
 fn runs_from_create() {
-    let counts = held("runs from create", BOTH, runs::from_create, 2000);
+    let counts = held("runs from create", BOTH, FROM_CREATE);
     counts.assert_refusals(&[3, 4, 5, 6, 7, 8]);
     counts.assert_answers_and_events();
 }
@@ -43,7 +43,7 @@ fn runs_from_create() {
 #[test]
 fn runs_from_states_that_calls_never_reach() {
     let name = "runs from states that calls never reach";
-    let counts = held(name, BOTH, runs::from_states, 4000);
+    let counts = held(name, BOTH, FROM_STATES);
     counts.assert_refusals(&[3, 4, 5, 6, 7, 8]);
     counts.assert_answers_and_events();
 }
@@ -51,7 +51,7 @@ fn runs_from_states_that_calls_never_reach() {
 #[test]
 fn damaged_blocks_and_other_lengths() {
     let name = "damaged blocks and other lengths";
-    let counts = held(name, BOTH, runs::on_damaged, 5000);
+    let counts = held(name, BOTH, ON_DAMAGED);
     counts.assert_refusals(&[1, 2, 3, 4, 5, 6, 7, 8]);
 }
 
@@ -59,10 +59,10 @@ fn damaged_blocks_and_other_lengths() {
 #[test]
 fn the_peer_beside_the_archive() {
     let both = [PEER, ARCHIVE];
-    let counts = held("peer, from create", both, runs::from_create, 1000);
+    let counts = held("peer, from create", both, FROM_CREATE);
     counts.assert_refusals(&[3, 4, 5, 6, 7, 8]);
     counts.assert_answers_and_events();
-    held("peer, from states", both, runs::from_states, 4000);
-    let counts = held("peer, damaged blocks", both, runs::on_damaged, 5000);
+    held("peer, from states", both, FROM_STATES);
+    let counts = held("peer, damaged blocks", both, ON_DAMAGED);
     counts.assert_refusals(&[1, 2, 3, 4, 5, 6, 7, 8]);
 }

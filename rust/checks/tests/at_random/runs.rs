@@ -10,15 +10,31 @@ use crate::steps::steps;
 use raftershim_checks::implementation::Implementation;
 use raftershim_checks::pair::Pair;
 
-/// A kind of runs: gives their first difference between two implementations, if there is one.
-pub type Kind = fn([Implementation; 2], Draws, &mut Counts) -> Option<Difference>;
+/// A kind of runs, and how many of them are drawn.
+#[derive(Clone, Copy)]
+pub struct Kind {
+    pub runs: usize,
+    /// Gives the first difference between two implementations, if there is one.
+    pub difference: fn([Implementation; 2], Draws, &mut Counts) -> Option<Difference>,
+}
+
+pub const FROM_CREATE: Kind = Kind {
+    runs: 2000,
+    difference: from_create,
+};
+
+pub const FROM_STATES: Kind = Kind {
+    runs: 4000,
+    difference: from_states,
+};
+
+pub const ON_DAMAGED: Kind = Kind {
+    runs: 5000,
+    difference: on_damaged,
+};
 
 /// Long runs from create, on stores of all sizes.
-pub fn from_create(
-    both: [Implementation; 2],
-    draws: Draws,
-    counts: &mut Counts,
-) -> Option<Difference> {
+fn from_create(both: [Implementation; 2], draws: Draws, counts: &mut Counts) -> Option<Difference> {
     draws.first_difference(
         |random| (sizes(random), steps(random, 200)),
         |sizes, steps| {
@@ -29,11 +45,7 @@ pub fn from_create(
 }
 
 /// Short runs from states that fit, most of which calls never reach.
-pub fn from_states(
-    both: [Implementation; 2],
-    draws: Draws,
-    counts: &mut Counts,
-) -> Option<Difference> {
+fn from_states(both: [Implementation; 2], draws: Draws, counts: &mut Counts) -> Option<Difference> {
     draws.first_difference(
         |random| (state(random), steps(random, 20)),
         |state, steps| drive(state.pair(both), steps, counts),
@@ -41,11 +53,7 @@ pub fn from_states(
 }
 
 /// Every call on blocks that are damaged, and on blocks and stores of other lengths.
-pub fn on_damaged(
-    both: [Implementation; 2],
-    draws: Draws,
-    counts: &mut Counts,
-) -> Option<Difference> {
+fn on_damaged(both: [Implementation; 2], draws: Draws, counts: &mut Counts) -> Option<Difference> {
     draws.first_difference(
         |random| {
             let number = random.word();

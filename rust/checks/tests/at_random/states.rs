@@ -35,9 +35,17 @@ pub fn state(random: &mut Random) -> Drawn {
     let sizes = sizes(random);
     let bridge = bridge(sizes, random);
     assert!(bridge.fits(sizes.rx_len, sizes.tx_len));
-    let mut store = |len| (0..len).map(|_| random.one_of(&CHARACTERS[..5])).collect();
-    let (rx, tx) = (store(sizes.rx_len), store(sizes.tx_len));
+    let (rx, tx) = (store(random, sizes.rx_len), store(random, sizes.tx_len));
     Drawn { bridge, rx, tx }
+}
+
+/// A store of characters, eight from each number drawn.
+fn store(random: &mut Random, len: usize) -> Vec<u8> {
+    let eight = |_| random.number().to_le_bytes();
+    let drawn = (0..len).step_by(8).flat_map(eight).take(len);
+    drawn
+        .map(|byte| CHARACTERS[usize::from(byte) % 5])
+        .collect()
 }
 
 /// Mostly near full or near empty.

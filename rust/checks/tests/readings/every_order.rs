@@ -124,9 +124,9 @@ fn reads_by_the_app_itself() {
 
 #[test]
 fn status_polls_breaks_and_keys() {
-    let start = &[Register(0, 9), Register(2, 5)];
+    let start = &[Register(0, 9), Register(2, 5), Line(b'1'), Line(b'1')];
     let letters = &[Line(b'2'), LineEnd, Read, AskStatus, Back, Break, Key];
-    held_on_both("status polls, breaks and keys", start, letters, [7, 6]);
+    held_on_both("status polls, breaks and keys", start, letters, [7, 7]);
 }
 
 #[test]

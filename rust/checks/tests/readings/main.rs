@@ -3,6 +3,7 @@
 
 mod at_random;
 mod both;
+mod edges;
 mod every_order;
 mod planted;
 mod story;

@@ -1,18 +1,15 @@
 //! Last spring a full receive store swallowed the point of 2.5, and a user heard 25 volts.
 
-use raftershim::{Meter, Notes, Reading, Refusal, Stores};
+use crate::both::{our_meter, Sizes};
+use raftershim::{Reading, Refusal};
 
 /// What an app says that asks for a reading whenever it comes round, and speaks what is whole.
 fn said(bursts: &[&str]) -> Result<Vec<String>, Refusal> {
-    let stores = Stores {
-        receive: [0; 6],
-        transmit: [0; 3],
-    };
-    let notes = Notes {
-        gaps: [0; 1],
-        text: [0; 32],
-    };
-    let mut meter = Meter::create(stores, notes, 2)?;
+    let mut meter = our_meter(Sizes {
+        rx_len: 6,
+        margin: 2,
+        longest: 32,
+    });
     let mut said = Vec::new();
     for burst in bursts {
         meter.line_bytes(burst.as_bytes())?;
