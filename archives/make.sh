@@ -55,7 +55,6 @@ module() {
 # else it says is an error.
 archive() { # TRIPLE
     words=$(sed -n "s/^$1 //p" "$top/archives/targets")
-    [ -n "$words" ] || { say "there is no target $1; there are: $(known | tr '\n' ' ')"; exit 2; }
     folder=$top/$place/$1
     mkdir -p "$folder" "$work/$1"
     # shellcheck disable=SC2086 # the words of a target are separate words
@@ -69,10 +68,6 @@ archive() { # TRIPLE
 KIT_WORDS='-ffunction-sections -fdata-sections -mllvm -trap-unreachable -mllvm -no-trap-after-noreturn --no-default-config
     -no-canonical-prefixes -fintegrated-cc1 -fno-crash-diagnostics -Werror -Wno-override-module'
 
-command -v rt > /dev/null || { say 'the command rt is missing: the Rattle toolchain makes the archive'; exit 1; }
-home=$(rt doc)
-home=${home%/docs/*}
-tools=$home/on/$(uname -m)/toolchain/bin
 more=
 place=target/staticlib
 if [ "${1-}" = --stack-sizes ]; then
@@ -84,6 +79,13 @@ case "${1-}" in
     '') set -- "$(uname -m)-unknown-linux-gnu" ;;
     all) set -- $(known) ;;
 esac
+for triple in "$@"; do
+    known | grep -qx -e "$triple" || { say "there is no target $triple; there are: $(known | paste -sd ' ')"; exit 2; }
+done
+command -v rt > /dev/null || { say 'the command rt is missing: the Rattle toolchain makes the archive'; exit 1; }
+home=$(rt doc)
+home=${home%/docs/*}
+tools=$home/on/$(uname -m)/toolchain/bin
 work=$(mktemp -d)
 trap 'rm -rf "$work"' EXIT
 module
