@@ -6,8 +6,11 @@
  * to line). They are the same three at every call, untouched in between, and they do not overlap. A pointer is not null and is
  * good for its length. One call at a time may use a set of buffers.
  *
+ * A length has 64 bits on every target, also where a pointer has 32: that is what the proved code takes, so no length is ever cut.
+ *
  * The first byte of a block is the version of its layout, which is 1. A block with another first byte is not a state: every call but
- * create is refused by 2, and showing answers an empty part.
+ * create is refused by 2, and showing answers an empty part. What the other bytes are stands below: a caller may read them and writes
+ * none.
  *
  * Every function but raftershim_block_len and raftershim_show answers one number of 64 bits:
  *
@@ -33,7 +36,6 @@
 #ifndef RAFTERSHIM_H
 #define RAFTERSHIM_H
 
-#include <stddef.h>
 #include <stdint.h>
 
 #ifdef __cplusplus
@@ -50,16 +52,111 @@ extern "C" {
 #define RAFTERSHIM_FRAME 3u
 #define RAFTERSHIM_REFUSED 4u
 
+/* The one refusal that passes: the frame is offered again when the line has taken bytes. */
+#define RAFTERSHIM_BUSY 4u
+
 /* The start and the length of a part that raftershim_show answered. */
-#define RAFTERSHIM_START(answer) ((size_t)((answer) >> 32))
-#define RAFTERSHIM_LENGTH(answer) ((size_t)((answer) & 0xFFFFFFFFu))
+#define RAFTERSHIM_START(answer) ((uint32_t)((answer) >> 32))
+#define RAFTERSHIM_LENGTH(answer) ((uint32_t)((answer) & 0xFFFFFFFFu))
 
 /* The sides of raftershim_show. */
 #define RAFTERSHIM_RECEIVE 0u
 #define RAFTERSHIM_TRANSMIT 1u
 
+/*
+ * The layout of a block, version 1: where each field starts, and how it is packed. A number of two or four bytes has its low byte first;
+ * a flag is 1 or 0. A field means what it says while the block is a state, which is after create, and after every later call.
+ */
+#define RAFTERSHIM_VERSION 1u
+#define RAFTERSHIM_BLOCK_LEN 56u
+
+#define RAFTERSHIM_AT_VERSION 0u /* byte: the version */
+#define RAFTERSHIM_AT_MARGIN 1u /* two: the margin */
+#define RAFTERSHIM_AT_RECEIVE_LEN 3u /* two: the length of the receive store */
+#define RAFTERSHIM_AT_RECEIVE_OLDEST 5u /* two: the place of its oldest byte */
+#define RAFTERSHIM_AT_RECEIVE_HELD 7u /* two: how many bytes it holds */
+#define RAFTERSHIM_AT_TRANSMIT_LEN 9u /* two: the length of the transmit store */
+#define RAFTERSHIM_AT_TRANSMIT_OLDEST 11u /* two: the place of its oldest byte */
+#define RAFTERSHIM_AT_TRANSMIT_HELD 13u /* two: how many bytes it holds */
+#define RAFTERSHIM_AT_STORED 15u /* four: bytes stored in the receive store */
+#define RAFTERSHIM_AT_LOST 19u /* four: bytes lost because it was full */
+#define RAFTERSHIM_AT_SENT 23u /* four: data frames sent from it */
+#define RAFTERSHIM_AT_ADDRESS 27u /* byte: our address, 31 when unassigned */
+#define RAFTERSHIM_AT_TALKER 28u /* byte: one of the talker phases below */
+#define RAFTERSHIM_AT_LISTENER 29u /* flag: we are listener */
+#define RAFTERSHIM_AT_UNDER_WAY 30u /* two: our frame under way, 0 when there is none */
+#define RAFTERSHIM_AT_FINISHING 32u /* flag: sending ends after the frame under way */
+#define RAFTERSHIM_AT_R00 33u /* byte: register R00 */
+#define RAFTERSHIM_AT_R01 34u /* byte: register R01 */
+#define RAFTERSHIM_AT_R02 35u /* byte: register R02 */
+#define RAFTERSHIM_AT_R10 36u /* byte: register R10 */
+#define RAFTERSHIM_AT_R11 37u /* byte: register R11 */
+#define RAFTERSHIM_AT_C00 38u /* byte: register C00 */
+#define RAFTERSHIM_AT_C01 39u /* byte: register C01 */
+#define RAFTERSHIM_AT_C02 40u /* byte: register C02 */
+#define RAFTERSHIM_AT_C03 41u /* byte: register C03 */
+#define RAFTERSHIM_AT_C04 42u /* byte: register C04 */
+#define RAFTERSHIM_AT_C05 43u /* byte: register C05 */
+#define RAFTERSHIM_AT_HOLDING 44u /* flag: we hold the line off */
+#define RAFTERSHIM_AT_FORBIDDEN 45u /* flag: the other end forbids our sending */
+#define RAFTERSHIM_AT_STOP_SENT_LAST 46u /* flag: stop was the last of go and stop that we sent */
+#define RAFTERSHIM_AT_SEEN_BREAK 47u /* flag: status bit 4 */
+#define RAFTERSHIM_AT_SEEN_OVERRUN 48u /* flag: status bit 5: a byte was lost */
+#define RAFTERSHIM_AT_SEEN_KEY 49u /* flag: status bit 7 */
+#define RAFTERSHIM_AT_AGAIN_BREAK 50u /* flag: a break since the last status byte was sent */
+#define RAFTERSHIM_AT_AGAIN_OVERRUN 51u /* flag: a loss since then */
+#define RAFTERSHIM_AT_AGAIN_KEY 52u /* flag: a key press since then */
+#define RAFTERSHIM_AT_REQUEST 53u /* flag: a service request has begun and not ended */
+#define RAFTERSHIM_AT_REMOTE_ENABLED 54u /* flag: remote is enabled */
+#define RAFTERSHIM_AT_REMOTE 55u /* flag: we are remote */
+
+/* The talker phases. */
+#define RAFTERSHIM_TALKER_NOT 0u
+#define RAFTERSHIM_TALKER_ADDRESSED 1u
+#define RAFTERSHIM_TALKER_DATA 2u
+#define RAFTERSHIM_TALKER_STATUS 3u
+
+/* Reads a field of two or of four bytes at its place. */
+#define RAFTERSHIM_TWO(block, at) ((uint32_t)(block)[at] | (uint32_t)(block)[(at) + 1u] << 8)
+#define RAFTERSHIM_FOUR(block, at) (RAFTERSHIM_TWO(block, at) | RAFTERSHIM_TWO(block, (at) + 2u) << 16)
+
+/*
+ * The three counts since create or reset, which start again at 0 after 4294967295: bytes stored in the receive store, bytes lost because
+ * it was full, and data frames sent from it. A byte is missing somewhere if lost has changed; no status byte clears it.
+ */
+#define RAFTERSHIM_STORED(block) RAFTERSHIM_FOUR(block, RAFTERSHIM_AT_STORED)
+#define RAFTERSHIM_LOST(block) RAFTERSHIM_FOUR(block, RAFTERSHIM_AT_LOST)
+#define RAFTERSHIM_SENT(block) RAFTERSHIM_FOUR(block, RAFTERSHIM_AT_SENT)
+
+/* How many bytes each store holds. */
+#define RAFTERSHIM_RECEIVE_HELD(block) RAFTERSHIM_TWO(block, RAFTERSHIM_AT_RECEIVE_HELD)
+#define RAFTERSHIM_TRANSMIT_HELD(block) RAFTERSHIM_TWO(block, RAFTERSHIM_AT_TRANSMIT_HELD)
+
+/* The bits of the status byte. */
+#define RAFTERSHIM_STATUS_TRANSMIT_EMPTY 1u
+#define RAFTERSHIM_STATUS_TRANSMIT_NOT_FULL 2u
+#define RAFTERSHIM_STATUS_RECEIVE_NOT_EMPTY 4u
+#define RAFTERSHIM_STATUS_RECEIVE_FULL 8u
+#define RAFTERSHIM_STATUS_BREAK 16u
+#define RAFTERSHIM_STATUS_OVERRUN 32u
+#define RAFTERSHIM_STATUS_SERVICE 64u
+#define RAFTERSHIM_STATUS_KEY 128u
+
+/* The status byte that the block would send now. Reading it here sends nothing, ends no request and clears no bit. */
+static inline uint32_t raftershim_status(const uint8_t *block) {
+    uint32_t rx = RAFTERSHIM_RECEIVE_HELD(block), tx = RAFTERSHIM_TRANSMIT_HELD(block);
+    return (tx == 0u ? RAFTERSHIM_STATUS_TRANSMIT_EMPTY : 0u) |
+           (tx != RAFTERSHIM_TWO(block, RAFTERSHIM_AT_TRANSMIT_LEN) ? RAFTERSHIM_STATUS_TRANSMIT_NOT_FULL : 0u) |
+           (rx != 0u ? RAFTERSHIM_STATUS_RECEIVE_NOT_EMPTY : 0u) |
+           (rx == RAFTERSHIM_TWO(block, RAFTERSHIM_AT_RECEIVE_LEN) ? RAFTERSHIM_STATUS_RECEIVE_FULL : 0u) |
+           (block[RAFTERSHIM_AT_SEEN_BREAK] ? RAFTERSHIM_STATUS_BREAK : 0u) |
+           (block[RAFTERSHIM_AT_SEEN_OVERRUN] ? RAFTERSHIM_STATUS_OVERRUN : 0u) |
+           (block[RAFTERSHIM_AT_REQUEST] && (block[RAFTERSHIM_AT_R00] & 8u) ? RAFTERSHIM_STATUS_SERVICE : 0u) |
+           (block[RAFTERSHIM_AT_SEEN_KEY] ? RAFTERSHIM_STATUS_KEY : 0u);
+}
+
 /* The length in bytes that every block has. Takes nothing, answers the length, and is never refused. */
-size_t raftershim_block_len(void);
+uint64_t raftershim_block_len(void);
 
 /*
  * Makes a state in the block for stores of these lengths, with this margin; what the block held does not matter. Neither store is
@@ -67,14 +164,14 @@ size_t raftershim_block_len(void);
  * Refusal 1: the margin is not 1 to 1024, the receive store has not 2 * margin + 2 to 32768 bytes, the transmit store has not 3 to
  * 32768 bytes, or the block has not raftershim_block_len() bytes.
  */
-uint64_t raftershim_create(uint8_t *block, size_t block_len, const uint8_t *rx, size_t rx_len, const uint8_t *tx, size_t tx_len,
-                           uint32_t margin);
+uint64_t raftershim_create(uint8_t *block, uint64_t block_len, const uint8_t *rx, uint64_t rx_len, const uint8_t *tx,
+                           uint64_t tx_len, uint32_t margin);
 
 /*
  * Gives the block what create gives for the same sizes and margin. Neither store is written. Answers done.
  * Refusal 2: the block is not a state that fits the stores.
  */
-uint64_t raftershim_reset(uint8_t *block, size_t block_len, const uint8_t *rx, size_t rx_len, const uint8_t *tx, size_t tx_len);
+uint64_t raftershim_reset(uint8_t *block, uint64_t block_len, const uint8_t *rx, uint64_t rx_len, const uint8_t *tx, uint64_t tx_len);
 
 /*
  * Writes a register: numbers 0 to 12 are R00 to R12, 16 to 21 are C00 to C05. Neither store is written. Answers done.
@@ -82,15 +179,15 @@ uint64_t raftershim_reset(uint8_t *block, size_t block_len, const uint8_t *rx, s
  * a control register, or above 255 for a character. Refusal 7: the value has a control bit that is not carried. Refusal 8: the go and
  * stop characters would be equal.
  */
-uint64_t raftershim_write_register(uint8_t *block, size_t block_len, const uint8_t *rx, size_t rx_len, const uint8_t *tx,
-                                   size_t tx_len, uint32_t number, uint32_t value);
+uint64_t raftershim_write_register(uint8_t *block, uint64_t block_len, const uint8_t *rx, uint64_t rx_len, const uint8_t *tx,
+                                   uint64_t tx_len, uint32_t number, uint32_t value);
 
 /*
  * Takes a byte from the line: go and stop permit or forbid our sending while the protocol is on, any other byte is stored in the
  * receive store, or lost if that is full. Answers done.
  * Refusal 2: the block is not a state that fits the stores.
  */
-uint64_t raftershim_line_byte(uint8_t *block, size_t block_len, uint8_t *rx, size_t rx_len, const uint8_t *tx, size_t tx_len,
+uint64_t raftershim_line_byte(uint8_t *block, uint64_t block_len, uint8_t *rx, uint64_t rx_len, const uint8_t *tx, uint64_t tx_len,
                               uint8_t byte);
 
 /*
@@ -98,28 +195,28 @@ uint64_t raftershim_line_byte(uint8_t *block, size_t block_len, uint8_t *rx, siz
  * it would change no caller.
  * Refusal 2: the block is not a state that fits the stores.
  */
-uint64_t raftershim_break(uint8_t *block, size_t block_len, uint8_t *rx, size_t rx_len, const uint8_t *tx, size_t tx_len);
+uint64_t raftershim_break(uint8_t *block, uint64_t block_len, uint8_t *rx, uint64_t rx_len, const uint8_t *tx, uint64_t tx_len);
 
 /*
  * Takes a press of the MSRQ key. Answers done.
  * Refusal 2: the block is not a state that fits the stores.
  */
-uint64_t raftershim_key(uint8_t *block, size_t block_len, const uint8_t *rx, size_t rx_len, const uint8_t *tx, size_t tx_len);
+uint64_t raftershim_key(uint8_t *block, uint64_t block_len, const uint8_t *rx, uint64_t rx_len, const uint8_t *tx, uint64_t tx_len);
 
 /*
  * Gives the next line byte: our own go or stop if one is owed, else the oldest byte of the transmit store. Answers that line byte, or
  * none.
  * Refusal 2: the block is not a state that fits the stores.
  */
-uint64_t raftershim_next_line_byte(uint8_t *block, size_t block_len, const uint8_t *rx, size_t rx_len, const uint8_t *tx,
-                                   size_t tx_len);
+uint64_t raftershim_next_line_byte(uint8_t *block, uint64_t block_len, const uint8_t *rx, uint64_t rx_len, const uint8_t *tx,
+                                   uint64_t tx_len);
 
 /*
  * Takes a frame from the loop. Answers the one frame that goes on.
  * Refusal 2: the block is not a state that fits the stores. Refusal 3: the frame is above 2047. Refusal 4: busy, offer the frame again
  * when the line has taken bytes.
  */
-uint64_t raftershim_loop_frame(uint8_t *block, size_t block_len, const uint8_t *rx, size_t rx_len, uint8_t *tx, size_t tx_len,
+uint64_t raftershim_loop_frame(uint8_t *block, uint64_t block_len, const uint8_t *rx, uint64_t rx_len, uint8_t *tx, uint64_t tx_len,
                                uint32_t frame);
 
 /*
@@ -127,7 +224,7 @@ uint64_t raftershim_loop_frame(uint8_t *block, size_t block_len, const uint8_t *
  * bytes from the oldest one is: in bits 32 to 63 the place in that store where it starts, in bits 0 to 31 its length. The answer is 0,
  * an empty part, if nothing is held, the block is not a state that fits the stores, or the side is neither. It is never refused.
  */
-uint64_t raftershim_show(const uint8_t *block, size_t block_len, const uint8_t *rx, size_t rx_len, const uint8_t *tx, size_t tx_len,
+uint64_t raftershim_show(const uint8_t *block, uint64_t block_len, const uint8_t *rx, uint64_t rx_len, const uint8_t *tx, uint64_t tx_len,
                          uint32_t side);
 
 #ifdef __cplusplus

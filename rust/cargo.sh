@@ -1,29 +1,37 @@
 #!/bin/sh
-# Runs cargo for x86-64, which the archive is for, with the words given: sh rust/cargo.sh test --manifest-path rust/raftershim/Cargo.toml
-# On another processor Debian's compiler, its standard library for x86-64, a cross linker and an emulator stand in.
-# What is missing is installed; the crates of the tests come from Debian's packages, so nothing is fetched from a registry of crates.
+# Runs cargo for another target than this machine's: sh rust/cargo.sh TRIPLE WORDS..., as in sh rust/cargo.sh x86_64-unknown-linux-gnu test
+# Programs of this machine's own target need none of this: plain cargo does. For another, Debian's compiler and its standard library for
+# that target, a cross linker and an emulator stand in; what is missing is installed, after a line that says so.
 set -eu
-top=$(cd "$(dirname "$0")/.." && pwd)
-registry=/usr/share/cargo/registry
-install() { { apt-get update -qq && apt-get install -y -qq --no-install-recommends "$@"; } > /dev/null; }
-have() { command -v "$1" > /dev/null 2>&1; }
+here=$(pwd)
+cd "$(dirname "$0")/.."
+. archives/tools.sh
+triple=${1?'the first word is the target'}
+shift
+if [ "$triple" = "$own" ]; then cd "$here" && exec cargo "$@"; fi
 
-[ -d "$registry/proptest-1.0.0" ] && [ -d "$registry/lazy_static-1.4.0" ] || install librust-proptest-dev librust-proptest+std-dev
-[ -f "$top/target/staticlib/libraftershim.a" ] || (cd "$top" && rt staticlib raftershim > /dev/null)
-export CARGO_TARGET_DIR="$top/target/rust" CARGO_NET_OFFLINE=true
-set -- --config 'source.crates-io.replace-with="debian"' --config "source.debian.directory=\"$registry\"" "$@"
-if [ "$(uname -m)" = x86_64 ]; then
-    have cargo || install cargo
-    exec cargo "$@"
+# A chip has no system: its programs are linked with a C library and run on the emulated board.
+if [ "$triple" = thumbv6m-none-eabi ]; then
+    . tests/board/build.sh
+    RUSTFLAGS="--sysroot $(sh rust/core.sh "$triple") -C linker=$(pwd)/tests/board/link.sh -C linker-flavor=gcc -C default-linker-libraries=yes"
+    export RUSTFLAGS RUSTC=/usr/bin/rustc CARGO_BUILD_TARGET="$triple" CARGO_NET_OFFLINE=true
+    export CARGO_TARGET_THUMBV6M_NONE_EABI_RUNNER="sh $(pwd)/tests/board/emulate.sh"
+    cd "$here" && exec /usr/bin/cargo "$@"
 fi
 
-standard=/usr/lib/rustlib/x86_64-unknown-linux-gnu
-if ! { [ -x /usr/bin/cargo ] && [ -d "$standard/lib" ] && have x86_64-linux-gnu-gcc && have qemu-x86_64-static; }; then
-    dpkg --add-architecture amd64
-    install rustc cargo libstd-rust-dev:amd64 gcc-x86-64-linux-gnu libc6-dev-amd64-cross qemu-user-static
+for_target "$triple"
+case $triple in
+    x86_64-*) debian=amd64 ;;
+    aarch64-*) debian=arm64 ;;
+    *) debian=armhf ;;
+esac
+if ! { [ -x /usr/bin/cargo ] && [ -d "/usr/lib/rustlib/$triple/lib" ]; }; then
+    dpkg --add-architecture "$debian"
+    install rustc cargo "libstd-rust-dev:$debian"
 fi
+name=$(echo "$triple" | tr 'a-z-' 'A-Z_')
+export "CARGO_TARGET_${name}_LINKER=${prefix}gcc" "CARGO_TARGET_${name}_RUNNER=$emulator"
 # RUSTC_BOOTSTRAP lets this cargo run the examples of the documentation for another processor than its own
-export RUSTC=/usr/bin/rustc RUSTDOC=/usr/bin/rustdoc RUSTC_BOOTSTRAP=1 CARGO_BUILD_TARGET=x86_64-unknown-linux-gnu
-export CARGO_TARGET_X86_64_UNKNOWN_LINUX_GNU_LINKER=x86_64-linux-gnu-gcc
-export CARGO_TARGET_X86_64_UNKNOWN_LINUX_GNU_RUNNER=qemu-x86_64-static
+export RUSTC=/usr/bin/rustc RUSTDOC=/usr/bin/rustdoc RUSTC_BOOTSTRAP=1 CARGO_BUILD_TARGET="$triple" CARGO_NET_OFFLINE=true
+cd "$here"
 exec /usr/bin/cargo -Z doctest-xcompile "$@"

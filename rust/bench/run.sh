@@ -1,48 +1,48 @@
 #!/bin/sh
-# Counts the instructions of the archive beside the plain model on three works, and prints Markdown: sh rust/bench/run.sh [--limit 1.5]
-# Fails if the two sides ever answer otherwise or leave other bytes, and with a limit if the archive takes more than that many times
-# the model's instructions on any work.
+# Counts the instructions of the archive beside the plain model and beside a peer written for speed, on three works, and prints Markdown:
+# sh rust/bench/run.sh [--target TRIPLE] [--limit 1.5]   (without a target: this machine's own)
+# Fails if a side ever answers otherwise or leaves other bytes, and with a limit if the archive takes more than that many times the
+# model's instructions on any work.
 set -eu
 cd "$(dirname "$0")/../.."
+. archives/tools.sh
 here=rust/bench
 work=target/bench
-archive=target/staticlib/libraftershim.a
 works='meter print status'
 stores='64 1024 32768'
 # The rounds of the two counts whose difference is taken, with as many digits each: they take the same to read. With a store of 64 the
 # places come round several times in between.
 few=10
 many=30
-# The rounds in which the two sides are held together.
+# The rounds in which the sides are held together.
 held=100
 
-install() { { apt-get update -qq && apt-get install -y -qq --no-install-recommends "$@"; } > /dev/null; }
-have() { command -v "$1" > /dev/null 2>&1; }
-
 limit=0
+triple=$own
 while [ $# -gt 0 ]; do
     case "$1 ${2-}" in
-        '--limit '[0-9]*) limit=$2; shift 2 ;;
-        *) echo 'run.sh: words: [--limit RATIO]' >&2; exit 2 ;;
+        '--limit '[0-9]*) limit=$2 ;;
+        '--target '?*) triple=$2 ;;
+        *) echo 'run.sh: words: [--target TRIPLE] [--limit RATIO]' >&2; exit 2 ;;
     esac
+    shift 2
 done
 
-sh rust/cargo.sh build --release --quiet --manifest-path "$here/Cargo.toml"
-if [ "$(uname -m)" = x86_64 ]; then
-    have valgrind || install valgrind
-    have size || install binutils
+for_target "$triple"
+need llvm llvm-size
+need valgrind valgrind
+sh rust/cargo.sh "$triple" build --release --quiet -p raftershim-bench
+if [ "$triple" = "$own" ]; then
     bench=target/rust/release/bench
-    emulator=
-    size=size
     tool=callgrind
 else
-    bench=target/rust/x86_64-unknown-linux-gnu/release/bench
-    emulator=qemu-x86_64-static
-    size=x86_64-linux-gnu-size
+    bench=target/rust/$triple/release/bench
     tool='the emulator'
+    # The emulator is slow: the smallest and the largest store tell.
+    stores='64 32768'
 fi
 
-# Holds the two sides together call by call, for every work and store.
+# Holds the sides together call by call, for every work and store.
 compare() {
     for job in $works; do
         for store in $stores; do
@@ -55,9 +55,10 @@ compare() {
 counts() {
     for job in $works; do
         for store in $stores; do
-            for side in archive model idle; do
+            for side in archive model peer idle; do
                 for rounds in $few $many; do
-                    line=$(sh "$here/count.sh" "$bench" "$side" "$job" "$store" "$rounds")
+                    # shellcheck disable=SC2086 # no word where there is no emulator
+                    line=$(sh "$here/count.sh" $emulator "$bench" "$side" "$job" "$store" "$rounds")
                     echo "$job $store $side $rounds $line"
                 done
             done
@@ -68,12 +69,12 @@ counts() {
 mkdir -p "$work"
 compare
 counts > "$work/counts"
-echo "Instructions, counted by $tool, of archive and model behind the same block boundary. The loop that calls them is not counted. Bytes"
-echo 'are those handed out on the other side, for status the polls. The margin is an eighth of the store, at most 1024.'
+echo "Instructions on $triple, counted by $tool, of archive, model and peer behind the same block boundary. The loop that calls them is"
+echo 'not counted. Bytes are those handed out on the other side, for status the polls. The margin is an eighth of the store, at most 1024.'
 echo
 status=0
 awk -v limit="$limit" -v smallest="${stores%% *}" -v largest="${stores##* }" -f "$here/table.awk" "$work/counts" || status=1
-text=$("$size" -A "$archive" | awk '$1 ~ /^\.text/ { sum += $2 } END { print sum + 0; exit !sum }')
+text=$(llvm-size -A "$(archive_of "$triple")" | awk '$1 ~ /^\.text/ { sum += $2 } END { print sum + 0; exit !sum }')
 echo "- Code of the archive: $text bytes."
 for side in archive model; do
     deepest=$($emulator "$bench" stack "$side")

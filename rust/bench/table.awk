@@ -29,18 +29,22 @@ function cost(work, store, side) {
     return (between(instructions, work, store, side) - between(instructions, work, store, "idle")) / between(rounds, work, store, side)
 }
 
-function same(work, store, which) {
-    return checksum[work, store, "archive", which] == checksum[work, store, "model", which]
+# Whether a side answered as the archive did.
+function same(work, store, side) {
+    return checksum[work, store, "archive", "few"] == checksum[work, store, side, "few"] && \
+        checksum[work, store, "archive", "many"] == checksum[work, store, side, "many"]
 }
 
-function row(work, store,    n, c, b, a, m) {
+function row(work, store,    n, c, b, a, m, p) {
     n = between(rounds, work, store, "archive")
     c = calls[work, store]
     b = bytes[work, store]
     a = cost(work, store, "archive")
     m = cost(work, store, "model")
-    printf "| %s | %d | %d | %d | %.1f | %.1f | %.2f | %.1f | %.1f |\n", work, store, n * c, n * b, a / c, m / c, a / m, a / b, m / b
-    if (!same(work, store, "few") || !same(work, store, "many")) fail(work, store, "the answers differ")
+    p = cost(work, store, "peer")
+    printf "| %s | %d | %d | %d | %.1f | %.1f | %.2f | %.1f | %.2f | %.1f |\n", \
+        work, store, n * c, n * b, a / c, m / c, a / m, p / c, a / p, a / b
+    if (!same(work, store, "model") || !same(work, store, "peer")) fail(work, store, "the answers differ")
     if (limit > 0 && a > limit * m) fail(work, store, "the ratio is above " limit)
 }
 
@@ -50,15 +54,15 @@ function growth(work, side) {
 }
 
 END {
-    print "| Work | Store | Calls | Bytes | Archive per call | Model per call | Ratio | Archive per byte | Model per byte |"
-    print "|---|---|---|---|---|---|---|---|---|"
+    print "| Work | Store | Calls | Bytes | Archive per call | Model per call | Ratio to model | Peer per call | Ratio to peer | Archive per byte |"
+    print "|---|---|---|---|---|---|---|---|---|---|"
     for (i = 1; i <= rows; i++) {
         split(order[i], place, " ")
         row(place[1], place[2])
     }
     print ""
     for (i = 1; i <= jobs; i++)
-        printf "- Growth from store %d to store %d, %s: archive %.2f %%, model %.2f %%.\n", smallest, largest, works[i], \
-            growth(works[i], "archive"), growth(works[i], "model")
+        printf "- Growth from store %d to store %d, %s: archive %.2f %%, model %.2f %%, peer %.2f %%.\n", smallest, largest, works[i], \
+            growth(works[i], "archive"), growth(works[i], "model"), growth(works[i], "peer")
     exit failed
 }

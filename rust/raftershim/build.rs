@@ -1,4 +1,5 @@
-//! Finds the archive of the bridge, links it, and tells the crate whether `core` has `Error`.
+//! Finds or makes the archive of the bridge for the target that is built, links it, and tells the
+//! crate whether `core` has `Error`.
 
 use std::env;
 use std::path::{Path, PathBuf};
@@ -7,8 +8,11 @@ use std::process::{exit, Command};
 const ARCHIVE: &str = "libraftershim.a";
 
 fn main() {
-    check_target();
-    link(&archive_dir());
+    println!("cargo:rerun-if-env-changed=RAFTERSHIM_ARCHIVE_DIR");
+    link(&match env::var_os("RAFTERSHIM_ARCHIVE_DIR") {
+        Some(dir) => PathBuf::from(dir),
+        None => made(),
+    });
     probe_core_error();
 }
 
@@ -22,28 +26,27 @@ fn variable(name: &str) -> String {
     env::var(name).unwrap_or_default()
 }
 
-/// The archive is machine code: a build for another target would fail later and less plainly.
-fn check_target() {
-    let arch = variable("CARGO_CFG_TARGET_ARCH");
-    let os = variable("CARGO_CFG_TARGET_OS");
-    let width = variable("CARGO_CFG_TARGET_POINTER_WIDTH");
-    if (arch.as_str(), os.as_str(), width.as_str()) != ("x86_64", "linux", "64") {
-        stop(&format!(
-            "The archive {ARCHIVE} that the command `rt staticlib raftershim` makes is for x86-64 \
-             Linux, and this build is for {arch} {os}: build with --target \
-             x86_64-unknown-linux-gnu, or with `sh rust/cargo.sh` of the repository in the place of \
-             cargo."
-        ));
+/// The folder of the repository's archive for this target, which is made if it is missing.
+fn made() -> PathBuf {
+    let (top, target) = (
+        variable("CARGO_MANIFEST_DIR") + "/../..",
+        variable("TARGET"),
+    );
+    let dir = Path::new(&top).join("target/staticlib").join(&target);
+    if !dir.join(ARCHIVE).is_file() {
+        let script = format!("{top}/archives/make.sh");
+        let ended = Command::new("sh").args([&script, &target]).output();
+        let ended = ended.unwrap_or_else(|_| stop("The command sh is missing."));
+        if !ended.status.success() {
+            let said = String::from_utf8_lossy(&ended.stderr);
+            stop(&format!(
+                "There is no archive for {target}, and `sh archives/make.sh {target}` of the \
+                 repository made none. It said:\n{said}Make it where the Rattle toolchain is, and \
+                 name its folder in RAFTERSHIM_ARCHIVE_DIR."
+            ));
+        }
     }
-}
-
-/// The folder of the archive: the one the user names, else the one `rt staticlib` writes to.
-fn archive_dir() -> PathBuf {
-    println!("cargo:rerun-if-env-changed=RAFTERSHIM_ARCHIVE_DIR");
-    match env::var_os("RAFTERSHIM_ARCHIVE_DIR") {
-        Some(dir) => PathBuf::from(dir),
-        None => Path::new(&variable("CARGO_MANIFEST_DIR")).join("../../target/staticlib"),
-    }
+    dir
 }
 
 fn link(dir: &Path) {
@@ -53,8 +56,7 @@ fn link(dir: &Path) {
     let dir = match dir.canonicalize() {
         Ok(dir) if archive.is_file() => dir,
         _ => stop(&format!(
-            "The archive {} is missing: make it with the command `rt staticlib raftershim`, \
-             or name its folder in RAFTERSHIM_ARCHIVE_DIR.",
+            "The archive {} is missing: RAFTERSHIM_ARCHIVE_DIR names the folder where it is.",
             archive.display()
         )),
     };

@@ -4,12 +4,15 @@
 
 #include "raftershim.h"
 
-#define BLOCK 56
+#define BLOCK ((int)RAFTERSHIM_BLOCK_LEN)
+/* The longest store. A board with little memory runs the small form, with 64: all but what only the largest stores can show. */
+#ifndef MOST
 #define MOST 32768
+#endif
 
 static uint8_t block[BLOCK + 1], rx[MOST + 1], tx[MOST + 1];
 static uint8_t block_was[BLOCK + 1], rx_was[MOST + 1], tx_was[MOST + 1];
-static size_t block_len = BLOCK, rx_len, tx_len;
+static uint64_t block_len = BLOCK, rx_len, tx_len;
 static int compared, differ;
 
 static void expect(int line, uint64_t got, uint64_t wanted) {
@@ -48,7 +51,7 @@ static uint64_t changed(void) {
 #define R rx, rx_len
 #define T tx, tx_len
 
-static uint64_t create(size_t r, size_t t, uint32_t margin) {
+static uint64_t create(uint64_t r, uint64_t t, uint32_t margin) {
     rx_len = r;
     tx_len = t;
     return raftershim_create(B, R, T, margin);
@@ -70,23 +73,28 @@ static void reserved(void) {
     IS(RAFTERSHIM_VALUE(~0ull << 24 | BYTE(50)), 50);
 }
 
+/* the sizes that only the longest stores have */
+static void large_sizes(void) {
+    REFUSED(1, create(MOST, 3, 1025));
+    REFUSED(1, create(MOST + 1, 3, 1));
+    REFUSED(1, create(MOST, MOST + 1, 1));
+    IS(create(MOST, MOST, 1024), DONE);
+    IS(create(2050, 3, 1024), DONE);
+}
+
 /* "Sizes and refusals": refusal 1 */
 static void sizes(void) {
     IS(raftershim_block_len(), BLOCK);
     REFUSED(1, create(7, 3, 3));
     REFUSED(1, create(8, 2, 3));
     REFUSED(1, create(8, 3, 0));
-    REFUSED(1, create(MOST, 3, 1025));
-    REFUSED(1, create(MOST + 1, 3, 1));
-    REFUSED(1, create(MOST, MOST + 1, 1));
     REFUSED(1, create(8, 3, 0xFFFFFFFFu));
+    if (MOST == 32768) large_sizes();
     block_len = BLOCK - 1;
     REFUSED(1, create(8, 3, 3));
     block_len = BLOCK + 1;
     REFUSED(1, create(8, 3, 3));
     block_len = BLOCK;
-    IS(create(MOST, MOST, 1024), DONE);
-    IS(create(2050, 3, 1024), DONE);
     keep();
     IS(create(8, 3, 3), DONE);
     IS(memcmp(rx_was, rx, sizeof rx) | memcmp(tx_was, tx, sizeof tx), 0);
@@ -234,8 +242,10 @@ static void status(void) {
     IS(writes(0, 8), DONE);
     IS(brk(), DONE);
     IS(key(), DONE);
+    IS(raftershim_status(block), 3 + 16 + 64 + 128);
     IS(frame(5, 97), FRAME(1, 3 + 16 + 64 + 128));
     IS(frame(1, 3 + 16 + 64 + 128), FRAME(5, 64));
+    IS(raftershim_status(block), 3);
     IS(frame(5, 97), FRAME(0, 3));
     IS(frame(0, 3), FRAME(5, 64));
     IS(reset(), DONE);
@@ -244,12 +254,45 @@ static void status(void) {
     IS(memcmp(block_was, block, sizeof block), 0);
 }
 
+/* what the header reads from the block, after calls whose counts are known */
+static void fields(void) {
+    IS(create(8, 3, 3), DONE);
+    IS(RAFTERSHIM_STORED(block) | RAFTERSHIM_LOST(block) | RAFTERSHIM_SENT(block), 0);
+    IS(block[RAFTERSHIM_AT_VERSION], RAFTERSHIM_VERSION);
+    IS(RAFTERSHIM_TWO(block, RAFTERSHIM_AT_MARGIN), 3);
+    IS(writes(11, 0), DONE);
+    for (uint8_t b = 1; b <= 10; b++) IS(line(b), DONE);
+    IS(RAFTERSHIM_STORED(block), 8);
+    IS(RAFTERSHIM_LOST(block), 2);
+    IS(RAFTERSHIM_RECEIVE_HELD(block), 8);
+    IS(frame(5, 129), FRAME(5, 130));
+    IS(frame(4, 64 + 1), FRAME(4, 64 + 1));
+    IS(raftershim_status(block), 3 + 4 + 8 + 32);
+    IS(frame(5, 97), FRAME(0, 3 + 4 + 8 + 32));
+    IS(block[RAFTERSHIM_AT_TALKER], 3);
+    IS(frame(0, 3 + 4 + 8 + 32), FRAME(5, 64));
+    IS(block[RAFTERSHIM_AT_SEEN_OVERRUN], 0);
+    IS(frame(5, 96), FRAME(0, 1));
+    IS(RAFTERSHIM_TWO(block, RAFTERSHIM_AT_UNDER_WAY), 1);
+    IS(frame(0, 1), FRAME(0, 2));
+    IS(RAFTERSHIM_SENT(block), 2);
+    IS(RAFTERSHIM_RECEIVE_HELD(block), 6);
+    IS(RAFTERSHIM_TWO(block, RAFTERSHIM_AT_RECEIVE_OLDEST), 2);
+    IS(RAFTERSHIM_LOST(block), 2);
+    IS(frame(4, 32 + 1), FRAME(4, 32 + 1));
+    for (uint32_t d = 1; d <= 3; d++) IS(frame(0, d), FRAME(0, d));
+    IS(RAFTERSHIM_TRANSMIT_HELD(block), 3);
+    IS(raftershim_status(block), 4);
+    for (int i = 0; i < 4; i++) block[RAFTERSHIM_AT_LOST + i] = (uint8_t)(i + 0xF1);
+    IS(RAFTERSHIM_LOST(block), 0xF4F3F2F1u);
+}
+
 /* the paper's run of `onepass` */
 static void onepass(void) {
     static const uint8_t bytes[] = {0x32, 0x2E, 0x35, 0x0D, 0x0A};
     IS(create(64, 64, 8), DONE);
     IS(writes(10, 8), DONE);
-    for (size_t i = 0; i < sizeof bytes; i++) IS(line(bytes[i]), DONE);
+    for (uint64_t i = 0; i < sizeof bytes; i++) IS(line(bytes[i]), DONE);
     IS(frame(5, 129), FRAME(5, 130));
     IS(frame(4, 65), FRAME(4, 65));
     IS(frame(5, 96), FRAME(0, 50));
@@ -267,6 +310,7 @@ int main(void) {
     holding();
     listening();
     status();
+    fields();
     onepass();
     if (differ) {
         printf("%d of %d differ\n", differ, compared);

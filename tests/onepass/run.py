@@ -7,24 +7,20 @@ input is tried too, and must print refused 9 alone.
 import glob
 import os
 import platform
-import shutil
 import subprocess
 import sys
 
 HERE = os.path.dirname(os.path.abspath(__file__))
 PROGRAM = os.path.join(HERE, "..", "..", "target", "bin", "onepass")
 
-LOADER = "/lib64/ld-linux-x86-64.so.2"
 
-
-def emulator():
-    """The program is for x86-64: elsewhere an emulator runs it over Debian's C library for x86-64, installed where they are missing."""
-    if platform.machine() == "x86_64":
-        return []
-    if not shutil.which("qemu-x86_64-static") or not os.path.exists(LOADER):
-        install = "dpkg --add-architecture amd64 && apt-get update -qq && apt-get install -y -qq qemu-user-static libc6:amd64"
-        subprocess.run(install, shell=True, check=True, stdout=subprocess.DEVNULL)
-    return ["qemu-x86_64-static"]
+def runner():
+    """The program is for x86-64: the kit's loader runs it over the kit's C library, on another processor under the kit's emulator."""
+    guide = subprocess.run(["rt", "doc"], check=True, stdout=subprocess.PIPE, encoding="utf-8").stdout
+    tools = os.path.join(guide.split("/docs/")[0], "on", platform.machine(), "toolchain")
+    emulator = os.path.join(tools, "bin", "qemu-x86_64")
+    loader = [os.path.join(tools, "lib", "ld-linux-x86-64.so.2"), "--library-path", os.path.join(tools, "lib")]
+    return [emulator, *loader] if os.path.exists(emulator) else loader
 
 
 def read_hex(path):
@@ -32,7 +28,7 @@ def read_hex(path):
 
 
 def main():
-    command = sys.argv[1:] or emulator() + [PROGRAM]
+    command = sys.argv[1:] or runner() + [PROGRAM]
     cases = []
     for path in sorted(glob.glob(os.path.join(HERE, "*.hex"))):
         wanted = open(path[:-4] + ".out", "rb").read() if os.path.exists(path[:-4] + ".out") else b"no output is stored"

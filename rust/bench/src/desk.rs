@@ -28,9 +28,9 @@ impl Desk {
     /// Makes one call and gives its answer.
     #[inline(always)]
     pub fn call(&mut self, call: Call) -> u64 {
-        let (block, block_len) = (self.block.as_mut_ptr(), self.block.len());
-        let (rx, rx_len) = (self.rx.as_mut_ptr(), self.rx.len());
-        let (tx, tx_len) = (self.tx.as_mut_ptr(), self.tx.len());
+        let (block, block_len) = (self.block.as_mut_ptr(), self.block.len() as u64);
+        let (rx, rx_len) = (self.rx.as_mut_ptr(), self.rx.len() as u64);
+        let (tx, tx_len) = (self.tx.as_mut_ptr(), self.tx.len() as u64);
         macro_rules! lend {
             ($function:ident $(, $number:expr)*) => {
                 (self.side.$function)(block, block_len, rx, rx_len, tx, tx_len $(, $number)*)

@@ -9,11 +9,13 @@ macro_rules! idle {
 }
 
 idle! {
-    create(*mut u8, usize, *const u8, usize, *const u8, usize, u32);
-    alone(*mut u8, usize, *const u8, usize, *const u8, usize);
-    write_register(*mut u8, usize, *const u8, usize, *const u8, usize, u32, u32);
-    line_byte(*mut u8, usize, *mut u8, usize, *const u8, usize, u8);
-    take_break(*mut u8, usize, *mut u8, usize, *const u8, usize);
-    loop_frame(*mut u8, usize, *const u8, usize, *mut u8, usize, u32);
-    show(*const u8, usize, *const u8, usize, *const u8, usize, u32);
+    create(*mut u8, u64, *const u8, u64, *const u8, u64, u32);
+    reset(*mut u8, u64, *const u8, u64, *const u8, u64);
+    key(*mut u8, u64, *const u8, u64, *const u8, u64);
+    next_line_byte(*mut u8, u64, *const u8, u64, *const u8, u64);
+    write_register(*mut u8, u64, *const u8, u64, *const u8, u64, u32, u32);
+    line_byte(*mut u8, u64, *mut u8, u64, *const u8, u64, u8);
+    take_break(*mut u8, u64, *mut u8, u64, *const u8, u64);
+    loop_frame(*mut u8, u64, *const u8, u64, *mut u8, u64, u32);
+    show(*const u8, u64, *const u8, u64, *const u8, u64, u32);
 }

@@ -1,9 +1,10 @@
-//! Three works for counting the instructions of the archive beside the plain model.
+//! Three works for counting the instructions of the archive beside plain Rust.
 //!
-//! `bench SIDE WORK STORE ROUNDS` makes the rounds of a work on one side (archive, model or idle)
-//! and prints the calls and bytes of a round, and the checksum; whoever counts takes the difference
-//! of two numbers of rounds. `bench compare WORK STORE ROUNDS` runs archive and model in step and
-//! fails where they differ. `bench stack SIDE` prints the deepest stack of a call, and the call.
+//! `bench SIDE WORK STORE ROUNDS` makes the rounds of a work on one side (archive, model, peer or
+//! idle) and prints the calls and bytes of a round, and the checksum; whoever counts takes the
+//! difference of two numbers of rounds. `bench compare WORK STORE ROUNDS` runs archive, model and
+//! peer in step and fails where they differ. `bench stack SIDE` prints the deepest stack of a call,
+//! and the call.
 
 mod call;
 mod compared;
@@ -16,7 +17,7 @@ mod side;
 mod stack;
 mod works;
 
-use side::Side;
+use side::{Side, ARCHIVE, MODEL, PEER};
 use std::process::ExitCode;
 use works::Work;
 
@@ -35,7 +36,7 @@ fn answered(words: &[&str]) -> Result<String, String> {
     let (store, rounds) = (number(store)?, number(rounds)?);
     let round = round::written_down(work, store);
     if what == "compare" {
-        let calls = compared::calls(store, &round, rounds)?;
+        let calls = compared::calls([ARCHIVE, MODEL, PEER], store, &round, rounds)?;
         return Ok(format!("{calls} calls compared"));
     }
     let side = Side::named(what).ok_or("no such side")?;

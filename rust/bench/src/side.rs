@@ -1,17 +1,16 @@
-//! A side: the C functions of one bridge, by pointer, so that every side is called by the same code.
+//! A side: the C functions of one bridge, by pointer: every side is called by the same code.
 
-use crate::{idle, plain};
 use raftershim::raw;
 
 /// A call that takes the block and the stores alone: reset, key and next line byte.
-type Alone = unsafe extern "C" fn(*mut u8, usize, *const u8, usize, *const u8, usize) -> u64;
-type Break = unsafe extern "C" fn(*mut u8, usize, *mut u8, usize, *const u8, usize) -> u64;
-type Create = unsafe extern "C" fn(*mut u8, usize, *const u8, usize, *const u8, usize, u32) -> u64;
+type Alone = unsafe extern "C" fn(*mut u8, u64, *const u8, u64, *const u8, u64) -> u64;
+type Break = unsafe extern "C" fn(*mut u8, u64, *mut u8, u64, *const u8, u64) -> u64;
+type Create = unsafe extern "C" fn(*mut u8, u64, *const u8, u64, *const u8, u64, u32) -> u64;
 type WriteRegister =
-    unsafe extern "C" fn(*mut u8, usize, *const u8, usize, *const u8, usize, u32, u32) -> u64;
-type LineByte = unsafe extern "C" fn(*mut u8, usize, *mut u8, usize, *const u8, usize, u8) -> u64;
-type LoopFrame = unsafe extern "C" fn(*mut u8, usize, *const u8, usize, *mut u8, usize, u32) -> u64;
-type Show = unsafe extern "C" fn(*const u8, usize, *const u8, usize, *const u8, usize, u32) -> u64;
+    unsafe extern "C" fn(*mut u8, u64, *const u8, u64, *const u8, u64, u32, u32) -> u64;
+type LineByte = unsafe extern "C" fn(*mut u8, u64, *mut u8, u64, *const u8, u64, u8) -> u64;
+type LoopFrame = unsafe extern "C" fn(*mut u8, u64, *const u8, u64, *mut u8, u64, u32) -> u64;
+type Show = unsafe extern "C" fn(*const u8, u64, *const u8, u64, *const u8, u64, u32) -> u64;
 
 /// The nine C functions that take a block.
 #[derive(Clone, Copy)]
@@ -40,31 +39,32 @@ pub static ARCHIVE: Side = Side {
     show: raw::raftershim_show,
 };
 
-/// The plain model.
-pub static MODEL: Side = Side {
-    create: plain::create,
-    reset: plain::reset,
-    write_register: plain::write_register,
-    line_byte: plain::line_byte,
-    take_break: plain::take_break,
-    key: plain::key,
-    next_line_byte: plain::next_line_byte,
-    loop_frame: plain::loop_frame,
-    show: plain::show,
-};
+/// The functions of a bridge in plain Rust.
+macro_rules! side {
+    ($functions:path) => {{
+        use $functions as functions;
+        Side {
+            create: functions::create,
+            reset: functions::reset,
+            write_register: functions::write_register,
+            line_byte: functions::line_byte,
+            take_break: functions::take_break,
+            key: functions::key,
+            next_line_byte: functions::next_line_byte,
+            loop_frame: functions::loop_frame,
+            show: functions::show,
+        }
+    }};
+}
+
+/// The model, which is written to be read.
+pub static MODEL: Side = side!(crate::plain::model);
+
+/// The peer, which is written for speed.
+pub static PEER: Side = side!(crate::plain::peer);
 
 /// Functions that answer at once: what is counted with them is the work's own loop.
-pub static IDLE: Side = Side {
-    create: idle::create,
-    reset: idle::alone,
-    write_register: idle::write_register,
-    line_byte: idle::line_byte,
-    take_break: idle::take_break,
-    key: idle::alone,
-    next_line_byte: idle::alone,
-    loop_frame: idle::loop_frame,
-    show: idle::show,
-};
+pub static IDLE: Side = side!(crate::idle);
 
 impl Side {
     /// The side of this name, read so that no compiler knows which functions will be called.
@@ -72,6 +72,7 @@ impl Side {
         let side = match name {
             "archive" => &ARCHIVE,
             "model" => &MODEL,
+            "peer" => &PEER,
             "idle" => &IDLE,
             _ => return None,
         };

@@ -1,6 +1,5 @@
 //! Answers written by hand, and answers in words.
 
-use crate::call::Parts;
 use model::boundary::{self, kind, value};
 
 pub const DONE: u64 = boundary::DONE << 16;
@@ -28,7 +27,7 @@ pub fn in_words(answer: u64) -> String {
         (0, boundary::DONE) if value == 0 => "done".into(),
         (0, boundary::NONE) if value == 0 => "none".into(),
         (0, boundary::BYTE) => format!("byte {value}"),
-        (0, boundary::FRAME) => format!("frame {}", Parts(value as u32)),
+        (0, boundary::FRAME) => format!("frame {}", script::FrameName(value as u32)),
         (0, boundary::REFUSED) => format!("refused {value}"),
         _ => format!("{answer:#x}"),
     }

@@ -7,14 +7,14 @@ use raftershim::raw;
 /// The length of a block as the archive tells it.
 pub fn block_len() -> usize {
     // Safety: takes nothing.
-    unsafe { raw::raftershim_block_len() }
+    unsafe { raw::raftershim_block_len() as usize }
 }
 
 /// Creates a state in the block.
 pub fn create(lent: Lent, margin: u32) -> u64 {
     let Lent { block, rx, tx } = lent;
-    let (b, bl) = (block.as_mut_ptr(), block.len());
-    let (r, rl, t, tl) = (rx.as_ptr(), rx.len(), tx.as_ptr(), tx.len());
+    let (b, bl) = (block.as_mut_ptr(), block.len() as u64);
+    let (r, rl, t, tl) = (rx.as_ptr(), rx.len() as u64, tx.as_ptr(), tx.len() as u64);
     // Safety: three slices, so no pointer is null, each is good for its length, none overlap.
     unsafe { raw::raftershim_create(b, bl, r, rl, t, tl, margin) }
 }
@@ -22,8 +22,9 @@ pub fn create(lent: Lent, margin: u32) -> u64 {
 /// Makes a call.
 pub fn call(lent: Lent, call: Call) -> u64 {
     let Lent { block, rx, tx } = lent;
-    let (b, bl) = (block.as_mut_ptr(), block.len());
-    let (r, rl, t, tl) = (rx.as_mut_ptr(), rx.len(), tx.as_mut_ptr(), tx.len());
+    let (b, bl) = (block.as_mut_ptr(), block.len() as u64);
+    let (r, rl) = (rx.as_mut_ptr(), rx.len() as u64);
+    let (t, tl) = (tx.as_mut_ptr(), tx.len() as u64);
     // Safety: three slices, so no pointer is null, each is good for its length, none overlap.
     unsafe {
         match call {

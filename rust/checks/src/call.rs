@@ -1,4 +1,4 @@
-//! The calls, and how one is written as a line of a replay script.
+//! The calls by the numbers that the C functions take, and what a script has for them.
 
 use std::fmt;
 
@@ -22,44 +22,49 @@ pub const fn frame(control: u32, data: u32) -> Call {
     Call::Frame(control << 8 | data)
 }
 
+impl Call {
+    /// The call of a script; a script has none for a side that is neither.
+    pub fn in_script(self) -> Option<script::Call> {
+        Some(match self {
+            Call::Next => script::Call::Next,
+            Call::Line(byte) => script::Call::Line(vec![byte]),
+            Call::Frame(frame) => script::Call::Frame(frame),
+            Call::Break => script::Call::Break,
+            Call::Key => script::Call::Key,
+            Call::Register(number, value) => script::Call::Register { number, value },
+            Call::Reset => script::Call::Reset,
+            Call::Show(0) => script::Call::Show(script::Side::Receive),
+            Call::Show(1) => script::Call::Show(script::Side::Transmit),
+            Call::Show(_) => return None,
+        })
+    }
+
+    /// The calls on a state that a call of a script stands for: one for each line byte, and none
+    /// for what makes the state and for saying it.
+    pub fn all_of(call: &script::Call) -> Vec<Call> {
+        vec![match *call {
+            script::Call::Create { .. } | script::Call::Restore(_) | script::Call::State => {
+                return Vec::new()
+            }
+            script::Call::Line(ref bytes) => {
+                return bytes.iter().copied().map(Call::Line).collect()
+            }
+            script::Call::Next => Call::Next,
+            script::Call::Frame(frame) => Call::Frame(frame),
+            script::Call::Break => Call::Break,
+            script::Call::Key => Call::Key,
+            script::Call::Register { number, value } => Call::Register(number, value),
+            script::Call::Reset => Call::Reset,
+            script::Call::Show(side) => Call::Show(side as u32),
+        }]
+    }
+}
+
 impl fmt::Display for Call {
     fn fmt(&self, f: &mut fmt::Formatter) -> fmt::Result {
-        match *self {
-            Call::Next => write!(f, "next"),
-            Call::Line(byte) => write!(f, "line {byte}"),
-            Call::Frame(frame) => write!(f, "frame {}", Parts(frame)),
-            Call::Break => write!(f, "break"),
-            Call::Key => write!(f, "key"),
-            Call::Register(number, value) => write!(f, "register {} {value}", Name(number)),
-            Call::Reset => write!(f, "reset"),
-            Call::Show(0) => write!(f, "show receive"),
-            Call::Show(1) => write!(f, "show transmit"),
-            Call::Show(side) => write!(f, "show {side}"),
-        }
-    }
-}
-
-/// A frame as control and data, or as a plain number where it is no frame.
-pub struct Parts(pub u32);
-
-impl fmt::Display for Parts {
-    fn fmt(&self, f: &mut fmt::Formatter) -> fmt::Result {
-        match self.0 {
-            frame @ 0..=2047 => write!(f, "{},{}", frame >> 8, frame & 255),
-            number => write!(f, "{number}"),
-        }
-    }
-}
-
-/// A register by its name, or by its number where it is not carried.
-struct Name(u32);
-
-impl fmt::Display for Name {
-    fn fmt(&self, f: &mut fmt::Formatter) -> fmt::Result {
-        match self.0 {
-            number @ (0..=2 | 10..=11) => write!(f, "R{number:02}"),
-            number @ 16..=21 => write!(f, "C{:02}", number - 16),
-            number => write!(f, "{number}"),
+        match self.in_script() {
+            Some(call) => write!(f, "{call}"),
+            None => write!(f, "# no script has the call {self:?}"),
         }
     }
 }

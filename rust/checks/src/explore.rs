@@ -2,14 +2,15 @@
 
 use crate::answer::in_words;
 use crate::call::Call;
+use crate::implementation::Implementation;
 use crate::lent::Lent;
 use crate::seen::{seen, Seen};
 use crate::watch::Watch;
-use crate::{archive, second};
+use crate::written::{told, Written};
 use model::boundary::{kind, value, REFUSED};
 use model::{block, Bridge};
 use std::collections::{HashSet, VecDeque};
-use std::fmt::{self, Write};
+use std::fmt;
 
 /// A call, or a frame that depends on the one under way.
 #[derive(Clone, Copy, Debug)]
@@ -21,6 +22,8 @@ pub enum Letter {
 
 /// What to explore.
 pub struct Plan<'a> {
+    /// The two that are compared.
+    pub both: [Implementation; 2],
     pub rx_len: usize,
     pub tx_len: usize,
     pub margin: u32,
@@ -69,8 +72,8 @@ struct Search<'a> {
     found: Found,
 }
 
-/// Explores by a plan; a difference or a broken demand ends with the script that leads to it.
-pub fn explore(plan: &Plan) -> Found {
+/// Explores by a plan. A difference or a broken demand is told with the shortest script to it.
+pub fn explore(plan: &Plan) -> Result<Found, String> {
     let first = plan.first();
     let mut search = Search {
         plan,
@@ -84,36 +87,36 @@ pub fn explore(plan: &Plan) -> Found {
             search.queue.push_front((node, number));
             break;
         }
-        search.take_up(&node, number);
+        search.take_up(&node, number)?;
     }
     search.found.states = search.known.len();
     search.found.complete = search.queue.is_empty();
-    search.found
+    Ok(search.found)
 }
 
 impl Search<'_> {
     /// Makes every call of the alphabet on a state.
-    fn take_up(&mut self, node: &Node, number: usize) {
+    fn take_up(&mut self, node: &Node, number: usize) -> Result<(), String> {
         let before = state(&node.bytes);
         for letter in self.plan.letters {
             let call = match *letter {
                 Letter::Make(call) => call,
                 Letter::Back(change) => Call::Frame((before.under_way ^ change).into()),
             };
-            let (next, answer, event) = match self.plan.step(node, &before, call) {
-                Ok(step) => step,
-                Err(finding) => panic!("{finding}:\n{}", self.script(number, call)),
-            };
+            let step = self.plan.step(node, &before, call);
+            let (next, answer, event) =
+                step.map_err(|finding| told(&finding, &self.script(number, call)))?;
             self.found.note(call, answer, event);
             if self.known.insert(next) {
                 self.queue.push_back((next, self.paths.len()));
                 self.paths.push((number, call));
             }
         }
+        Ok(())
     }
 
-    /// The replay script that leads to a state, and then this call.
-    fn script(&self, mut number: usize, last: Call) -> String {
+    /// The script that leads to a state, and then this call.
+    fn script(&self, mut number: usize, last: Call) -> Written {
         let mut calls = vec![last];
         while number != 0 {
             calls.push(self.paths[number].1);
@@ -121,10 +124,8 @@ impl Search<'_> {
         }
         calls.extend(self.plan.start.iter().rev());
         let plan = self.plan;
-        let mut script = format!("create {} {} {}\n", plan.rx_len, plan.tx_len, plan.margin);
-        for call in calls.iter().rev() {
-            let _ = writeln!(script, "{call}");
-        }
+        let mut script = Written::created(plan.rx_len, plan.tx_len, plan.margin);
+        calls.iter().rev().for_each(|&call| script.add(call));
         script
     }
 }
@@ -134,8 +135,9 @@ impl Plan<'_> {
     fn first(&self) -> Node {
         let mut bytes = [0; ROOM];
         let mut same = bytes;
-        let created = archive::create(self.lend(&mut bytes), self.margin);
-        assert_eq!(created, second::create(self.lend(&mut same), self.margin));
+        let [ours, theirs] = self.both;
+        let created = (ours.create)(self.lend(&mut bytes), self.margin);
+        assert_eq!(created, (theirs.create)(self.lend(&mut same), self.margin));
         assert!(created == 0 && bytes == same, "create: {created:#x}");
         let watch = Watch::starting(&state(&bytes));
         let mut node = Node { bytes, watch };
@@ -156,18 +158,20 @@ impl Plan<'_> {
         Lent { block, rx, tx }
     }
 
-    /// One transition: archive and model compared, then the archive held to the history.
+    /// One transition: both compared, then what they did held to the history.
     fn step(&self, node: &Node, before: &Bridge, call: Call) -> Result<(Node, u64, Seen), String> {
         let (mut next, mut same) = (*node, node.bytes);
-        let answer = archive::call(self.lend(&mut next.bytes), call);
-        let second = second::call(self.lend(&mut same), call);
+        let [ours, theirs] = self.both;
+        let answer = (ours.call)(self.lend(&mut next.bytes), call);
+        let second = (theirs.call)(self.lend(&mut same), call);
+        let (one, other) = (ours.name, theirs.name);
         if answer != second {
             let (ours, theirs) = (in_words(answer), in_words(second));
-            return Err(format!("archive {ours}, model {theirs}"));
+            return Err(format!("{one} {ours}, {other} {theirs}"));
         }
         if let Some(place) = (0..ROOM).find(|&i| next.bytes[i] != same[i]) {
             let (ours, theirs) = (next.bytes[place], same[place]);
-            return Err(format!("place {place}: archive {ours}, model {theirs}"));
+            return Err(format!("place {place}: {one} {ours}, {other} {theirs}"));
         }
         let shows = matches!(call, Call::Show(_));
         if (shows || kind(answer) == REFUSED) && next.bytes != node.bytes {

@@ -1,25 +1,3 @@
 //! The model behind the same boundary: the second opinion.
 
-use crate::call::Call;
-use crate::lent::Lent;
-use model::boundary;
-
-/// Creates a state in the block.
-pub fn create(lent: Lent, margin: u32) -> u64 {
-    boundary::create(lent.block, lent.rx, lent.tx, margin)
-}
-
-/// Makes a call.
-pub fn call(lent: Lent, call: Call) -> u64 {
-    let Lent { block, rx, tx } = lent;
-    match call {
-        Call::Next => boundary::next_line_byte(block, rx, tx),
-        Call::Line(byte) => boundary::line_byte(block, rx, tx, byte),
-        Call::Frame(frame) => boundary::loop_frame(block, rx, tx, frame),
-        Call::Break => boundary::line_break(block, rx, tx),
-        Call::Key => boundary::key(block, rx, tx),
-        Call::Register(number, value) => boundary::write_register(block, rx, tx, number, value),
-        Call::Reset => boundary::reset(block, rx, tx),
-        Call::Show(side) => boundary::show(block, rx, tx, side),
-    }
-}
+behind!(model::boundary);

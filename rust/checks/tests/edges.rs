@@ -1,12 +1,12 @@
 //! Numbers, lengths and blocks at their edges and beyond, one by one. What is refused is written
 //! from the paper, and the model is asked too.
 
-use checks::answer::{framed, refused, DONE};
-use checks::archive;
-use checks::call::{frame, Call};
-use checks::pair::Pair;
 use model::block::{LEN, VERSION};
 use model::boundary::{kind, value, REFUSED};
+use raftershim_checks::answer::{framed, refused, DONE};
+use raftershim_checks::archive;
+use raftershim_checks::call::{frame, Call};
+use raftershim_checks::pair::Pair;
 
 /// Makes a call of which only the comparison with the model counts.
 fn ask(pair: &mut Pair, call: Call) -> u64 {

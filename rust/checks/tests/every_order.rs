@@ -6,8 +6,13 @@
 //! transition answer, block and both stores are compared, and demand 3 is held by a history that
 //! is carried beside the bridge.
 
-use checks::call::{frame, Call};
-use checks::explore::{explore, Found, Letter, Plan};
+use raftershim_checks::call::{frame, Call};
+use raftershim_checks::explore::{explore, Found, Letter, Plan};
+use raftershim_checks::implementation::{BOTH, MODEL};
+use raftershim_checks::planted;
+use raftershim_checks::played::play;
+use raftershim_checks::written::script_in;
+use script::Script;
 use Call::{Break, Frame, Key, Line, Next, Register, Reset, Show};
 use Letter::{Back, Make};
 
@@ -43,13 +48,15 @@ fn first_states() -> usize {
 fn run(name: &str, receive: (usize, u32), start: &[Call], calls: &[Call], limit: usize) -> Found {
     let letters: Vec<Letter> = calls.iter().copied().map(Make).chain(RETURNS).collect();
     let found = explore(&Plan {
+        both: BOTH,
         rx_len: receive.0,
         tx_len: 3,
         margin: receive.1,
         start,
         letters: &letters,
         limit,
-    });
+    })
+    .unwrap_or_else(|told| panic!("{name}: {told}"));
     let (states, transitions) = (found.states, found.transitions);
     let reached = if found.complete { "all" } else { "first" };
     println!("every order, {name}: {reached} {states} states, {transitions} transitions compared");
@@ -274,4 +281,24 @@ fn all_together() {
     let calls = [&line[..], &roles, &frames, &writes, &more].concat();
     let found = run("all together", (6, 2), &[], &calls, first_states());
     assert!(found.sent > 0 && found.added > 0 && found.status_back > 0);
+}
+
+#[test]
+fn a_planted_fault_is_found_by_the_shortest_way() {
+    let calls = [Line(50), Line(51), SEND, Next, Key];
+    let told = explore(&Plan {
+        both: [planted::SILENT_LOSS, MODEL],
+        rx_len: 4,
+        tx_len: 3,
+        margin: 1,
+        start: &[ASSIGN, TALK],
+        letters: &calls.map(Make),
+        limit: EVERY_STATE,
+    });
+    let told = told.err().expect("it is found");
+    let script: Script = script_in(&told).expect("a script").parse().expect("sound");
+    // Create, address, talk, the bytes that fill the store and the one that is lost.
+    assert_eq!(script.steps.len(), 3 + 4 + 1, "{told}");
+    assert!(play([planted::SILENT_LOSS, MODEL], &script).is_err());
+    assert!(play(BOTH, &script).is_ok());
 }

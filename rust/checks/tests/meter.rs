@@ -1,10 +1,10 @@
 //! The meter of last spring: a full receive buffer swallowed the point of "2.5", and a user heard
 //! 25 volts. Here the app asks for the status before it speaks, and the overrun bit keeps it quiet.
 
-use checks::answer::{framed, DONE};
-use checks::call::{frame, Call};
-use checks::pair::Pair;
 use model::boundary::value;
+use raftershim_checks::answer::{framed, DONE};
+use raftershim_checks::call::{frame, Call};
+use raftershim_checks::pair::Pair;
 
 /// Status bit 5.
 const OVERRUN: u64 = 1 << 5;

@@ -2,9 +2,9 @@
 //! line cut between its two characters, damage on the loop while the status byte is under way, and
 //! every order of meter bytes, loop frames and key presses. Answers are written from the paper.
 
-use checks::answer::{byte, framed, refused, DONE, NONE};
-use checks::call::{frame, Call};
-use checks::pair::Pair;
+use raftershim_checks::answer::{byte, framed, refused, DONE, NONE};
+use raftershim_checks::call::{frame, Call};
+use raftershim_checks::pair::Pair;
 use Call::{Key, Line, Next, Register};
 
 const SEND: Call = frame(5, 96);

@@ -1,6 +1,6 @@
 //! The paper's examples, its list of slips and the whole-run demands, as calls on the model.
 
-use model::{Answer, Bridge, ACTIVE_DATA, ACTIVE_STATUS, IDLE, SERVICE, UNASSIGNED};
+use raftershim_model::{Answer, Bridge, ACTIVE_DATA, ACTIVE_STATUS, IDLE, SERVICE, UNASSIGNED};
 use Answer::{Byte, Done, Frame, NoByte, Refused};
 
 /// A bridge together with its two stores.

@@ -2,19 +2,25 @@
 
 use core::fmt;
 
-use crate::{frame, Refusal};
+use crate::{Frame, Refusal};
 
-/// What a call answers when it is not refused. It displays as a short plain text.
+/// What a call answers when it is not refused, whichever call it is. It displays as a short plain
+/// text.
+///
+/// The calls of a [`Bridge`](crate::Bridge) say more by their types: a frame, a line byte or none,
+/// what became of a byte, or nothing. Each of these becomes an answer where calls of all kinds are
+/// told in one way.
 ///
 /// ```
-/// use raftershim::Answer;
+/// use raftershim::{Answer, Frame};
 ///
 /// assert_eq!(Answer::Done.to_string(), "done");
 /// assert_eq!(Answer::None.to_string(), "no line byte");
-/// assert_eq!(Answer::Byte(50).to_string(), "line byte 50");
-/// assert_eq!(Answer::Frame(1376).to_string(), "frame 5,96");
+/// assert_eq!(Answer::from(Some(50)).to_string(), "line byte 50");
+/// assert_eq!(Answer::from(Frame::SEND_DATA).to_string(), "frame 5,96");
 /// ```
-#[derive(Clone, Copy, Debug, PartialEq, Eq)]
+#[derive(Clone, Copy, Debug, PartialEq, Eq, Hash)]
+#[non_exhaustive]
 pub enum Answer {
     /// The call is done and has nothing to hand out.
     Done,
@@ -22,11 +28,11 @@ pub enum Answer {
     None,
     /// The line byte that the call gives.
     Byte(u8),
-    /// The frame that goes on along the loop: control times 256 plus data.
-    Frame(u16),
+    /// The frame that goes on along the loop.
+    Frame(Frame),
 }
 
-/// What every call gives: an answer, or the refusal in its place.
+/// An answer, or the refusal in its place.
 ///
 /// ```
 /// use raftershim::{Answer, Answered, Refusal};
@@ -35,7 +41,7 @@ pub enum Answer {
 ///     answered.map_or_else(|refusal| refusal.to_string(), |answer| answer.to_string())
 /// }
 /// assert_eq!(spoken(Ok(Answer::Done)), "done");
-/// assert!(spoken(Err(Refusal::Busy)).starts_with("refusal 4: busy"));
+/// assert!(spoken(Err(Refusal::BUSY)).starts_with("refusal 4: busy"));
 /// ```
 pub type Answered = Result<Answer, Refusal>;
 
@@ -43,68 +49,111 @@ impl Answer {
     /// Reads the word of 64 bits that a C function answered.
     ///
     /// Bits 24 to 63 are reserved and do not count. A word whose other bits the header does not
-    /// describe is read as [`Refusal::Other`] with the number 0, which no refusal has. The archive
-    /// never gives such a word.
+    /// describe is read as a refusal with the number 0, which no refusal has. The archive never
+    /// gives such a word.
     ///
     /// ```
     /// use raftershim::{Answer, Refusal};
     ///
     /// assert_eq!(Answer::of(0x2_0032), Ok(Answer::Byte(50)));
-    /// assert_eq!(Answer::of(0x4_0004), Err(Refusal::Busy));
-    /// assert_eq!(Answer::of(0x9_0000), Err(Refusal::Other(0)));
+    /// assert_eq!(Answer::of(0x4_0004), Err(Refusal::BUSY));
+    /// assert_eq!(Answer::of(0x9_0000), Err(Refusal::of(0)));
     /// ```
-    pub const fn of(word: u64) -> Answered {
+    pub fn of(word: u64) -> Answered {
         // The bits above the kind are reserved: 0 for now, and not looked at.
         let kind = word >> 16 & 0xFF;
-        let value = (word & 0xFFFF) as u16;
-        match (kind, value) {
-            (0, 0) => Ok(Answer::Done),
-            (1, 0) => Ok(Answer::None),
-            (2, 0..=255) => Ok(Answer::Byte(value as u8)),
-            (3, 0..=2047) => Ok(Answer::Frame(value)),
-            (4, _) => Err(Refusal::of(value)),
-            _ => Err(Refusal::Other(0)),
+        let [high, low] = ((word & 0xFFFF) as u16).to_be_bytes();
+        match (kind, high, low) {
+            (0, 0, 0) => Ok(Answer::Done),
+            (1, 0, 0) => Ok(Answer::None),
+            (2, 0, byte) => Ok(Answer::Byte(byte)),
+            (3, control, data) => Frame::new(control, data)
+                .map(Answer::Frame)
+                .map_err(|_| Refusal::UNDESCRIBED),
+            (4, _, _) => Err(Refusal::of(u16::from_be_bytes([high, low]))),
+            _ => Err(Refusal::UNDESCRIBED),
         }
     }
+}
 
-    /// The line byte, if the answer is one.
-    ///
-    /// ```
-    /// use raftershim::Answer;
-    ///
-    /// assert_eq!(Answer::Byte(50).byte(), Some(50));
-    /// assert_eq!(Answer::None.byte(), None);
-    /// ```
-    pub const fn byte(self) -> Option<u8> {
-        match self {
-            Answer::Byte(byte) => Some(byte),
-            _ => None,
-        }
+impl From<()> for Answer {
+    fn from((): ()) -> Answer {
+        Answer::Done
     }
+}
 
-    /// The frame, if the answer is one.
-    ///
-    /// ```
-    /// use raftershim::Answer;
-    ///
-    /// assert_eq!(Answer::Frame(1376).frame(), Some(1376));
-    /// assert_eq!(Answer::Done.frame(), None);
-    /// ```
-    pub const fn frame(self) -> Option<u16> {
-        match self {
-            Answer::Frame(frame) => Some(frame),
-            _ => None,
-        }
+impl From<LineByte> for Answer {
+    fn from(_: LineByte) -> Answer {
+        Answer::Done
+    }
+}
+
+impl From<Option<u8>> for Answer {
+    fn from(byte: Option<u8>) -> Answer {
+        byte.map_or(Answer::None, Answer::Byte)
+    }
+}
+
+impl From<Frame> for Answer {
+    fn from(frame: Frame) -> Answer {
+        Answer::Frame(frame)
     }
 }
 
 impl fmt::Display for Answer {
     fn fmt(&self, f: &mut fmt::Formatter<'_>) -> fmt::Result {
-        match *self {
+        match self {
             Answer::Done => f.write_str("done"),
             Answer::None => f.write_str("no line byte"),
             Answer::Byte(byte) => write!(f, "line byte {byte}"),
-            Answer::Frame(out) => write!(f, "frame {},{}", frame::control(out), frame::data(out)),
+            Answer::Frame(frame) => write!(f, "frame {frame}"),
         }
+    }
+}
+
+/// What became of a byte from the line.
+///
+/// ```
+/// use raftershim::{Bridge, LineByte, Stores};
+///
+/// let mut bridge = Bridge::create(Stores { receive: [0; 4], transmit: [0; 3] }, 1)?;
+/// for byte in *b"1234" {
+///     assert_eq!(bridge.line_byte(byte)?, LineByte::Stored);
+/// }
+/// assert_eq!(bridge.line_byte(b'5')?, LineByte::Lost);
+/// assert_eq!(bridge.line_byte(19)?, LineByte::Stop);
+/// # Ok::<(), raftershim::Refusal>(())
+/// ```
+///
+/// The compiler warns a caller that does not look:
+///
+/// ```compile_fail
+/// #![deny(unused_must_use)]
+/// # use raftershim::{Bridge, Stores};
+/// # let mut bridge = Bridge::create(Stores { receive: [0; 4], transmit: [0; 3] }, 1).unwrap();
+/// bridge.line_byte(b'5').unwrap();
+/// ```
+#[derive(Clone, Copy, Debug, PartialEq, Eq, Hash)]
+#[must_use = "a lost byte may be the point of a number: a reading with a gap must not be spoken"]
+#[non_exhaustive]
+pub enum LineByte {
+    /// It is in the receive store.
+    Stored,
+    /// It is lost, because the receive store is full. The overrun bit is set.
+    Lost,
+    /// It was the go character, and permits our sending.
+    Go,
+    /// It was the stop character, and forbids our sending.
+    Stop,
+}
+
+impl fmt::Display for LineByte {
+    fn fmt(&self, f: &mut fmt::Formatter<'_>) -> fmt::Result {
+        f.write_str(match self {
+            LineByte::Stored => "stored",
+            LineByte::Lost => "lost",
+            LineByte::Go => "taken as go",
+            LineByte::Stop => "taken as stop",
+        })
     }
 }

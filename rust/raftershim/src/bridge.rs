@@ -1,27 +1,83 @@
 //! The bridge: its block, its two stores and its calls.
 
-use crate::{raw, Answer, Answered, Refusal, Side, State, BLOCK_LEN};
+use core::fmt;
 
-/// A bridge with its block and its two stores.
+use crate::{
+    raw, Answer, Answered, BadSize, Frame, LineByte, Refusal, Register, Saved, Side, State,
+    BLOCK_LEN,
+};
+
+/// The two stores of a bridge, by name so that they cannot be exchanged unseen.
 ///
-/// Each store is an array, a vector, a borrowed slice, or anything else that lends its bytes. The
-/// margin is 1 to 1024, the receive store has twice the margin plus 2 to 32768 bytes, and the
-/// transmit store has 3 to 32768 bytes.
+/// Each is an array, a vector, a borrowed slice, or anything else that lends its bytes, the same
+/// ones at every call.
 ///
 /// ```
-/// use raftershim::Bridge;
+/// use raftershim::{Bridge, Stores};
 ///
 /// let mut transmit = vec![0; 100];
-/// let mut bridge = Bridge::create([0; 64], transmit.as_mut_slice(), 8)?;
-/// bridge.line_byte(50)?;
-/// assert_eq!(bridge.state().stored, 1);
+/// let stores = Stores { receive: [0; 64], transmit: transmit.as_mut_slice() };
+/// assert!(Bridge::create(stores, 8).is_ok());
+/// ```
+#[derive(Clone, Copy, Default, PartialEq, Eq, Hash)]
+pub struct Stores<R, T> {
+    /// The receive store, line to loop: twice the margin plus 2 to 32768 bytes.
+    pub receive: R,
+    /// The transmit store, loop to line: 3 to 32768 bytes.
+    pub transmit: T,
+}
+
+/// A bridge with its state and its two stores. All calls of the C functions are here, safe and by
+/// their types. To read a meter, take a [`Meter`](crate::Meter), which also says whether a byte is
+/// missing in a reading.
+///
+/// ```
+/// use raftershim::{Bridge, LineByte, Stores};
+///
+/// let mut bridge = Bridge::create(Stores { receive: [0; 64], transmit: [0; 64] }, 8)?;
+/// assert_eq!(bridge.line_byte(50)?, LineByte::Stored);
+/// assert_eq!(bridge.state()?.stored, 1);
 /// # Ok::<(), raftershim::Refusal>(())
 /// ```
-#[derive(Clone, Debug, PartialEq, Eq)]
+#[derive(Clone, PartialEq, Eq, Hash)]
 pub struct Bridge<R, T> {
     block: [u8; BLOCK_LEN],
-    receive: R,
-    transmit: T,
+    stores: Stores<R, T>,
+}
+
+/// Lends the three buffers of a bridge to one C function, and gives the word that it answers.
+///
+/// The buffers are lent by `as_mut_ptr`, or by `as_ptr` to a function that writes none of them; a
+/// function that writes a buffer does not take a pointer of the second kind.
+macro_rules! lend {
+    ($pointer:ident, $block:expr, $receive:expr, $transmit:expr, $function:ident $(, $argument:expr)*) => {{
+        let (block, rx, tx) = ($block, $receive, $transmit);
+        // SAFETY: the three are borrowed slices, and the borrows hold at once and until the call
+        // is over, whatever the types of the stores do. So each pointer is good for its length.
+        // Where they are exclusive borrows, the three do not overlap, and nobody else uses them
+        // meanwhile. Where they are shared, nothing is written, so it does no harm if they do.
+        unsafe {
+            raw::$function(
+                block.$pointer(), block.len() as _,
+                rx.$pointer(), rx.len() as _,
+                tx.$pointer(), tx.len() as _
+                $(, $argument)*
+            )
+        }
+    }};
+}
+
+/// Makes a call that may write, and reads its answer.
+macro_rules! call {
+    ($bridge:expr, $function:ident $(, $argument:expr)*) => {
+        Answer::of(lend!(
+            as_mut_ptr,
+            &mut $bridge.block,
+            $bridge.stores.receive.as_mut(),
+            $bridge.stores.transmit.as_mut(),
+            $function $(, $argument)*
+        ))
+    };
 }
 
 impl<R, T> Bridge<R, T>
@@ -29,336 +85,370 @@ where
     R: AsRef<[u8]> + AsMut<[u8]>,
     T: AsRef<[u8]> + AsMut<[u8]>,
 {
-    /// Creates a bridge on these stores, with this margin. It writes neither store.
+    /// Creates a bridge on these stores, with this margin, which is 1 to 1024. It writes neither
+    /// store.
     ///
     /// # Errors
     ///
-    /// Refusal 1 if a size is broken.
+    /// Refusal 1, with the size that is broken and its limits. Stores that were handed over by
+    /// value are dropped then.
     ///
     /// ```
-    /// use raftershim::{Bridge, Refusal};
+    /// use raftershim::{Bridge, Size, Stores};
     ///
-    /// assert!(Bridge::create([0; 8], [0; 3], 3).is_ok());
-    /// assert_eq!(Bridge::create([0; 7], [0; 3], 3), Err(Refusal::Sizes));
+    /// assert!(Bridge::create(Stores { receive: [0; 8], transmit: [0; 3] }, 3).is_ok());
+    /// let bad = Bridge::create(Stores { receive: [0; 8], transmit: [0; 2] }, 3).unwrap_err();
+    /// assert_eq!(bad.which, Size::Transmit);
     /// ```
-    pub fn create(receive: R, transmit: T, margin: u32) -> Result<Bridge<R, T>, Refusal> {
-        let mut bridge = Bridge::from_parts([0; BLOCK_LEN], receive, transmit);
-        bridge.lend(|block, block_len, rx, rx_len, tx, tx_len| {
-            // SAFETY: `lend` gives three separate buffers that are good for their lengths.
-            unsafe { raw::raftershim_create(block, block_len, rx, rx_len, tx, tx_len, margin) }
-        })?;
-        Ok(bridge)
-    }
-
-    /// Puts a saved bridge together again. If the block is not a state that fits the stores, every
-    /// call gets refusal 2, and both stores show an empty part.
-    ///
-    /// ```
-    /// use raftershim::{Bridge, Refusal, BLOCK_LEN};
-    ///
-    /// let (block, receive, transmit) = Bridge::create([0; 64], [0; 64], 8)?.into_parts();
-    /// assert!(Bridge::from_parts(block, receive, transmit).key().is_ok());
-    /// let mut damaged = Bridge::from_parts([0; BLOCK_LEN], receive, transmit);
-    /// assert_eq!(damaged.key(), Err(Refusal::Misfit));
-    /// # Ok::<(), Refusal>(())
-    /// ```
-    pub fn from_parts(block: [u8; BLOCK_LEN], receive: R, transmit: T) -> Bridge<R, T> {
-        Bridge {
-            block,
-            receive,
-            transmit,
+    #[must_use = "the bridge is in the answer, or the size that is broken"]
+    pub fn create(stores: Stores<R, T>, margin: u32) -> Result<Bridge<R, T>, BadSize> {
+        let block = [0; BLOCK_LEN];
+        let mut bridge = Bridge { block, stores };
+        match call!(bridge, raftershim_create, margin) {
+            Ok(_) => Ok(bridge),
+            Err(_) => {
+                let (receive, transmit) = (bridge.receive_store(), bridge.transmit_store());
+                Err(BadSize::of(receive.len(), transmit.len(), margin))
+            }
         }
     }
 
-    /// Takes the bridge apart into its block, its receive store and its transmit store, to be
-    /// saved.
+    /// Puts a saved bridge together again.
+    ///
+    /// # Errors
+    ///
+    /// Refusal 2 if what was saved is not a state that fits these stores.
     ///
     /// ```
-    /// use raftershim::Bridge;
+    /// use raftershim::{Bridge, LineByte, Refusal, Stores};
     ///
-    /// let mut bridge = Bridge::create([0; 64], [0; 64], 8)?;
-    /// bridge.line_byte(50)?;
-    /// let (_, receive, _) = bridge.into_parts();
-    /// assert_eq!(receive[0], 50);
-    /// # Ok::<(), raftershim::Refusal>(())
+    /// let bridge = Bridge::create(Stores { receive: [0; 64], transmit: [0; 64] }, 8)?;
+    /// let (saved, stores) = bridge.into_parts();
+    /// let mut again = Bridge::restore(saved, stores)?;
+    /// assert_eq!(again.line_byte(50)?, LineByte::Stored);
+    /// let other = Stores { receive: [0; 65], transmit: [0; 64] };
+    /// assert_eq!(Bridge::restore(saved, other).unwrap_err(), Refusal::MISFIT);
+    /// # Ok::<(), Refusal>(())
     /// ```
-    pub fn into_parts(self) -> ([u8; BLOCK_LEN], R, T) {
-        (self.block, self.receive, self.transmit)
+    #[must_use = "the bridge is in the answer, or the refusal"]
+    pub fn restore(saved: Saved, stores: Stores<R, T>) -> Result<Bridge<R, T>, Refusal> {
+        let block = saved.block();
+        let mut bridge = Bridge { block, stores };
+        // No register has this number, so nothing is written: a bridge that fits is refused by 5,
+        // and one that does not by 2, which is asked first.
+        match call!(bridge, raftershim_write_register, u32::MAX, 0) {
+            Err(Refusal::NOT_CARRIED) => Ok(bridge),
+            Err(refusal) => Err(refusal),
+            Ok(_) => Err(Refusal::UNDESCRIBED),
+        }
     }
 
-    /// The block, which holds the state.
+    /// The state, to be saved together with both stores.
     ///
     /// ```
-    /// use raftershim::{Bridge, State};
+    /// use raftershim::{Bridge, Saved, Stores};
     ///
-    /// let bridge = Bridge::create([0; 64], [0; 64], 8)?;
-    /// assert_eq!(State::of(bridge.block()), bridge.state());
+    /// let bridge = Bridge::create(Stores { receive: [0; 64], transmit: [0; 64] }, 8)?;
+    /// assert_eq!(bridge.saved().version(), Saved::VERSION);
     /// # Ok::<(), raftershim::Refusal>(())
     /// ```
-    pub fn block(&self) -> &[u8; BLOCK_LEN] {
-        &self.block
+    pub fn saved(&self) -> Saved {
+        Saved::of(self.block)
+    }
+
+    /// Takes the bridge apart into its saved state and its stores.
+    ///
+    /// ```
+    /// use raftershim::{Bridge, LineByte, Stores};
+    ///
+    /// let mut bridge = Bridge::create(Stores { receive: [0; 64], transmit: [0; 64] }, 8)?;
+    /// assert_eq!(bridge.line_byte(50)?, LineByte::Stored);
+    /// let (_, stores) = bridge.into_parts();
+    /// assert_eq!(stores.receive[0], 50);
+    /// # Ok::<(), raftershim::Refusal>(())
+    /// ```
+    pub fn into_parts(self) -> (Saved, Stores<R, T>) {
+        (self.saved(), self.stores)
     }
 
     /// The whole receive store, line to loop, with all its places. What it holds is for
     /// [`show`](Bridge::show) to say.
     ///
     /// ```
-    /// use raftershim::Bridge;
+    /// use raftershim::{Bridge, LineByte, Stores};
     ///
-    /// let mut bridge = Bridge::create([7; 4], [0; 3], 1)?;
-    /// bridge.line_byte(50)?;
+    /// let mut bridge = Bridge::create(Stores { receive: [7; 4], transmit: [0; 3] }, 1)?;
+    /// assert_eq!(bridge.line_byte(50)?, LineByte::Stored);
     /// assert_eq!(bridge.receive_store(), [50, 7, 7, 7]);
     /// # Ok::<(), raftershim::Refusal>(())
     /// ```
     pub fn receive_store(&self) -> &[u8] {
-        self.receive.as_ref()
+        self.stores.receive.as_ref()
     }
 
     /// The whole transmit store, loop to line, with all its places. What it holds is for
     /// [`show`](Bridge::show) to say.
     ///
     /// ```
-    /// use raftershim::Bridge;
+    /// use raftershim::{Bridge, Stores};
     ///
-    /// let bridge = Bridge::create([7; 4], [9; 3], 1)?;
+    /// let bridge = Bridge::create(Stores { receive: [7; 4], transmit: [9; 3] }, 1)?;
     /// assert_eq!(bridge.transmit_store(), [9, 9, 9]);
     /// # Ok::<(), raftershim::Refusal>(())
     /// ```
     pub fn transmit_store(&self) -> &[u8] {
-        self.transmit.as_ref()
+        self.stores.transmit.as_ref()
     }
 
     /// What the state says, field by field.
     ///
-    /// ```
-    /// use raftershim::Bridge;
+    /// # Errors
     ///
-    /// let state = Bridge::create([0; 64], [0; 64], 8)?.state();
-    /// assert_eq!((state.address, state.seen_overrun), (31, false));
+    /// Refusal 2 if a store no longer lends the length that it had.
+    ///
+    /// ```
+    /// use raftershim::{Bridge, Stores};
+    ///
+    /// let bridge = Bridge::create(Stores { receive: [0; 64], transmit: [0; 64] }, 8)?;
+    /// let state = bridge.state()?;
+    /// assert_eq!((state.address, state.seen_overrun), (None, false));
     /// # Ok::<(), raftershim::Refusal>(())
     /// ```
-    pub fn state(&self) -> State {
-        State::of(&self.block)
+    pub fn state(&self) -> Result<State, Refusal> {
+        // Only create, restore and the calls write the block, so it is a state that fitted its
+        // stores; what may have changed since is what these lend.
+        let state = State::of(&self.block);
+        let recorded = (state.receive_len, state.transmit_len);
+        let lent = (self.receive_store().len(), self.transmit_store().len());
+        match (recorded.0.into(), recorded.1.into()) == lent {
+            true => Ok(state),
+            false => Err(Refusal::MISFIT),
+        }
+    }
+
+    /// How many bytes more a store can hold.
+    ///
+    /// # Errors
+    ///
+    /// Refusal 2 if a store no longer lends the length that it had.
+    ///
+    /// ```
+    /// use raftershim::{Bridge, LineByte, Side, Stores};
+    ///
+    /// let mut bridge = Bridge::create(Stores { receive: [0; 64], transmit: [0; 64] }, 8)?;
+    /// assert_eq!(bridge.line_byte(50)?, LineByte::Stored);
+    /// assert_eq!((bridge.room(Side::Receive)?, bridge.room(Side::Transmit)?), (63, 64));
+    /// # Ok::<(), raftershim::Refusal>(())
+    /// ```
+    pub fn room(&self, side: Side) -> Result<u16, Refusal> {
+        let state = self.state()?;
+        let (len, held) = match side {
+            Side::Receive => (state.receive_len, state.receive.held),
+            Side::Transmit => (state.transmit_len, state.transmit.held),
+        };
+        Ok(len.saturating_sub(held))
     }
 
     /// Resets the bridge to what create gives for the same sizes and margin. It writes neither
-    /// store, and answers done.
+    /// store. What they held is gone, the registers have their start values, and the three counts
+    /// are 0, also that of the bytes lost.
     ///
     /// # Errors
     ///
-    /// Refusal 2 if the block is not a state that fits the stores.
+    /// Refusal 2 if a store no longer lends the length that it had. The same holds for every call
+    /// below.
     ///
     /// ```
-    /// use raftershim::{Answer, Bridge};
+    /// use raftershim::{Bridge, Stores};
     ///
-    /// let mut bridge = Bridge::create([0; 64], [0; 64], 8)?;
+    /// let mut bridge = Bridge::create(Stores { receive: [0; 64], transmit: [0; 64] }, 8)?;
     /// bridge.key()?;
-    /// assert_eq!(bridge.reset()?, Answer::Done);
-    /// assert!(!bridge.state().seen_key);
+    /// bridge.reset()?;
+    /// assert!(!bridge.state()?.seen_key);
     /// # Ok::<(), raftershim::Refusal>(())
     /// ```
-    pub fn reset(&mut self) -> Answered {
-        self.lend(|block, block_len, rx, rx_len, tx, tx_len| {
-            // SAFETY: `lend` gives three separate buffers that are good for their lengths.
-            unsafe { raw::raftershim_reset(block, block_len, rx, rx_len, tx, tx_len) }
-        })
+    #[must_use = "a refused reset has changed nothing"]
+    pub fn reset(&mut self) -> Result<(), Refusal> {
+        done(call!(self, raftershim_reset))
     }
 
-    /// Writes a register, by a number of [`register`](crate::register). Answers done.
+    /// Writes a register. Its page warns of characters that vanish from the data.
     ///
     /// # Errors
     ///
-    /// Refusal 2 if the block is not a state that fits the stores, 5 if the number is not carried,
-    /// 6 if the value is too large, 7 if it has a control bit that is not carried, and 8 if the go
-    /// and stop characters would be equal.
+    /// Refusal 6 if the value is too large, 7 if it has a control bit that is not carried, 8 if the
+    /// go and stop characters would be equal, and 2.
     ///
     /// ```
-    /// use raftershim::{register, Answer, Bridge, Refusal};
+    /// use raftershim::{Bridge, Refusal, Register, Stores};
     ///
-    /// let mut bridge = Bridge::create([0; 64], [0; 64], 8)?;
-    /// assert_eq!(bridge.write_register(register::R10, 8)?, Answer::Done);
-    /// assert_eq!(bridge.write_register(register::R10, 16), Err(Refusal::ValueTooLarge));
+    /// let mut bridge = Bridge::create(Stores { receive: [0; 64], transmit: [0; 64] }, 8)?;
+    /// bridge.write_register(Register::R10, Register::R10_FIND_LINE_END)?;
+    /// assert_eq!(bridge.write_register(Register::R10, 16), Err(Refusal::VALUE_TOO_LARGE));
+    /// assert_eq!(bridge.write_register(Register::C05, 17), Err(Refusal::GO_IS_STOP));
     /// # Ok::<(), Refusal>(())
     /// ```
-    pub fn write_register(&mut self, number: u32, value: u32) -> Answered {
-        self.lend(|b, b_len, rx, rx_len, tx, tx_len| {
-            // SAFETY: `lend` gives three separate buffers that are good for their lengths.
-            unsafe {
-                raw::raftershim_write_register(b, b_len, rx, rx_len, tx, tx_len, number, value)
-            }
-        })
+    #[must_use = "a refused write has changed nothing"]
+    pub fn write_register(&mut self, register: Register, value: u8) -> Result<(), Refusal> {
+        let (number, value) = (register.number(), u32::from(value));
+        done(call!(self, raftershim_write_register, number, value))
     }
 
-    /// Takes a byte from the line. While the receiver protocol is on, go and stop permit and forbid
-    /// our sending. Any other byte is stored in the receive store, or lost if that is full, which
-    /// sets overrun. Answers done.
+    /// Takes a byte from the line, and gives what became of it. While the receiver protocol is on,
+    /// go and stop permit and forbid our sending. Any other byte is stored in the receive store, or
+    /// lost if that is full, which sets overrun.
     ///
     /// # Errors
     ///
-    /// Refusal 2 if the block is not a state that fits the stores.
+    /// Refusal 2.
     ///
     /// ```
-    /// use raftershim::{Answer, Bridge, Side};
+    /// use raftershim::{Bridge, LineByte, Side, Stores};
     ///
-    /// let mut bridge = Bridge::create([0; 64], [0; 64], 8)?;
-    /// assert_eq!(bridge.line_byte(50)?, Answer::Done);
+    /// let mut bridge = Bridge::create(Stores { receive: [0; 64], transmit: [0; 64] }, 8)?;
+    /// assert_eq!(bridge.line_byte(50)?, LineByte::Stored);
+    /// assert_eq!(bridge.line_byte(17)?, LineByte::Go);
     /// assert_eq!(bridge.show(Side::Receive), [50]);
     /// # Ok::<(), raftershim::Refusal>(())
     /// ```
-    pub fn line_byte(&mut self, byte: u8) -> Answered {
-        self.lend(|block, block_len, rx, rx_len, tx, tx_len| {
-            // SAFETY: `lend` gives three separate buffers that are good for their lengths.
-            unsafe { raw::raftershim_line_byte(block, block_len, rx, rx_len, tx, tx_len, byte) }
+    #[must_use = "whether the byte is lost is in the answer"]
+    pub fn line_byte(&mut self, byte: u8) -> Result<LineByte, Refusal> {
+        let before = State::of(&self.block);
+        done(call!(self, raftershim_line_byte, byte))?;
+        let after = State::of(&self.block);
+        Ok(match byte {
+            _ if after.stored != before.stored => LineByte::Stored,
+            _ if after.lost != before.lost => LineByte::Lost,
+            _ if byte == after.registers.c04 => LineByte::Go,
+            _ => LineByte::Stop,
         })
     }
 
-    /// Takes a break on the line. Answers done.
+    /// Takes a break on the line.
     ///
     /// # Errors
     ///
-    /// Refusal 2 if the block is not a state that fits the stores.
+    /// Refusal 2.
     ///
     /// ```
-    /// use raftershim::{Answer, Bridge};
+    /// use raftershim::{Bridge, Stores};
     ///
-    /// let mut bridge = Bridge::create([0; 64], [0; 64], 8)?;
-    /// assert_eq!(bridge.line_break()?, Answer::Done);
-    /// assert!(bridge.state().seen_break);
+    /// let mut bridge = Bridge::create(Stores { receive: [0; 64], transmit: [0; 64] }, 8)?;
+    /// bridge.line_break()?;
+    /// assert!(bridge.state()?.seen_break);
     /// # Ok::<(), raftershim::Refusal>(())
     /// ```
-    pub fn line_break(&mut self) -> Answered {
-        self.lend(|block, block_len, rx, rx_len, tx, tx_len| {
-            // SAFETY: `lend` gives three separate buffers that are good for their lengths.
-            unsafe { raw::raftershim_break(block, block_len, rx, rx_len, tx, tx_len) }
-        })
+    #[must_use = "a refused break is not noted"]
+    pub fn line_break(&mut self) -> Result<(), Refusal> {
+        done(call!(self, raftershim_break))
     }
 
-    /// Takes a press of the MSRQ key. Answers done.
+    /// Takes a press of the MSRQ key.
     ///
     /// # Errors
     ///
-    /// Refusal 2 if the block is not a state that fits the stores.
+    /// Refusal 2.
     ///
     /// ```
-    /// use raftershim::{Answer, Bridge};
+    /// use raftershim::{Bridge, Stores};
     ///
-    /// let mut bridge = Bridge::create([0; 64], [0; 64], 8)?;
-    /// assert_eq!(bridge.key()?, Answer::Done);
-    /// assert!(bridge.state().seen_key);
+    /// let mut bridge = Bridge::create(Stores { receive: [0; 64], transmit: [0; 64] }, 8)?;
+    /// bridge.key()?;
+    /// assert!(bridge.state()?.seen_key);
     /// # Ok::<(), raftershim::Refusal>(())
     /// ```
-    pub fn key(&mut self) -> Answered {
-        self.lend(|block, block_len, rx, rx_len, tx, tx_len| {
-            // SAFETY: `lend` gives three separate buffers that are good for their lengths.
-            unsafe { raw::raftershim_key(block, block_len, rx, rx_len, tx, tx_len) }
-        })
+    #[must_use = "a refused press is not noted"]
+    pub fn key(&mut self) -> Result<(), Refusal> {
+        done(call!(self, raftershim_key))
     }
 
-    /// Gives the next line byte: our own go or stop if one is owed, else the oldest byte of the
-    /// transmit store. Answers that line byte, or none.
+    /// Gives the next byte for the line, if there is one: our own go or stop if one is owed, else
+    /// the oldest byte of the transmit store.
     ///
     /// # Errors
     ///
-    /// Refusal 2 if the block is not a state that fits the stores.
+    /// Refusal 2.
     ///
     /// ```
-    /// use raftershim::{Answer, Bridge};
+    /// use raftershim::{Bridge, LineByte, Stores};
     ///
-    /// let mut bridge = Bridge::create([0; 4], [0; 3], 1)?;
-    /// assert_eq!(bridge.next_line_byte()?, Answer::None);
+    /// let mut bridge = Bridge::create(Stores { receive: [0; 4], transmit: [0; 3] }, 1)?;
+    /// assert_eq!(bridge.next_line_byte()?, None);
     /// for byte in *b"123" {
-    ///     bridge.line_byte(byte)?;
+    ///     assert_eq!(bridge.line_byte(byte)?, LineByte::Stored);
     /// }
     /// // One place is free, which is the margin, so the bridge owes the line its stop.
-    /// assert_eq!(bridge.next_line_byte()?, Answer::Byte(19));
+    /// assert_eq!(bridge.next_line_byte()?, Some(19));
     /// # Ok::<(), raftershim::Refusal>(())
     /// ```
-    pub fn next_line_byte(&mut self) -> Answered {
-        self.lend(|block, block_len, rx, rx_len, tx, tx_len| {
-            // SAFETY: `lend` gives three separate buffers that are good for their lengths.
-            unsafe { raw::raftershim_next_line_byte(block, block_len, rx, rx_len, tx, tx_len) }
-        })
+    #[must_use = "the byte is taken off, and the line must get it"]
+    pub fn next_line_byte(&mut self) -> Result<Option<u8>, Refusal> {
+        match call!(self, raftershim_next_line_byte)? {
+            Answer::None => Ok(None),
+            Answer::Byte(byte) => Ok(Some(byte)),
+            _ => Err(Refusal::UNDESCRIBED),
+        }
     }
 
-    /// Takes a frame from the loop. Answers the one frame that goes on.
+    /// Takes a frame from the loop, and gives the one frame that goes on.
     ///
     /// # Errors
     ///
-    /// Refusal 2 if the block is not a state that fits the stores, 3 if the frame is above 2047,
-    /// and 4 if the bridge is busy: offer the frame again when the line has taken bytes.
+    /// Refusal 4 if the bridge is busy: offer the frame again when the line has taken bytes. And 2.
     ///
     /// ```
-    /// use raftershim::{frame, Bridge};
+    /// use raftershim::{Address, Bridge, Frame, Stores};
     ///
-    /// let mut bridge = Bridge::create([0; 64], [0; 64], 8)?;
-    /// let answer = bridge.loop_frame(frame::of(5, 158).into())?;
-    /// assert_eq!(answer.frame(), Some(frame::of(5, 159)));
-    /// assert_eq!(bridge.state().address, 30);
+    /// let mut bridge = Bridge::create(Stores { receive: [0; 64], transmit: [0; 64] }, 8)?;
+    /// let out = bridge.loop_frame(Frame::auto_address(Address::FIRST))?;
+    /// assert_eq!(out.to_string(), "5,130");
+    /// assert_eq!(bridge.state()?.address, Some(Address::FIRST));
     /// # Ok::<(), raftershim::Refusal>(())
     /// ```
-    pub fn loop_frame(&mut self, frame: u32) -> Answered {
-        self.lend(|block, block_len, rx, rx_len, tx, tx_len| {
-            // SAFETY: `lend` gives three separate buffers that are good for their lengths.
-            unsafe { raw::raftershim_loop_frame(block, block_len, rx, rx_len, tx, tx_len, frame) }
-        })
+    ///
+    /// A number is no frame, so none that means another one gets in by mistake:
+    ///
+    /// ```compile_fail
+    /// # use raftershim::{Bridge, Stores};
+    /// # let mut bridge = Bridge::create(Stores { receive: [0; 64], transmit: [0; 64] }, 8).unwrap();
+    /// let out = bridge.loop_frame(96);
+    /// ```
+    #[must_use = "the frame that goes on along the loop is in the answer"]
+    pub fn loop_frame(&mut self, frame: Frame) -> Result<Frame, Refusal> {
+        match call!(self, raftershim_loop_frame, frame.into())? {
+            Answer::Frame(out) => Ok(out),
+            _ => Err(Refusal::UNDESCRIBED),
+        }
     }
 
     /// Shows a store: the longest unbroken run of bytes from the oldest one, as a part of the
-    /// store. The part is empty if nothing is held, or if the block is not a state that fits the
-    /// stores.
+    /// store. The part is empty if nothing is held, or if a store no longer lends the length that
+    /// it had.
     ///
     /// ```
-    /// use raftershim::{Bridge, Side};
+    /// use raftershim::{Bridge, LineByte, Side, Stores};
     ///
-    /// let mut bridge = Bridge::create([0; 64], [0; 64], 8)?;
-    /// bridge.line_byte(50)?;
-    /// bridge.line_byte(46)?;
+    /// let mut bridge = Bridge::create(Stores { receive: [0; 64], transmit: [0; 64] }, 8)?;
+    /// assert_eq!(bridge.line_byte(50)?, LineByte::Stored);
+    /// assert_eq!(bridge.line_byte(46)?, LineByte::Stored);
     /// assert_eq!(bridge.show(Side::Receive), [50, 46]);
     /// # Ok::<(), raftershim::Refusal>(())
     /// ```
     pub fn show(&self, side: Side) -> &[u8] {
-        let block = &self.block;
-        let rx = self.receive.as_ref();
-        let tx = self.transmit.as_ref();
-        // SAFETY: the three are borrowed slices, each good for reading its length. Nothing is
-        // written, so neither a second show at the same time nor stores that share bytes do harm.
-        let word = unsafe {
-            raw::raftershim_show(
-                block.as_ptr(),
-                block.len(),
-                rx.as_ptr(),
-                rx.len(),
-                tx.as_ptr(),
-                tx.len(),
-                side as u32,
-            )
-        };
+        let (rx, tx) = (self.receive_store(), self.transmit_store());
+        let word = lend!(as_ptr, &self.block, rx, tx, raftershim_show, side as u32);
         match side {
             Side::Receive => part(rx, word),
             Side::Transmit => part(tx, word),
         }
     }
+}
 
-    /// Lends the three buffers to one C function, and reads the word that it answers.
-    ///
-    /// The buffers come from three exclusive borrows that hold at once and until the call is over.
-    /// So they do not overlap, each is good for reading and writing its length, and nobody else
-    /// uses them meanwhile, whatever the types of the stores do.
-    fn lend(
-        &mut self,
-        call: impl FnOnce(*mut u8, usize, *mut u8, usize, *mut u8, usize) -> u64,
-    ) -> Answered {
-        let block = &mut self.block;
-        let rx = self.receive.as_mut();
-        let tx = self.transmit.as_mut();
-        Answer::of(call(
-            block.as_mut_ptr(),
-            block.len(),
-            rx.as_mut_ptr(),
-            rx.len(),
-            tx.as_mut_ptr(),
-            tx.len(),
-        ))
+/// The answer of a call that gives nothing.
+fn done(answered: Answered) -> Result<(), Refusal> {
+    match answered? {
+        Answer::Done => Ok(()),
+        _ => Err(Refusal::UNDESCRIBED),
     }
 }
 
@@ -368,4 +458,23 @@ fn part(store: &[u8], word: u64) -> &[u8] {
     let length = (word & 0xFFFF_FFFF) as usize;
     let from_start = store.get(start..).unwrap_or_default();
     from_start.get(..length).unwrap_or_default()
+}
+
+impl<R, T> fmt::Debug for Bridge<R, T> {
+    /// What the state says; the stores may be long.
+    fn fmt(&self, f: &mut fmt::Formatter<'_>) -> fmt::Result {
+        f.debug_struct("Bridge")
+            .field("state", &State::of(&self.block))
+            .finish_non_exhaustive()
+    }
+}
+
+impl<R: AsRef<[u8]>, T: AsRef<[u8]>> fmt::Debug for Stores<R, T> {
+    /// The lengths; the stores may be long.
+    fn fmt(&self, f: &mut fmt::Formatter<'_>) -> fmt::Result {
+        f.debug_struct("Stores")
+            .field("receive_len", &self.receive.as_ref().len())
+            .field("transmit_len", &self.transmit.as_ref().len())
+            .finish()
+    }
 }

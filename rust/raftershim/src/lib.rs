@@ -3,68 +3,84 @@
 //! The bridge is one device on the loop. It has a receive store, which takes bytes from the line
 //! to the loop, and a transmit store, which takes bytes from the loop to the line. What every call
 //! answers is proved; the proved code comes as a static archive of C functions, and this crate
-//! calls them. A [`Bridge`] owns its state, the block, and its two stores, so what the header of
-//! the C functions asks of a caller always holds. No call of a [`Bridge`] is unsafe, and none
-//! panics. The C functions themselves are in [`raw`].
+//! calls them. No call is unsafe, and none panics. The C functions themselves are in [`raw`].
 //!
-//! # A reading, from the line to the loop
+//! # Ten readings, and a point that is swallowed
 //!
-//! A meter sends the text 2.5 and a line end. The loop gives the bridge the address 1, makes it
-//! talker and asks for data. Each data frame comes back round the loop and brings the next one,
-//! until the frame 5,64 says that the sending is over.
+//! A [`Meter`] takes what the meter sends and gives its readings one by one. Here the app is late
+//! once: when the point of 2.5 comes, the receive store is full, and the point is lost. That
+//! reading is told as a gap, and the nine others are whole.
 //!
 //! ```
-//! use raftershim::{frame, register, Bridge};
+#![doc = include_str!("../examples/meter.rs")]
+//! ```
 //!
-//! let mut bridge = Bridge::create([0; 64], [0; 64], 8)?;
-//! bridge.write_register(register::R10, 8)?;
-//! let lost_before = bridge.state().lost;
-//! for byte in *b"2.5\r\n" {
-//!     bridge.line_byte(byte)?;
+//! The third line that this prints is `a byte is missing, measure again`. [`Meter`] says exactly
+//! which reading is told as a gap, however readings, losses, status polls, breaks and resets come
+//! about. An app that speaks what is [`Reading::Whole`] and nothing else speaks no wrong number
+//! unwarned, as long as the go and stop characters are none that the meter sends as data: see
+//! [`Register`].
+//!
+//! A meter that heeds stop and go is held off before the store is full: hand it what
+//! [`Meter::next_line_byte`] gives.
+//!
+//! # The same by frames
+//!
+//! This is what [`Meter::reading`] does, and what a controller on a real loop does. The loop gives
+//! the bridge an address, makes it talker and asks for data. Each data frame comes back round the
+//! loop and brings the next one. When the end byte of the reading has come, the controller sends
+//! 5,66, not ready, before it gives the end byte back: so the bridge stops, and says 5,64. Without
+//! 5,66 it would go on with the next reading, and 7 and 2.5 would be read as 72.5.
+//!
+//! ```
+//! use raftershim::{Address, Bridge, Frame, LineByte, Register, Stores};
+//!
+//! let mut bridge = Bridge::create(Stores { receive: [0; 64], transmit: [0; 64] }, 8)?;
+//! bridge.write_register(Register::R10, Register::R10_FIND_LINE_END)?;
+//! for byte in *b"7\r\n2.5\r\n" {
+//!     assert_eq!(bridge.line_byte(byte)?, LineByte::Stored);
 //! }
 //!
-//! bridge.loop_frame(frame::of(5, 129).into())?;
-//! bridge.loop_frame(frame::of(4, 65).into())?;
-//! let mut answer = bridge.loop_frame(frame::of(5, 96).into())?;
-//! let mut reading = Vec::new();
-//! while let Some(sent) = answer.frame().filter(|&sent| frame::control(sent) < 4) {
-//!     reading.push(sent);
-//!     answer = bridge.loop_frame(sent.into())?;
+//! bridge.loop_frame(Frame::auto_address(Address::FIRST))?;
+//! bridge.loop_frame(Frame::talk_address(Address::FIRST))?;
+//! for reading in ["7", "2.5"] {
+//!     let mut text = String::new();
+//!     let mut frame = bridge.loop_frame(Frame::SEND_DATA)?;
+//!     while frame.is_data() {
+//!         text.push(frame.data().into());
+//!         if frame.is_end() {
+//!             bridge.loop_frame(Frame::NOT_READY)?;
+//!         }
+//!         frame = bridge.loop_frame(frame)?;
+//!     }
+//!     assert_eq!((text.as_str(), frame), (reading, Frame::END_OF_TRANSMISSION));
 //! }
-//! assert_eq!(reading, [frame::of(0, 50), frame::of(0, 46), frame::of(2, 53)]);
-//! assert_eq!(answer.to_string(), "frame 5,64");
-//!
-//! // Before the reading is spoken: has its end byte come, and was a byte lost, maybe the point?
-//! let text: String = reading.iter().map(|&sent| char::from(frame::data(sent))).collect();
-//! let ended = matches!(reading.last().map(|&sent| frame::control(sent)), Some(2 | 3));
-//! let lost = bridge.state().lost != lost_before;
-//! assert_eq!((text.as_str(), ended, lost), ("2.5", true, false));
 //! # Ok::<(), raftershim::Refusal>(())
 //! ```
 //!
-//! The loop never clears the count [`State::lost`], so compare it with what it was before the bytes
-//! of the reading came. [`State::seen_overrun`] says the same as bit 5 of the status byte, which the
-//! loop gets with the frame 5,97. That bit is cleared by a reset, by a device clear, and when a
-//! status byte that showed it has come back unchanged and nothing was lost since it was sent: a
-//! caller that also asks for the status would miss the loss.
-//!
 //! # Answers and refusals
 //!
-//! A call gives an [`Answer`], or a [`Refusal`] with its number. A call that is refused leaves the
-//! block and both stores as they were.
+//! Each call says by its type what it gives: [`LineByte`], a line byte or none, a [`Frame`], a
+//! [`Reading`], or nothing. A call that is refused gives a [`Refusal`] with its number, and leaves
+//! the state and both stores as they were.
+//!
+//! Types that may get more cases or fields are marked so that a match needs a last arm for what is
+//! new. What an answer may come to say besides, such as the room left in a store, is told by the
+//! bridge after the call, as [`Bridge::room`] does, so no answer changes its type for it.
 //!
 //! # The archive
 //!
-//! The archive is for x86-64 Linux. The command `rt staticlib raftershim` makes it. The build takes
-//! it from the folder that the environment variable `RAFTERSHIM_ARCHIVE_DIR` names by its full
-//! path, and otherwise from the folder `target/staticlib` of the repository.
+//! The build takes the archive for the target that is built from the folder of the repository's
+//! archives, and has it made there if it is missing, which needs the Rattle toolchain. If the
+//! environment variable `RAFTERSHIM_ARCHIVE_DIR` is set, it names the archive's folder by its full
+//! path, and none is made.
 //!
 //! # Without the standard library
 //!
 //! The crate needs neither the standard library nor memory from a heap. From Rust 1.81 on,
-//! [`Refusal`] is a `core::error::Error`. Older compilers have that trait in the standard library
-//! only: there the feature `std`, off by default, makes [`Refusal`] a `std::error::Error`. On a
-//! newer compiler the feature changes nothing, since both names are the same trait.
+//! [`Refusal`] and [`BadSize`] are a `core::error::Error`. Older compilers have that trait in the
+//! standard library only: there the feature `std`, off by default, makes them a `std::error::Error`.
+//! On a newer compiler the feature changes nothing, since both names are the same trait.
 
 #![no_std]
 #![deny(unsafe_op_in_unsafe_fn, missing_docs)]
@@ -74,27 +90,41 @@ extern crate std;
 
 mod answer;
 mod bridge;
-pub mod frame;
+mod frame;
+mod gaps;
+mod line;
+mod meter;
 pub mod raw;
+mod reading;
 mod refusal;
-pub mod register;
+mod register;
+mod saved;
 mod side;
+mod size;
 mod state;
+mod status;
 
-pub use answer::{Answer, Answered};
-pub use bridge::Bridge;
+pub use answer::{Answer, Answered, LineByte};
+pub use bridge::{Bridge, Stores};
+pub use frame::{Address, Frame};
+pub use meter::{Meter, Notes};
+pub use reading::{Reading, Text};
 pub use refusal::Refusal;
+pub use register::Register;
+pub use saved::Saved;
 pub use side::Side;
-pub use state::{Registers, Ring, State};
+pub use size::{BadSize, Size};
+pub use state::{Registers, Ring, State, Talker};
+pub use status::StatusByte;
 
-/// The length in bytes of every block. The first byte is the version of its layout, which is 1.
+/// The length in bytes of every block, and so of what is [`Saved`].
 ///
 /// ```
-/// use raftershim::{Bridge, BLOCK_LEN};
+/// use raftershim::{Bridge, Stores, BLOCK_LEN};
 ///
-/// let bridge = Bridge::create([0; 64], [0; 64], 8)?;
-/// let saved: [u8; BLOCK_LEN] = *bridge.block();
-/// assert_eq!((saved.len(), saved[0]), (56, 1));
+/// let bridge = Bridge::create(Stores { receive: [0; 64], transmit: [0; 64] }, 8)?;
+/// let file: [u8; BLOCK_LEN] = *bridge.saved().as_bytes();
+/// assert_eq!((file.len(), file[0]), (56, 1));
 /// # Ok::<(), raftershim::Refusal>(())
 /// ```
 pub const BLOCK_LEN: usize = 56;

@@ -7,11 +7,12 @@
 //! # Safety
 //!
 //! A function that takes buffers takes three, each as a pointer and a length: the block, the
-//! receive store `rx` and the transmit store `tx`. A pointer is not null and is good for reading
-//! its length in bytes, and for writing them where it is a `*mut u8`. The three do not overlap, and
-//! nobody else uses them during the call. Nothing is asked of what the buffers hold: a block that
-//! is not a state, or does not fit the stores, is refused. A bridge goes on from call to call only
-//! if the three are the same at every call and untouched in between.
+//! receive store `rx` and the transmit store `tx`. A length has 64 bits on every target. A pointer
+//! is not null and is good for reading its length in bytes, and for writing them where it is a
+//! `*mut u8`. The three do not overlap, and nobody else uses them during the call. Nothing is asked
+//! of what the buffers hold: a block that is not a state, or does not fit the stores, is refused. A
+//! bridge goes on from call to call only if the three are the same at every call and untouched in
+//! between.
 //!
 //! ```
 //! use raftershim::{raw, Answer, BLOCK_LEN};
@@ -20,8 +21,8 @@
 //! let (b, r, t) = (block.as_mut_ptr(), rx.as_mut_ptr(), tx.as_ptr());
 //! // SAFETY: the three are separate arrays of these lengths, and the first two may be written.
 //! let (created, taken) = unsafe {
-//!     let created = raw::raftershim_create(b, BLOCK_LEN, r, 4, t, 3, 1);
-//!     (created, raw::raftershim_line_byte(b, BLOCK_LEN, r, 4, t, 3, 50))
+//!     let created = raw::raftershim_create(b, 56, r, 4, t, 3, 1);
+//!     (created, raw::raftershim_line_byte(b, 56, r, 4, t, 3, 50))
 //! };
 //! assert_eq!((Answer::of(created), Answer::of(taken)), (Ok(Answer::Done), Ok(Answer::Done)));
 //! assert_eq!(rx[0], 50);
@@ -40,7 +41,7 @@ extern "C" {
     /// // SAFETY: it takes nothing.
     /// assert_eq!(unsafe { raftershim_block_len() }, 56);
     /// ```
-    pub fn raftershim_block_len() -> usize;
+    pub fn raftershim_block_len() -> u64;
 
     /// Makes a state in the block for stores of these lengths, with this margin. What the block
     /// held does not matter. Answers done, or refusal 1.
@@ -61,11 +62,11 @@ extern "C" {
     /// ```
     pub fn raftershim_create(
         block: *mut u8,
-        block_len: usize,
+        block_len: u64,
         rx: *const u8,
-        rx_len: usize,
+        rx_len: u64,
         tx: *const u8,
-        tx_len: usize,
+        tx_len: u64,
         margin: u32,
     ) -> u64;
 
@@ -90,11 +91,11 @@ extern "C" {
     /// ```
     pub fn raftershim_reset(
         block: *mut u8,
-        block_len: usize,
+        block_len: u64,
         rx: *const u8,
-        rx_len: usize,
+        rx_len: u64,
         tx: *const u8,
-        tx_len: usize,
+        tx_len: u64,
     ) -> u64;
 
     /// Writes a register. Answers done, or refusal 2, 5, 6, 7 or 8.
@@ -117,11 +118,11 @@ extern "C" {
     /// ```
     pub fn raftershim_write_register(
         block: *mut u8,
-        block_len: usize,
+        block_len: u64,
         rx: *const u8,
-        rx_len: usize,
+        rx_len: u64,
         tx: *const u8,
-        tx_len: usize,
+        tx_len: u64,
         number: u32,
         value: u32,
     ) -> u64;
@@ -146,11 +147,11 @@ extern "C" {
     /// ```
     pub fn raftershim_line_byte(
         block: *mut u8,
-        block_len: usize,
+        block_len: u64,
         rx: *mut u8,
-        rx_len: usize,
+        rx_len: u64,
         tx: *const u8,
-        tx_len: usize,
+        tx_len: u64,
         byte: u8,
     ) -> u64;
 
@@ -174,11 +175,11 @@ extern "C" {
     /// ```
     pub fn raftershim_break(
         block: *mut u8,
-        block_len: usize,
+        block_len: u64,
         rx: *mut u8,
-        rx_len: usize,
+        rx_len: u64,
         tx: *const u8,
-        tx_len: usize,
+        tx_len: u64,
     ) -> u64;
 
     /// Takes a press of the MSRQ key. Answers done, or refusal 2.
@@ -201,11 +202,11 @@ extern "C" {
     /// ```
     pub fn raftershim_key(
         block: *mut u8,
-        block_len: usize,
+        block_len: u64,
         rx: *const u8,
-        rx_len: usize,
+        rx_len: u64,
         tx: *const u8,
-        tx_len: usize,
+        tx_len: u64,
     ) -> u64;
 
     /// Gives the next line byte. Answers that byte, none, or refusal 2.
@@ -228,11 +229,11 @@ extern "C" {
     /// ```
     pub fn raftershim_next_line_byte(
         block: *mut u8,
-        block_len: usize,
+        block_len: u64,
         rx: *const u8,
-        rx_len: usize,
+        rx_len: u64,
         tx: *const u8,
-        tx_len: usize,
+        tx_len: u64,
     ) -> u64;
 
     /// Takes a frame from the loop. Answers the one frame that goes on, or refusal 2, 3 or 4.
@@ -255,11 +256,11 @@ extern "C" {
     /// ```
     pub fn raftershim_loop_frame(
         block: *mut u8,
-        block_len: usize,
+        block_len: u64,
         rx: *const u8,
-        rx_len: usize,
+        rx_len: u64,
         tx: *mut u8,
-        tx_len: usize,
+        tx_len: u64,
         frame: u32,
     ) -> u64;
 
@@ -287,11 +288,11 @@ extern "C" {
     /// ```
     pub fn raftershim_show(
         block: *const u8,
-        block_len: usize,
+        block_len: u64,
         rx: *const u8,
-        rx_len: usize,
+        rx_len: u64,
         tx: *const u8,
-        tx_len: usize,
+        tx_len: u64,
         side: u32,
     ) -> u64;
 }

@@ -2,101 +2,100 @@
 
 use core::fmt;
 
-/// Why a call was refused. The block and both stores are as they were before the call.
+/// Why a call was refused. The state and both stores are as they were before the call.
 ///
-/// It displays as its number and a plain sentence, and it is an error in the sense of Rust; the
-/// page of the crate says from which compiler on.
+/// It is the number of the refusal, with a name for each that is known. A number that gets a name
+/// later keeps its meaning, since two refusals are equal if their numbers are. It displays as its
+/// number and a plain sentence, and it is an error in the sense of Rust; the page of the crate says
+/// from which compiler on.
 ///
 /// ```
-/// use raftershim::{Bridge, Refusal};
+/// use raftershim::{Bridge, Register, Refusal, Stores};
 ///
-/// let refusal = Bridge::create([0; 7], [0; 3], 3).unwrap_err();
-/// assert_eq!(refusal, Refusal::Sizes);
-/// assert!(refusal.to_string().starts_with("refusal 1: a size is broken"));
+/// let mut bridge = Bridge::create(Stores { receive: [0; 8], transmit: [0; 3] }, 3)?;
+/// let refusal = bridge.write_register(Register::R10, 16).unwrap_err();
+/// match refusal {
+///     Refusal::VALUE_TOO_LARGE => assert_eq!(refusal.number(), 6),
+///     other => panic!("{other}"),
+/// }
+/// assert!(refusal.to_string().starts_with("refusal 6: the control value is above 15"));
+/// # Ok::<(), raftershim::BadSize>(())
 /// ```
-#[derive(Clone, Copy, Debug, PartialEq, Eq)]
-pub enum Refusal {
-    /// Refusal 1, of create: the margin is not 1 to 1024, the receive store has not twice the
-    /// margin plus 2 to 32768 bytes, or the transmit store has not 3 to 32768 bytes.
-    Sizes,
-    /// Refusal 2: the block is not a state, or the state does not fit the stores.
-    Misfit,
-    /// Refusal 3: the loop frame is above 2047.
-    FrameTooLarge,
+#[derive(Clone, Copy, PartialEq, Eq, PartialOrd, Ord, Hash)]
+pub struct Refusal(u16);
+
+/// Declares the refusals that have a name: the constant, its number and the sentence for a person.
+macro_rules! refusals {
+    ($($(#[$text:meta])* $name:ident = $number:literal, $sentence:literal;)*) => {
+        impl Refusal {
+            $(
+                $(#[$text])*
+                pub const $name: Refusal = Refusal($number);
+            )*
+
+            /// Why, in the words that a person hears.
+            const fn sentence(self) -> &'static str {
+                match self.0 {
+                    $($number => $sentence,)*
+                    _ => "the reason is not known here",
+                }
+            }
+        }
+    };
+}
+
+refusals! {
+    /// Refusal 1, of create: a size is broken. [`BadSize`](crate::BadSize) says which one.
+    SIZES = 1, "a size is broken, or the block has the wrong length";
+
+    /// Refusal 2: what was saved is not a state that fits the stores, or a store no longer lends
+    /// the length that it had.
+    MISFIT = 2, "the block is not a state that fits the stores";
+
+    /// Refusal 3: the loop frame is above 2047, so it is no frame.
+    FRAME_TOO_LARGE = 3, "the loop frame is above 2047";
+
     /// Refusal 4: we are listener, the frame is data, and the transmit store lacks room for what
     /// it adds. Offer the frame again when the line has taken bytes.
-    Busy,
+    BUSY = 4, "busy, the transmit store lacks room for what the frame adds";
+
     /// Refusal 5: the register number is not carried.
-    NotCarried,
+    NOT_CARRIED = 5, "the register number is not carried";
+
     /// Refusal 6: the control value is above 15, or the character is above 255.
-    ValueTooLarge,
+    VALUE_TOO_LARGE = 6, "the control value is above 15, or the character above 255";
+
     /// Refusal 7: the value has a control bit that is not carried.
-    BitNotCarried,
+    BIT_NOT_CARRIED = 7, "the value has a control bit that is not carried";
+
     /// Refusal 8: the go and stop characters would be equal.
-    GoIsStop,
-    /// A number that this crate does not know. With 0 it stands for an answer that the header of
-    /// the C functions does not describe. The archive gives neither.
-    Other(u16),
+    GO_IS_STOP = 8, "the go and stop characters would be equal";
 }
 
 impl Refusal {
+    /// What stands for an answer that the header of the C functions does not describe. No refusal
+    /// has the number 0, and the archive never gives such an answer.
+    pub(crate) const UNDESCRIBED: Refusal = Refusal(0);
+
     /// The refusal that has this number.
     ///
     /// ```
     /// use raftershim::Refusal;
     ///
-    /// assert_eq!(Refusal::of(4), Refusal::Busy);
-    /// assert_eq!(Refusal::of(77), Refusal::Other(77));
+    /// assert_eq!(Refusal::of(4), Refusal::BUSY);
+    /// assert_eq!(Refusal::of(77).to_string(), "refusal 77: the reason is not known here");
     /// ```
     pub const fn of(number: u16) -> Refusal {
-        match number {
-            1 => Refusal::Sizes,
-            2 => Refusal::Misfit,
-            3 => Refusal::FrameTooLarge,
-            4 => Refusal::Busy,
-            5 => Refusal::NotCarried,
-            6 => Refusal::ValueTooLarge,
-            7 => Refusal::BitNotCarried,
-            8 => Refusal::GoIsStop,
-            _ => Refusal::Other(number),
-        }
+        Refusal(number)
     }
 
     /// The number of the refusal.
     ///
     /// ```
-    /// use raftershim::Refusal;
-    ///
-    /// assert_eq!(Refusal::Busy.number(), 4);
-    /// assert_eq!(Refusal::Other(77).number(), 77);
+    /// assert_eq!(raftershim::Refusal::BUSY.number(), 4);
     /// ```
     pub const fn number(self) -> u16 {
-        match self {
-            Refusal::Sizes => 1,
-            Refusal::Misfit => 2,
-            Refusal::FrameTooLarge => 3,
-            Refusal::Busy => 4,
-            Refusal::NotCarried => 5,
-            Refusal::ValueTooLarge => 6,
-            Refusal::BitNotCarried => 7,
-            Refusal::GoIsStop => 8,
-            Refusal::Other(number) => number,
-        }
-    }
-
-    /// Why, in the words that a person hears.
-    const fn sentence(self) -> &'static str {
-        match self {
-            Refusal::Sizes => "a size is broken, or the block has the wrong length",
-            Refusal::Misfit => "the block is not a state that fits the stores",
-            Refusal::FrameTooLarge => "the loop frame is above 2047",
-            Refusal::Busy => "busy, the transmit store lacks room for what the frame adds",
-            Refusal::NotCarried => "the register number is not carried",
-            Refusal::ValueTooLarge => "the control value is above 15, or the character above 255",
-            Refusal::BitNotCarried => "the value has a control bit that is not carried",
-            Refusal::GoIsStop => "the go and stop characters would be equal",
-            Refusal::Other(_) => "the reason is not known here",
-        }
+        self.0
     }
 }
 
@@ -106,8 +105,23 @@ impl fmt::Display for Refusal {
     }
 }
 
-#[cfg(core_error)]
-impl core::error::Error for Refusal {}
+impl fmt::Debug for Refusal {
+    /// As it displays, since this is what a failing `unwrap` says.
+    fn fmt(&self, f: &mut fmt::Formatter<'_>) -> fmt::Result {
+        write!(f, "Refusal({self})")
+    }
+}
 
-#[cfg(all(feature = "std", not(core_error)))]
-impl std::error::Error for Refusal {}
+/// Makes a type an error in the sense of Rust, by the trait that the compiler has.
+macro_rules! error {
+    ($name:ty) => {
+        #[cfg(core_error)]
+        impl core::error::Error for $name {}
+
+        #[cfg(all(feature = "std", not(core_error)))]
+        impl std::error::Error for $name {}
+    };
+}
+pub(crate) use error;
+
+error!(Refusal);

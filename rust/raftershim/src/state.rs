@@ -1,21 +1,23 @@
 //! What the block of a bridge says, field by field.
 
-use crate::BLOCK_LEN;
+use crate::{Address, Frame, Register, BLOCK_LEN};
 
 /// What the state of a bridge says, read from its block.
 ///
 /// ```
-/// use raftershim::Bridge;
+/// use raftershim::{Bridge, LineByte, Stores};
 ///
-/// let mut bridge = Bridge::create([0; 4], [0; 3], 1)?;
-/// for byte in *b"12345" {
-///     bridge.line_byte(byte)?;
+/// let mut bridge = Bridge::create(Stores { receive: [0; 4], transmit: [0; 3] }, 1)?;
+/// for byte in *b"1234" {
+///     assert_eq!(bridge.line_byte(byte)?, LineByte::Stored);
 /// }
-/// let state = bridge.state();
+/// assert_eq!(bridge.line_byte(b'5')?, LineByte::Lost);
+/// let state = bridge.state()?;
 /// assert_eq!((state.stored, state.lost, state.seen_overrun), (4, 1, true));
 /// # Ok::<(), raftershim::Refusal>(())
 /// ```
-#[derive(Clone, Copy, Debug, PartialEq, Eq)]
+#[derive(Clone, Copy, Debug, PartialEq, Eq, Hash)]
+#[non_exhaustive]
 pub struct State {
     /// The recorded length of the receive store.
     pub receive_len: u16,
@@ -25,18 +27,18 @@ pub struct State {
     pub margin: u16,
     /// The carried registers.
     pub registers: Registers,
-    /// Our address, 0 to 30, or 31 when unassigned.
-    pub address: u8,
-    /// The talker phase: 0 not talker, 1 addressed, 2 active with data, 3 active with status.
-    pub talker: u8,
+    /// Our address, or none while it is unassigned.
+    pub address: Option<Address>,
+    /// How far we are talker.
+    pub talker: Talker,
     /// Whether we are listener.
     pub listener: bool,
     /// Whether remote is enabled.
     pub remote_enabled: bool,
     /// Whether we are remote.
     pub remote: bool,
-    /// The frame of ours under way, without its service bit, and 0 when there is none.
-    pub under_way: u16,
+    /// The frame of ours under way, without its service bit.
+    pub under_way: Option<Frame>,
     /// Whether sending ends after the frame under way.
     pub finishing: bool,
     /// What the receive store holds, line to loop.
@@ -64,25 +66,41 @@ pub struct State {
     /// Whether a service request has begun and not ended, whether it shows or not.
     pub request: bool,
     /// Bytes stored in the receive store since create or reset, starting again at 0 after
-    /// 4294967295, as all three counts do.
+    /// 4294967295, as all three counts do. A reset sets all three to 0.
     pub stored: u32,
-    /// Bytes lost since create or reset.
+    /// Bytes lost since create or reset. It does not say in which reading a byte is missing:
+    /// [`Meter::reading`](crate::Meter::reading) does.
     pub lost: u32,
     /// Data frames sent from the receive store since create or reset.
     pub sent: u32,
 }
 
-/// What the carried registers hold. The constants in [`register`](crate::register) say what each
-/// is for.
+/// How far we are talker.
+#[derive(Clone, Copy, Debug, PartialEq, Eq, Hash)]
+pub enum Talker {
+    /// Not talker.
+    Not,
+    /// Addressed, and no frame of ours is under way.
+    Addressed,
+    /// Active: a data frame of ours is under way.
+    Data,
+    /// Active: a status byte of ours is under way.
+    Status,
+}
+
+/// What the carried registers hold. [`Register`] says what each is for.
 ///
 /// ```
-/// use raftershim::Bridge;
+/// use raftershim::{Bridge, Register, Stores};
 ///
-/// let registers = Bridge::create([0; 64], [0; 64], 8)?.state().registers;
+/// let bridge = Bridge::create(Stores { receive: [0; 64], transmit: [0; 64] }, 8)?;
+/// let registers = bridge.state()?.registers;
 /// assert_eq!((registers.r11, registers.c04, registers.c05), (8, 17, 19));
+/// assert_eq!(registers.get(Register::C05), 19);
 /// # Ok::<(), raftershim::Refusal>(())
 /// ```
-#[derive(Clone, Copy, Debug, PartialEq, Eq)]
+#[derive(Clone, Copy, Debug, PartialEq, Eq, Hash)]
+#[non_exhaustive]
 pub struct Registers {
     /// R00: service requests and overrun.
     pub r00: u8,
@@ -111,15 +129,16 @@ pub struct Registers {
 /// Which places of a store hold bytes. Places run from 0 and come round after the last.
 ///
 /// ```
-/// use raftershim::Bridge;
+/// use raftershim::{Bridge, LineByte, Stores};
 ///
-/// let mut bridge = Bridge::create([0; 64], [0; 64], 8)?;
-/// bridge.line_byte(50)?;
-/// let receive = bridge.state().receive;
+/// let mut bridge = Bridge::create(Stores { receive: [0; 64], transmit: [0; 64] }, 8)?;
+/// assert_eq!(bridge.line_byte(50)?, LineByte::Stored);
+/// let receive = bridge.state()?.receive;
 /// assert_eq!((receive.oldest, receive.held), (0, 1));
 /// # Ok::<(), raftershim::Refusal>(())
 /// ```
-#[derive(Clone, Copy, Debug, PartialEq, Eq)]
+#[derive(Clone, Copy, Debug, PartialEq, Eq, Hash)]
+#[non_exhaustive]
 pub struct Ring {
     /// The place of the oldest byte held, or of the next byte if none is.
     pub oldest: u16,
@@ -128,18 +147,12 @@ pub struct Ring {
 }
 
 impl State {
-    /// Reads every field of a block. Whether the block fits its stores is for the calls to say:
-    /// here a flag is set exactly if its byte is 1, and every other field is taken as it is. The
-    /// first byte is the version, which is no field of the state.
-    ///
-    /// ```
-    /// use raftershim::{Bridge, State};
-    ///
-    /// let bridge = Bridge::create([0; 64], [0; 64], 8)?;
-    /// assert_eq!(State::of(bridge.block()).margin, 8);
-    /// # Ok::<(), raftershim::Refusal>(())
-    /// ```
-    pub const fn of(block: &[u8; BLOCK_LEN]) -> State {
+    /// Reads every field of a block that is a state. The first byte is the version, which is no
+    /// field of the state.
+    pub(crate) fn of(block: &[u8; BLOCK_LEN]) -> State {
+        let talker = Talker::of(block[28]);
+        let under_way = Frame::new(block[31], block[30]).ok();
+        let active = matches!(talker, Talker::Data | Talker::Status);
         State {
             margin: two(block[1], block[2]),
             receive_len: two(block[3], block[4]),
@@ -149,10 +162,10 @@ impl State {
             stored: u32::from_le_bytes([block[15], block[16], block[17], block[18]]),
             lost: u32::from_le_bytes([block[19], block[20], block[21], block[22]]),
             sent: u32::from_le_bytes([block[23], block[24], block[25], block[26]]),
-            address: block[27],
-            talker: block[28],
+            address: Address::new(block[27]),
+            talker,
             listener: flag(block[29]),
-            under_way: two(block[30], block[31]),
+            under_way: under_way.filter(|_| active),
             finishing: flag(block[32]),
             registers: Registers::of(block),
             holding: flag(block[44]),
@@ -171,7 +184,43 @@ impl State {
     }
 }
 
+impl Talker {
+    const fn of(phase: u8) -> Talker {
+        match phase {
+            0 => Talker::Not,
+            1 => Talker::Addressed,
+            2 => Talker::Data,
+            _ => Talker::Status,
+        }
+    }
+}
+
 impl Registers {
+    /// What a register holds.
+    ///
+    /// ```
+    /// use raftershim::{Bridge, Register, Stores};
+    ///
+    /// let bridge = Bridge::create(Stores { receive: [0; 64], transmit: [0; 64] }, 8)?;
+    /// assert_eq!(bridge.state()?.registers.get(Register::R11), Register::R11_PROTOCOL);
+    /// # Ok::<(), raftershim::Refusal>(())
+    /// ```
+    pub const fn get(&self, register: Register) -> u8 {
+        match register {
+            Register::R00 => self.r00,
+            Register::R01 => self.r01,
+            Register::R02 => self.r02,
+            Register::R10 => self.r10,
+            Register::R11 => self.r11,
+            Register::C00 => self.c00,
+            Register::C01 => self.c01,
+            Register::C02 => self.c02,
+            Register::C03 => self.c03,
+            Register::C04 => self.c04,
+            Register::C05 => self.c05,
+        }
+    }
+
     const fn of(block: &[u8; BLOCK_LEN]) -> Registers {
         Registers {
             r00: block[33],

@@ -1,47 +1,52 @@
 //! Words are read as the header describes them, and answers, refusals and frames say what they are.
 
-use raftershim::{frame, Answer, Refusal};
+use raftershim::{Answer, Frame, LineByte, Refusal};
+use std::collections::HashSet;
+
+fn frame(number: u16) -> Frame {
+    Frame::try_from(number).unwrap()
+}
 
 /// The eight refusals with their numbers and the sentences that a person hears.
 const REFUSALS: [(u16, Refusal, &str); 8] = [
     (
         1,
-        Refusal::Sizes,
+        Refusal::SIZES,
         "refusal 1: a size is broken, or the block has the wrong length",
     ),
     (
         2,
-        Refusal::Misfit,
+        Refusal::MISFIT,
         "refusal 2: the block is not a state that fits the stores",
     ),
     (
         3,
-        Refusal::FrameTooLarge,
+        Refusal::FRAME_TOO_LARGE,
         "refusal 3: the loop frame is above 2047",
     ),
     (
         4,
-        Refusal::Busy,
+        Refusal::BUSY,
         "refusal 4: busy, the transmit store lacks room for what the frame adds",
     ),
     (
         5,
-        Refusal::NotCarried,
+        Refusal::NOT_CARRIED,
         "refusal 5: the register number is not carried",
     ),
     (
         6,
-        Refusal::ValueTooLarge,
+        Refusal::VALUE_TOO_LARGE,
         "refusal 6: the control value is above 15, or the character above 255",
     ),
     (
         7,
-        Refusal::BitNotCarried,
+        Refusal::BIT_NOT_CARRIED,
         "refusal 7: the value has a control bit that is not carried",
     ),
     (
         8,
-        Refusal::GoIsStop,
+        Refusal::GO_IS_STOP,
         "refusal 8: the go and stop characters would be equal",
     ),
 ];
@@ -52,8 +57,8 @@ fn words_of_the_header_are_read() {
     assert_eq!(Answer::of(1 << 16), Ok(Answer::None));
     assert_eq!(Answer::of(2 << 16), Ok(Answer::Byte(0)));
     assert_eq!(Answer::of(2 << 16 | 255), Ok(Answer::Byte(255)));
-    assert_eq!(Answer::of(3 << 16), Ok(Answer::Frame(0)));
-    assert_eq!(Answer::of(3 << 16 | 2047), Ok(Answer::Frame(2047)));
+    assert_eq!(Answer::of(3 << 16), Ok(Answer::Frame(frame(0))));
+    assert_eq!(Answer::of(3 << 16 | 2047), Ok(Answer::Frame(frame(2047))));
     for (number, refusal, _) in REFUSALS {
         assert_eq!(Answer::of(4 << 16 | u64::from(number)), Err(refusal));
     }
@@ -84,24 +89,39 @@ fn words_that_the_header_does_not_describe_are_no_answers() {
         u64::MAX,
     ];
     for word in strange {
-        assert_eq!(Answer::of(word), Err(Refusal::Other(0)), "word {word:#x}");
+        assert_eq!(Answer::of(word), Err(Refusal::of(0)), "word {word:#x}");
     }
-    assert_eq!(Answer::of(4 << 16 | 9), Err(Refusal::Other(9)));
+    assert_eq!(Answer::of(4 << 16 | 9), Err(Refusal::of(9)));
 }
 
 #[test]
-fn answers_display_and_hand_out_what_they_hold() {
+fn answers_display_what_they_hold() {
     let answers = [
-        (Answer::Done, "done", None, None),
-        (Answer::None, "no line byte", None, None),
-        (Answer::Byte(50), "line byte 50", Some(50), None),
-        (Answer::Frame(1376), "frame 5,96", None, Some(1376)),
-        (Answer::Frame(255), "frame 0,255", None, Some(255)),
+        (Answer::from(()), Answer::Done, "done"),
+        (Answer::from(LineByte::Lost), Answer::Done, "done"),
+        (Answer::from(None), Answer::None, "no line byte"),
+        (Answer::from(Some(50)), Answer::Byte(50), "line byte 50"),
+        (
+            Answer::from(Frame::SEND_DATA),
+            Answer::Frame(Frame::SEND_DATA),
+            "frame 5,96",
+        ),
     ];
-    for (answer, text, byte, frame) in answers {
-        assert_eq!(answer.to_string(), text);
-        assert_eq!((answer.byte(), answer.frame()), (byte, frame), "{text}");
+    for (made, answer, text) in answers {
+        assert_eq!((made, made.to_string().as_str()), (answer, text));
     }
+}
+
+#[test]
+fn what_became_of_a_byte_is_said() {
+    let said = [
+        LineByte::Stored,
+        LineByte::Lost,
+        LineByte::Go,
+        LineByte::Stop,
+    ];
+    let said = said.map(|byte| byte.to_string()).join(", ");
+    assert_eq!(said, "stored, lost, taken as go, taken as stop");
 }
 
 #[test]
@@ -111,36 +131,36 @@ fn refusals_display_their_number_and_a_sentence() {
         assert_eq!(refusal.to_string(), text);
     }
     let other = "refusal 77: the reason is not known here";
-    assert_eq!(Refusal::Other(77).to_string(), other);
+    assert_eq!(Refusal::of(77).to_string(), other);
 }
 
 #[test]
-fn every_refusal_number_is_kept() {
+fn every_refusal_number_is_kept_and_compared() {
+    let all: HashSet<Refusal> = (0..=u16::MAX).map(Refusal::of).collect();
+    assert_eq!(all.len(), 65536);
     for number in 0..=u16::MAX {
-        let refusal = Refusal::of(number);
-        let known = (1..=8).contains(&number);
-        assert_eq!(refusal.number(), number);
-        assert_eq!(refusal == Refusal::Other(number), !known, "number {number}");
+        assert_eq!(Refusal::of(number).number(), number);
     }
+}
+
+#[test]
+fn a_failing_unwrap_says_the_sentence() {
+    let said = format!("{:?}", Refusal::GO_IS_STOP);
+    let expected = "Refusal(refusal 8: the go and stop characters would be equal)";
+    assert_eq!(said, expected);
 }
 
 #[cfg(any(core_error, feature = "std"))]
 #[test]
 fn a_refusal_is_an_error() {
-    let error: Box<dyn std::error::Error + Send + Sync> = Refusal::Busy.into();
-    assert_eq!(error.downcast_ref(), Some(&Refusal::Busy));
+    let error: Box<dyn std::error::Error + Send + Sync> = Refusal::BUSY.into();
+    assert_eq!(error.downcast_ref(), Some(&Refusal::BUSY));
     assert!(error.source().is_none());
-}
-
-#[test]
-fn frames_come_apart_as_they_were_put_together() {
-    assert_eq!(frame::of(7, 255), 2047);
-    assert_eq!(frame::of(255, 255), u16::MAX);
-    for control in 0..=u8::MAX {
-        for data in 0..=u8::MAX {
-            let whole = frame::of(control, data);
-            assert_eq!(whole, u16::from(control) * 256 + u16::from(data));
-            assert_eq!((frame::control(whole), frame::data(whole)), (control, data));
-        }
-    }
+    let stores = raftershim::Stores {
+        receive: [0; 7],
+        transmit: [0; 3],
+    };
+    let bad = raftershim::Bridge::create(stores, 3).unwrap_err();
+    let error: Box<dyn std::error::Error + Send + Sync> = bad.into();
+    assert_eq!(error.downcast_ref(), Some(&bad));
 }

@@ -1,179 +1,250 @@
 //! Each refusal comes from the call and for the cause that the rules name, and changes nothing.
 
-use raftershim::{frame, raw, register, Answer, Answered, Bridge, Refusal, Side, BLOCK_LEN};
+use raftershim::{
+    raw, Address, Answer, Answered, BadSize, Bridge, Frame, LineByte, Refusal, Register, Saved,
+    Side, Size, Stores, BLOCK_LEN,
+};
+use std::cell::Cell;
+use std::rc::Rc;
 
 type Small = Bridge<[u8; 8], [u8; 3]>;
-type Call = fn(&mut Small) -> Answered;
+type Call<R, T> = fn(&mut Bridge<R, T>) -> Answered;
 
 fn small() -> Small {
-    Bridge::create([0; 8], [0; 3], 3).unwrap()
+    Bridge::create(small_stores(), 3).unwrap()
+}
+
+fn small_stores() -> Stores<[u8; 8], [u8; 3]> {
+    Stores {
+        receive: [0; 8],
+        transmit: [0; 3],
+    }
 }
 
 /// The call is refused for this reason, and the bridge is as it was.
-fn refused(mut bridge: Small, refusal: Refusal, call: impl FnOnce(&mut Small) -> Answered) {
+fn refused<A>(
+    mut bridge: Small,
+    refusal: Refusal,
+    call: impl FnOnce(&mut Small) -> Result<A, Refusal>,
+) {
     let was = bridge.clone();
-    assert_eq!(call(&mut bridge), Err(refusal));
+    assert_eq!(call(&mut bridge).err(), Some(refusal));
     assert_eq!(bridge, was);
 }
 
 /// Every call that may be refused, with arguments that a fitting state takes.
-const CALLS: [(&str, Call); 7] = [
-    ("reset", |bridge| bridge.reset()),
-    ("write_register", |bridge| {
-        bridge.write_register(register::R10, 8)
-    }),
-    ("line_byte", |bridge| bridge.line_byte(50)),
-    ("line_break", |bridge| bridge.line_break()),
-    ("key", |bridge| bridge.key()),
-    ("next_line_byte", |bridge| bridge.next_line_byte()),
-    ("loop_frame", |bridge| bridge.loop_frame(0)),
-];
+fn calls<R, T>() -> [(&'static str, Call<R, T>); 7]
+where
+    R: AsRef<[u8]> + AsMut<[u8]>,
+    T: AsRef<[u8]> + AsMut<[u8]>,
+{
+    [
+        ("reset", |bridge| bridge.reset().map(Answer::from)),
+        ("write_register", |bridge| {
+            bridge.write_register(Register::R10, 8).map(Answer::from)
+        }),
+        ("line_byte", |bridge| bridge.line_byte(50).map(Answer::from)),
+        ("line_break", |bridge| bridge.line_break().map(Answer::from)),
+        ("key", |bridge| bridge.key().map(Answer::from)),
+        ("next_line_byte", |bridge| {
+            bridge.next_line_byte().map(Answer::from)
+        }),
+        ("loop_frame", |bridge| {
+            bridge.loop_frame(Frame::data_byte(0)).map(Answer::from)
+        }),
+    ]
+}
+
+/// What was saved, with one byte changed.
+fn damaged(saved: Saved, place: usize, value: u8) -> Result<Saved, Refusal> {
+    let mut block = *saved.as_bytes();
+    block[place] = value;
+    Saved::try_from(block.as_slice())
+}
 
 #[test]
 fn the_archive_has_blocks_of_this_length() {
     // SAFETY: it takes nothing.
-    assert_eq!(unsafe { raw::raftershim_block_len() }, BLOCK_LEN);
+    let len = unsafe { raw::raftershim_block_len() };
+    assert_eq!(len, BLOCK_LEN as u64);
+}
+
+fn create(receive: usize, transmit: usize, margin: u32) -> Result<(), BadSize> {
+    let (receive, transmit) = (vec![0; receive], vec![0; transmit]);
+    Bridge::create(Stores { receive, transmit }, margin).map(|_| ())
 }
 
 #[test]
-fn sizes_are_refused_at_their_bounds() {
-    let create = |receive: usize, transmit: usize, margin: u32| {
-        Bridge::create(vec![0; receive], vec![0; transmit], margin).map(|_| ())
-    };
+fn sizes_at_their_bounds_are_taken() {
     for (receive, transmit, margin) in [(8, 3, 3), (4, 3, 1), (2050, 32768, 1024), (32768, 3, 1)] {
         assert_eq!(create(receive, transmit, margin), Ok(()));
     }
+}
+
+#[test]
+fn a_broken_size_is_named_with_its_limits() {
     let broken = [
-        (7, 3, 3),
-        (8, 2, 3),
-        (8, 3, 0),
-        (32768, 3, 1025),
-        (32769, 3, 1),
-        (8, 32769, 3),
-        (0, 0, 1),
-        (8, 3, u32::MAX),
+        ((7, 3, 3), Size::Receive, 7, 8, 32768),
+        ((8, 2, 3), Size::Transmit, 2, 3, 32768),
+        ((8, 3, 0), Size::Margin, 0, 1, 1024),
+        ((32768, 3, 1025), Size::Margin, 1025, 1, 1024),
+        ((32769, 3, 1), Size::Receive, 32769, 4, 32768),
+        ((8, 32769, 3), Size::Transmit, 32769, 3, 32768),
+        ((0, 0, 1), Size::Receive, 0, 4, 32768),
+        ((8, 3, u32::MAX), Size::Margin, u32::MAX as usize, 1, 1024),
     ];
-    for (receive, transmit, margin) in broken {
-        assert_eq!(create(receive, transmit, margin), Err(Refusal::Sizes));
+    for ((receive, transmit, margin), which, given, least, most) in broken {
+        let bad = create(receive, transmit, margin).unwrap_err();
+        let found = (bad.which, bad.given, bad.least, bad.most);
+        assert_eq!(found, (which, given, least, most));
+        assert_eq!(Refusal::from(bad), Refusal::SIZES);
+        let said = format!("refusal 1: {which} is {given}, and it must be {least} to {most}");
+        assert_eq!(bad.to_string(), said);
     }
 }
 
 #[test]
 fn a_fitting_bridge_is_refused_nowhere() {
-    for (name, call) in CALLS {
+    for (name, call) in calls() {
         assert!(call(&mut small()).is_ok(), "{name}");
     }
+    assert!(small().state().is_ok());
 }
 
 #[test]
-fn a_damaged_block_is_refused_everywhere() {
+fn damage_is_refused_when_the_bridge_is_put_together() {
     let mut held = small();
-    held.line_byte(50).unwrap();
-    let (block, receive, transmit) = held.into_parts();
-    // The flag at 16 would be neither 0 nor 1, the address at 14 above 31, the length at 22 wrong.
+    assert_eq!(held.line_byte(50), Ok(LineByte::Stored));
+    let (saved, stores) = held.into_parts();
+    // A flag would be neither 0 nor 1, the address above 31, the recorded length another one.
     for (place, value) in [(29, 2), (27, 32), (3, 9)] {
-        let mut damaged = block;
-        damaged[place] = value;
-        let bridge = Bridge::from_parts(damaged, receive, transmit);
-        for (_, call) in CALLS {
-            refused(bridge.clone(), Refusal::Misfit, call);
-        }
-        assert!(bridge.show(Side::Receive).is_empty());
-        assert!(bridge.show(Side::Transmit).is_empty());
+        let damaged = damaged(saved, place, value).unwrap();
+        let refused = Bridge::restore(damaged, stores).unwrap_err();
+        assert_eq!(refused, Refusal::MISFIT, "byte {place}");
     }
-    // The same block without damage shows its byte, so it is the damage that hides it.
-    let whole = Bridge::from_parts(block, receive, transmit);
+    let whole = Bridge::restore(saved, stores).unwrap();
     assert_eq!(whole.show(Side::Receive), [50]);
 }
 
 #[test]
-fn a_block_of_other_stores_is_refused() {
-    let (block, receive, transmit) = small().into_parts();
-    let mut longer = Bridge::from_parts(block, [0; 9], transmit);
-    assert_eq!(longer.key(), Err(Refusal::Misfit));
-    let mut shorter = Bridge::from_parts(block, receive, [0; 0]);
-    assert_eq!(shorter.key(), Err(Refusal::Misfit));
+fn a_saved_state_of_other_stores_is_refused() {
+    let (saved, Stores { receive, transmit }) = small().into_parts();
+    let longer = Stores {
+        receive: [0; 9],
+        transmit,
+    };
+    assert_eq!(Bridge::restore(saved, longer).err(), Some(Refusal::MISFIT));
+    let shorter = Stores {
+        receive,
+        transmit: [0; 0],
+    };
+    assert_eq!(Bridge::restore(saved, shorter).err(), Some(Refusal::MISFIT));
 }
 
 #[test]
-fn frames_above_2047_are_refused() {
-    assert_eq!(small().loop_frame(2047), Ok(Answer::Frame(2047)));
-    for frame in [2048, 65536, u32::MAX] {
-        refused(small(), Refusal::FrameTooLarge, |b| b.loop_frame(frame));
+fn bytes_of_another_version_or_length_are_not_taken() {
+    let saved = small().saved();
+    assert_eq!(saved.version(), Saved::VERSION);
+    for version in (0..=u8::MAX).filter(|&version| version != Saved::VERSION) {
+        assert_eq!(damaged(saved, 0, version), Err(Refusal::MISFIT));
     }
+    for len in 0..BLOCK_LEN {
+        let short = &saved.as_bytes()[..len];
+        assert_eq!(Saved::try_from(short), Err(Refusal::MISFIT));
+    }
+}
+
+#[test]
+fn putting_together_judges_as_every_call_does() {
+    // Every byte of a fresh block in turn gets every value: what is put together is refused
+    // nowhere, and putting together changes nothing.
+    let saved = small().saved();
+    let mut misfits = 0;
+    for place in 1..BLOCK_LEN {
+        for value in 0..=u8::MAX {
+            let damaged = damaged(saved, place, value).unwrap();
+            match Bridge::restore(damaged, small_stores()) {
+                Err(refusal) => {
+                    assert_eq!(refusal, Refusal::MISFIT);
+                    misfits += 1;
+                }
+                Ok(bridge) => {
+                    assert_eq!(bridge.saved(), damaged);
+                    for (name, call) in calls() {
+                        let answered = call(&mut bridge.clone());
+                        assert!(answered.is_ok(), "{name}, byte {place} as {value}");
+                    }
+                }
+            }
+        }
+    }
+    assert!(misfits > 0 && misfits < BLOCK_LEN * 256);
+}
+
+/// A store that lends as many of its bytes as its owner says at the moment.
+struct Shrinking(Vec<u8>, Rc<Cell<usize>>);
+
+impl AsRef<[u8]> for Shrinking {
+    fn as_ref(&self) -> &[u8] {
+        &self.0[..self.1.get()]
+    }
+}
+
+impl AsMut<[u8]> for Shrinking {
+    fn as_mut(&mut self) -> &mut [u8] {
+        &mut self.0[..self.1.get()]
+    }
+}
+
+#[test]
+fn a_store_that_lends_another_length_is_refused_everywhere() {
+    let length = Rc::new(Cell::new(8));
+    let receive = Shrinking(vec![0; 9], Rc::clone(&length));
+    let transmit = [0; 3];
+    let mut bridge = Bridge::create(Stores { receive, transmit }, 3).unwrap();
+    assert_eq!(bridge.line_byte(50), Ok(LineByte::Stored));
+    for other in [0, 7, 9] {
+        length.set(other);
+        for (name, call) in calls() {
+            assert_eq!(call(&mut bridge), Err(Refusal::MISFIT), "{name}");
+        }
+        assert_eq!(bridge.state(), Err(Refusal::MISFIT));
+        assert_eq!(bridge.room(Side::Transmit), Err(Refusal::MISFIT));
+        assert!(bridge.show(Side::Receive).is_empty());
+    }
+    length.set(8);
+    assert_eq!(bridge.show(Side::Receive), [50]);
+    assert_eq!(bridge.state().map(|state| state.stored), Ok(1));
 }
 
 #[test]
 fn a_listener_without_room_is_busy() {
     let mut bridge = small();
-    bridge.write_register(register::R10, 4).unwrap();
-    bridge.loop_frame(frame::of(5, 129).into()).unwrap();
-    bridge.loop_frame(frame::of(4, 33).into()).unwrap();
-    let data = u32::from(frame::of(0, 65));
-    let end_byte = u32::from(frame::of(2, 66));
-    assert_eq!(bridge.loop_frame(data), Ok(Answer::Frame(65)));
-    refused(bridge.clone(), Refusal::Busy, |b| b.loop_frame(end_byte));
-    assert_eq!(bridge.next_line_byte(), Ok(Answer::Byte(65)));
-    let taken = bridge.loop_frame(end_byte);
-    assert_eq!(taken, Ok(Answer::Frame(frame::of(2, 66))));
+    let adding = Register::R10_ADD_LINE_END;
+    bridge.write_register(Register::R10, adding).unwrap();
+    for frame in [
+        Frame::auto_address(Address::FIRST),
+        Frame::listen_address(Address::FIRST),
+    ] {
+        bridge.loop_frame(frame).unwrap();
+    }
+    let (data, end_byte) = (Frame::data_byte(65), Frame::end_byte(66));
+    assert_eq!(bridge.loop_frame(data), Ok(data));
+    refused(bridge.clone(), Refusal::BUSY, |b| b.loop_frame(end_byte));
+    assert_eq!(bridge.next_line_byte(), Ok(Some(65)));
+    assert_eq!(bridge.loop_frame(end_byte), Ok(end_byte));
 }
 
 #[test]
-fn register_writes_are_refused_by_number_value_bit_and_character() {
+fn register_writes_are_refused_by_value_bit_and_character() {
     let writes = [
-        (3, 0, Refusal::NotCarried),
-        (12, 0, Refusal::NotCarried),
-        (22, 0, Refusal::NotCarried),
-        (u32::MAX, u32::MAX, Refusal::NotCarried),
-        (register::R01, 16, Refusal::ValueTooLarge),
-        (register::C00, 256, Refusal::ValueTooLarge),
-        (register::R00, 2, Refusal::BitNotCarried),
-        (register::R11, 4, Refusal::BitNotCarried),
-        (register::C04, 19, Refusal::GoIsStop),
-        (register::C05, 17, Refusal::GoIsStop),
+        (Register::R01, 16, Refusal::VALUE_TOO_LARGE),
+        (Register::R00, 2, Refusal::BIT_NOT_CARRIED),
+        (Register::R11, 4, Refusal::BIT_NOT_CARRIED),
+        (Register::C04, 19, Refusal::GO_IS_STOP),
+        (Register::C05, 17, Refusal::GO_IS_STOP),
     ];
-    for (number, value, refusal) in writes {
-        refused(small(), refusal, |b| b.write_register(number, value));
+    for (register, value, refusal) in writes {
+        refused(small(), refusal, |b| b.write_register(register, value));
     }
-}
-
-#[test]
-fn a_block_of_another_version_is_refused() {
-    let mut held = small();
-    held.line_byte(50).unwrap();
-    let (ours, receive, transmit) = held.into_parts();
-    assert_eq!(ours[0], 1);
-    for version in (0..=u8::MAX).filter(|&version| version != 1) {
-        let mut block = ours;
-        block[0] = version;
-        let bridge = Bridge::from_parts(block, receive, transmit);
-        for (_, call) in CALLS {
-            refused(bridge.clone(), Refusal::Misfit, call);
-        }
-        assert!(bridge.show(Side::Receive).is_empty());
-    }
-}
-
-#[test]
-fn any_block_at_all_is_either_taken_or_refused() {
-    // Every byte of a fresh block in turn gets every value: a block that one call refuses as a
-    // misfit is refused by all, and no call gives an answer that the header does not describe.
-    let (fresh, receive, transmit) = small().into_parts();
-    let mut misfits = 0;
-    for place in 0..BLOCK_LEN {
-        for value in 0..=u8::MAX {
-            let mut block = fresh;
-            block[place] = value;
-            let bridge = Bridge::from_parts(block, receive, transmit);
-            let misfit = bridge.clone().key() == Err(Refusal::Misfit);
-            misfits += usize::from(misfit);
-            for (name, call) in CALLS {
-                let answered = call(&mut bridge.clone());
-                let refused = answered == Err(Refusal::Misfit);
-                assert_eq!(refused, misfit, "{name}, byte {place} as {value}");
-                assert_eq!(answered.is_ok(), !misfit, "{name}, byte {place} as {value}");
-            }
-        }
-    }
-    assert!(misfits > 0 && misfits < BLOCK_LEN * 256);
 }

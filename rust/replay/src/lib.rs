@@ -4,28 +4,31 @@
 //! after the number of the script's line. A script may hold the answers that it expects; then the
 //! program says which lines differ. [`say::HELP`] tells the form of a script.
 //!
-//! - [`script`] turns a line of text into a call;
 //! - [`run`] makes the calls, line by line, and compares the answers;
-//! - [`say`] has all sentences.
+//! - [`say`] has the sentences of the answers;
+//! - [`counts`] says what came of it all, and [`stop`] why it ended early.
 
 #![forbid(unsafe_code)]
 #![deny(missing_docs)]
 
+pub mod counts;
 pub mod run;
 pub mod say;
-pub mod script;
+pub mod stop;
 
-use run::Stop;
 use std::ffi::OsString;
 use std::fs::File;
-use std::io::{self, BufRead, BufReader, Write};
+use std::io::{BufRead, BufReader, Write};
+use stop::Stop;
 
-/// Exit status: no answer differs from an expected one.
+/// Exit status: the script expects answers, and every line was as expected.
 pub const AS_EXPECTED: u8 = 0;
-/// Exit status: an answer differs, or the script has a mistake.
+/// Exit status: a line was not as expected, or the script has a mistake.
 pub const DIFFERENT: u8 = 1;
 /// Exit status: the arguments are wrong, the script cannot be read or the answers not be written.
 pub const NOT_RUN: u8 = 2;
+/// Exit status: no line expects an answer, so nothing was compared.
+pub const NOTHING_EXPECTED: u8 = 3;
 
 /// Does the program's work for these arguments and answers its exit status.
 pub fn program(
@@ -39,8 +42,8 @@ pub fn program(
         Err(stop) => {
             // Nobody can be told if this cannot be written either.
             let _ = out.flush();
-            if let Some(sentence) = stop.sentence() {
-                let _ = writeln!(err, "{sentence}");
+            if stop.is_told() {
+                let _ = writeln!(err, "{stop}");
             }
             stop.status()
         }
@@ -55,18 +58,17 @@ fn work(arguments: &[OsString], input: &mut dyn BufRead, out: &mut dyn Write) ->
             return Ok(AS_EXPECTED);
         }
         [one, ..] if one.to_string_lossy().starts_with('-') => {
-            return Err(Stop::Arguments(say::unknown_option(one)));
+            return Err(Stop::UnknownOption(one.clone()));
         }
         [path] => run::run(&mut BufReader::new(open(path)?), out)?,
-        [_, second, ..] => return Err(Stop::Arguments(say::too_many(second))),
+        [_, second, ..] => return Err(Stop::TooMany(second.clone())),
     };
-    Ok(if counts.differ == 0 {
-        AS_EXPECTED
-    } else {
-        DIFFERENT
-    })
+    Ok(counts.status())
 }
 
 fn open(path: &OsString) -> Result<File, Stop> {
-    File::open(path).map_err(|error: io::Error| Stop::Arguments(say::cannot_open(path, &error)))
+    File::open(path).map_err(|error| Stop::CannotOpen {
+        path: path.clone(),
+        error,
+    })
 }

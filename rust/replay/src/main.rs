@@ -9,7 +9,7 @@ use std::process::ExitCode;
 
 fn main() -> ExitCode {
     let arguments: Vec<OsString> = env::args_os().skip(1).collect();
-    ExitCode::from(replay::program(
+    ExitCode::from(raftershim_replay::program(
         &arguments,
         &mut io::stdin().lock(),
         &mut io::stdout().lock(),

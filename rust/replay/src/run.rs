@@ -1,68 +1,14 @@
 //! Makes the calls of a script, line by line, and compares what is said with what is expected.
 
+use crate::counts::Counts;
 use crate::say::{self, Said};
-use crate::script::{self, Call, Step};
-use crate::{DIFFERENT, NOT_RUN};
-use raftershim::{Answer, Answered, Bridge, Refusal};
-use std::io::{self, BufRead, ErrorKind, Read, Write};
+use crate::stop::Stop;
+use raftershim::{Answer, BadSize, Frame, LineByte, Refusal, Register, Saved, Side, Stores};
+use script::{Call, Expected, Step, Steps, DEFAULT_MARGIN, DEFAULT_STORE};
+use std::io::{self, BufRead, Write};
 
-/// The most bytes that a line of a script may have.
-pub const LONGEST_LINE: usize = 4096;
-
-/// The store length and the margin that a script without create gets.
-const DEFAULT_STORE: u32 = 64;
-const DEFAULT_MARGIN: u32 = 8;
-
-/// How many answers were as expected, and how many differ.
-#[derive(Clone, Copy, Debug, Default, PartialEq, Eq)]
-pub struct Counts {
-    /// Lines whose answer was the expected one.
-    pub as_expected: u64,
-    /// Lines whose answer was another one.
-    pub differ: u64,
-}
-
-/// Why the program ends before the end of the script.
-#[derive(Debug)]
-pub enum Stop {
-    /// The script has a mistake.
-    Mistake {
-        /// The number of the line, from 1.
-        line: u64,
-        /// What was expected there and what was found.
-        sentence: String,
-    },
-    /// The arguments are wrong, or the file that they name cannot be opened.
-    Arguments(String),
-    /// The bridge that a script without create gets was refused.
-    Refused(Refusal),
-    /// The script cannot be read.
-    Reading(io::Error),
-    /// The answers cannot be written.
-    Writing(io::Error),
-}
-
-impl Stop {
-    /// What is said about it: nothing if the one who listens has gone.
-    pub fn sentence(&self) -> Option<String> {
-        match self {
-            Stop::Mistake { line, sentence } => Some(format!("line {line}: {sentence}")),
-            Stop::Arguments(sentence) => Some(sentence.clone()),
-            Stop::Refused(refusal) => Some(format!("no bridge, {refusal}")),
-            Stop::Reading(error) => Some(format!("the script cannot be read: {error}")),
-            Stop::Writing(error) if error.kind() == ErrorKind::BrokenPipe => None,
-            Stop::Writing(error) => Some(format!("the answers cannot be written: {error}")),
-        }
-    }
-
-    /// The exit status that tells of it.
-    pub fn status(&self) -> u8 {
-        match self {
-            Stop::Mistake { .. } => DIFFERENT,
-            _ => NOT_RUN,
-        }
-    }
-}
+/// A bridge with its stores.
+type Bridge = raftershim::Bridge<Vec<u8>, Vec<u8>>;
 
 /// Plays a whole script. What is said goes to `out`, the counts last.
 ///
@@ -75,51 +21,42 @@ where
     O: Write + ?Sized,
 {
     let mut player = Player::new().map_err(Stop::Refused)?;
-    let mut bytes = Vec::new();
-    for line in 1.. {
-        bytes.clear();
-        let mut input = Read::take(&mut *input, LONGEST_LINE as u64 + 1);
-        if input.read_until(b'\n', &mut bytes).map_err(Stop::Reading)? == 0 {
-            break;
-        }
-        let step = step(line, &bytes).map_err(|sentence| Stop::Mistake { line, sentence })?;
-        if let Some(step) = step {
-            player.play(line, &step, out).map_err(Stop::Writing)?;
-        }
+    for step in Steps::new(input) {
+        let (line, step) = step.map_err(Stop::Unread)?;
+        player.play(line, &step, out).map_err(Stop::Writing)?;
     }
-    writeln!(out, "{}", say::counts(player.counts)).map_err(Stop::Writing)?;
+    writeln!(out, "{}", player.counts).map_err(Stop::Writing)?;
     Ok(player.counts)
 }
 
-/// The call of a line as it stands in the file.
-fn step(line: u64, bytes: &[u8]) -> Result<Option<Step>, String> {
-    if bytes.len() > LONGEST_LINE {
-        return Err(format!(
-            "expected a line of at most {LONGEST_LINE} bytes, found a longer one"
-        ));
-    }
-    let text =
-        std::str::from_utf8(bytes).map_err(|_| "expected text in UTF-8, found other bytes")?;
-    // Some editors put a mark before the first character of a file.
-    let text = text
-        .strip_prefix('\u{feff}')
-        .filter(|_| line == 1)
-        .unwrap_or(text);
-    script::parse(text)
+fn create(receive: u32, transmit: u32, margin: u32) -> Result<Bridge, BadSize> {
+    let stores = Stores {
+        receive: vec![0; receive as usize],
+        transmit: vec![0; transmit as usize],
+    };
+    Bridge::create(stores, margin)
 }
 
-/// The bridge that a script plays on, and the counts so far.
+/// Where a script plays.
+enum Place {
+    /// On this bridge.
+    There(Bridge),
+    /// Nowhere, since the create in this line was refused.
+    Nowhere(u64),
+}
+
+/// Where a script plays, and the counts so far.
 struct Player {
-    bridge: Bridge<Vec<u8>, Vec<u8>>,
-    /// Whether the script knows which bridge it plays on: it made one, or was told.
+    place: Place,
+    /// Whether the script knows where it plays: it had a create, or was told.
     told: bool,
     counts: Counts,
 }
 
 impl Player {
-    fn new() -> Result<Player, Refusal> {
+    fn new() -> Result<Player, BadSize> {
         Ok(Player {
-            bridge: create(DEFAULT_STORE, DEFAULT_STORE, DEFAULT_MARGIN)?,
+            place: Place::There(create(DEFAULT_STORE, DEFAULT_STORE, DEFAULT_MARGIN)?),
             told: false,
             counts: Counts::default(),
         })
@@ -135,50 +72,70 @@ impl Player {
             let sentence = say::default_bridge(DEFAULT_STORE, DEFAULT_MARGIN);
             writeln!(out, "line {line}: {sentence}")?;
         }
-        let said = self.answer(&step.call);
-        let sentence = self.compared(&said, step.expected.as_deref());
+        let said = self.answer(line, step);
+        let sentence = self.counted(line, &said, step.expected.as_ref());
         writeln!(out, "line {line}: {sentence}")
     }
 
-    fn answer(&mut self, call: &Call) -> Said {
-        let bridge = &mut self.bridge;
-        Said::Answered(match *call {
+    fn answer(&mut self, line: u64, step: &Step) -> Said {
+        match step.call {
             Call::Create {
                 receive,
                 transmit,
                 margin,
-            } => self.create(receive, transmit, margin),
-            Call::Reset => bridge.reset(),
-            Call::Register { number, value } => bridge.write_register(number, value),
-            Call::Line(ref bytes) => self.line(bytes),
-            Call::Break => bridge.line_break(),
-            Call::Key => bridge.key(),
-            Call::Next => bridge.next_line_byte(),
-            Call::Frame(frame) => bridge.loop_frame(frame),
-            Call::Show(side) => return Said::Shown(bridge.show(side).to_vec()),
-            Call::State => return Said::Facts(say::facts(&bridge.state())),
-        })
-    }
-
-    /// Puts a new bridge in the place of the one that was there; a refused create leaves it there.
-    fn create(&mut self, receive: u32, transmit: u32, margin: u32) -> Answered {
-        self.bridge = create(receive, transmit, margin)?;
-        self.told = true;
-        Ok(Answer::Done)
-    }
-
-    /// Takes line bytes up to the first that is refused.
-    fn line(&mut self, bytes: &[u8]) -> Answered {
-        for &byte in bytes {
-            self.bridge.line_byte(byte)?;
+            } => self.create(line, create(receive, transmit, margin), step),
+            Call::Reset => self.on(|bridge| said(bridge.reset())),
+            Call::Restore(ref block) => self.on(|bridge| said(restore(bridge, block))),
+            Call::Register { number, value } => {
+                self.on(|bridge| said(write(bridge, number, value)))
+            }
+            Call::Line(ref bytes) => self.on(|bridge| take_all(bridge, bytes)),
+            Call::Break => self.on(|bridge| said(bridge.line_break())),
+            Call::Key => self.on(|bridge| said(bridge.key())),
+            Call::Next => self.on(|bridge| said(bridge.next_line_byte())),
+            Call::Frame(frame) => self.on(|bridge| said(pass(bridge, frame))),
+            Call::Show(side) => self.on(|bridge| Said::Shown(bridge.show(named(side)).to_vec())),
+            Call::State => self.on(|bridge| match bridge.state() {
+                Ok(state) => Said::Facts(say::facts(&state)),
+                Err(refusal) => Said::refused(refusal, &refusal),
+            }),
         }
-        Ok(Answer::Done)
     }
 
-    /// The sentence to say, counted if an answer was expected.
-    fn compared(&mut self, said: &Said, expected: Option<&str>) -> String {
+    /// Makes a call on the bridge, if there is one.
+    fn on(&mut self, make: impl FnOnce(&mut Bridge) -> Said) -> Said {
+        match &mut self.place {
+            Place::There(bridge) => make(bridge),
+            Place::Nowhere(line) => Said::NotPlayed { refused: *line },
+        }
+    }
+
+    /// Puts a new bridge in the place of the one that was there. A refused create leaves that one
+    /// there if the script made it and expects the refusal. Else the script wanted another bridge
+    /// than there is, and plays nowhere until the next create.
+    fn create(&mut self, line: u64, created: Result<Bridge, BadSize>, step: &Step) -> Said {
+        let told = std::mem::replace(&mut self.told, true);
+        match created {
+            Ok(bridge) => {
+                self.place = Place::There(bridge);
+                Said::Answered(Answer::Done)
+            }
+            Err(bad) => {
+                let said = Said::refused(Refusal::from(bad), &bad);
+                let expected = step.expected.as_ref();
+                let stays = expected.map_or(false, |expected| said.meeting(expected).is_some());
+                if !(told && stays) {
+                    self.place = Place::Nowhere(line);
+                }
+                said
+            }
+        }
+    }
+
+    /// The sentence to say, counted.
+    fn counted(&mut self, line: u64, said: &Said, expected: Option<&Expected>) -> String {
+        self.counts.calls += 1;
         match expected.map(|expected| (expected, said.meeting(expected))) {
-            None => said.to_string(),
             Some((_, Some(sentence))) => {
                 self.counts.as_expected += 1;
                 sentence
@@ -187,11 +144,57 @@ impl Player {
                 self.counts.differ += 1;
                 said.different(expected)
             }
+            None => {
+                match said {
+                    Said::Refused { .. } => self.counts.refused(line),
+                    Said::NotPlayed { .. } => self.counts.not_played(line),
+                    _ => {}
+                }
+                said.to_string()
+            }
         }
     }
 }
 
-fn create(receive: u32, transmit: u32, margin: u32) -> Result<Bridge<Vec<u8>, Vec<u8>>, Refusal> {
-    let (receive, transmit) = (vec![0; receive as usize], vec![0; transmit as usize]);
-    Bridge::create(receive, transmit, margin)
+/// What there is to say to a call that answers so.
+fn said<T: Into<Answer>>(answered: Result<T, Refusal>) -> Said {
+    match answered {
+        Ok(answer) => Said::Answered(answer.into()),
+        Err(refusal) => Said::refused(refusal, &refusal),
+    }
+}
+
+/// Gives the bridge a saved block; one that does not fit leaves the bridge as it was.
+fn restore(bridge: &mut Bridge, block: &[u8]) -> Result<(), Refusal> {
+    let (_, stores) = bridge.clone().into_parts();
+    *bridge = Bridge::restore(Saved::try_from(block)?, stores)?;
+    Ok(())
+}
+
+/// Writes a register; what is no register and no byte is refused in the order of the numbers.
+fn write(bridge: &mut Bridge, number: u32, value: u32) -> Result<(), Refusal> {
+    let register = Register::try_from(number)?;
+    let value = u8::try_from(value).map_err(|_| Refusal::VALUE_TOO_LARGE)?;
+    bridge.write_register(register, value)
+}
+
+fn pass(bridge: &mut Bridge, frame: u32) -> Result<Frame, Refusal> {
+    bridge.loop_frame(Frame::try_from(frame)?)
+}
+
+/// Takes line bytes up to the first that is refused.
+fn take_all(bridge: &mut Bridge, bytes: &[u8]) -> Said {
+    let taken = bytes.iter().map(|&byte| bridge.line_byte(byte));
+    match taken.collect::<Result<Vec<LineByte>, Refusal>>() {
+        Ok(taken) => Said::Taken(taken),
+        Err(refusal) => Said::refused(refusal, &refusal),
+    }
+}
+
+/// The side that a script names.
+fn named(side: script::Side) -> Side {
+    match side {
+        script::Side::Receive => Side::Receive,
+        script::Side::Transmit => Side::Transmit,
+    }
 }

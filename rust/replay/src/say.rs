@@ -1,10 +1,9 @@
-//! All sentences that the program says, in words that a screen reader reads well.
+//! The sentences of the answers, in words that a screen reader reads well.
 
-use crate::run::Counts;
-use raftershim::{Answer, Answered, Registers, State};
-use std::ffi::OsStr;
+use crate::counts::number_of;
+use raftershim::{Answer, LineByte, Refusal, Register, State, Talker};
+use script::Expected;
 use std::fmt;
-use std::io;
 
 /// What `--help` says.
 pub const HELP: &str = "\
@@ -16,8 +15,10 @@ Usage: replay without an argument reads the script from standard input.
 A script has one call a line. Numbers are decimal.
 create 64 64 8: make a bridge with these lengths of the receive and the transmit store and this margin.
 reset: give the bridge the state that create gave.
+restore 1 8 0 and so on: put the bridge together again from the 56 bytes of a saved block, on its stores as they are.
 register R10 8: write a register. It is R00 to R12, C00 to C05, or a number.
 line 50: take a byte from the line. Several may follow, and text in quotation marks: line \"2.5\" 13 10.
+The answer to line says how many bytes were stored, lost, taken as go or taken as stop, as in 4 stored, 1 lost.
 break: take a break on the line.
 key: take a press of the MSRQ key.
 next: give the next line byte.
@@ -27,49 +28,80 @@ state: say the state, a fact a line.
 
 A script that does not start with create gets stores of 64 bytes and margin 8.
 A store can have at most 1000000 bytes here. The bridge judges all other values.
+A create that is refused as expected leaves the bridge that the script made before it.
+After any other refused create no line is played until the next create.
 A comment starts with # and goes to the end of the line. Empty lines are passed over.
+A line has at most 4096 bytes.
 
 Each answer is said after the number of its line, as in line 7: frame 0,50.
 The sign => after a call is followed by the answer that the script expects, as in frame 5,96 => frame 0,50.
+The words count, and not the marks between them or the case of letters: bytes lost 0 is bytes lost: 0.
 For a refusal its number suffices, as in frame 0,50 => refusal 4.
 After state one fact is expected, in the words of state, and then only that fact is said: state => overrun seen.
 If the answer is another one, the line says what was expected and what the answer was, and the run goes on.
+A refusal that is not expected counts as a difference, and so does a line that is not played.
 The last line says how many lines were as expected and how many differ.
 A mistake in the script ends the run, and the program says in which line it is.
 
-The exit status is 0 if no answer differs.
-It is 1 if an answer differs or the script has a mistake.
+The exit status is 0 if the script expects answers and every line was as expected.
+It is 1 if a line was not as expected or the script has a mistake.
 It is 2 if the arguments are wrong, the script cannot be read or the answers cannot be written.
+It is 3 if no line expects an answer, as in an empty script: nothing was compared.
 ";
 
 /// What there is to say to a call.
 #[derive(Clone, Debug, PartialEq, Eq)]
 pub enum Said {
     /// What the bridge answered.
-    Answered(Answered),
+    Answered(Answer),
+    /// What became of each line byte.
+    Taken(Vec<LineByte>),
     /// The bytes that a store showed.
     Shown(Vec<u8>),
     /// The facts of the state.
     Facts(Vec<String>),
+    /// The call was refused.
+    Refused {
+        /// The refusal by its number.
+        refusal: Refusal,
+        /// The refusal in a sentence that starts with its number.
+        sentence: String,
+    },
+    /// There is no bridge to play on.
+    NotPlayed {
+        /// The line of the create that was refused.
+        refused: u64,
+    },
 }
 
 impl Said {
+    /// A refusal, by its number and its sentence.
+    pub fn refused(refusal: Refusal, sentence: &dyn fmt::Display) -> Said {
+        Said::Refused {
+            refusal,
+            sentence: sentence.to_string(),
+        }
+    }
+
     /// The sentence that is as expected, if there is one.
-    pub fn meeting(&self, expected: &str) -> Option<String> {
-        let met = match self {
-            Said::Answered(Err(refusal)) if expected == format!("refusal {}", refusal.number()) => {
-                return Some(refusal.to_string());
+    pub fn meeting(&self, expected: &Expected) -> Option<String> {
+        let heard = self.to_string();
+        match self {
+            Said::NotPlayed { .. } => None,
+            Said::Facts(facts) => facts.iter().find(|fact| expected.is(fact)).cloned(),
+            Said::Refused { refusal, .. } => {
+                let number = format!("refusal {}", refusal.number());
+                let met = expected.is(&number) || expected.is(&heard);
+                met.then_some(heard)
             }
-            Said::Facts(facts) => facts.iter().any(|fact| fact == expected),
-            said => said.to_string() == expected,
-        };
-        Some(expected.to_string()).filter(|_| met)
+            _ => expected.is(&heard).then_some(heard),
+        }
     }
 
     /// The sentence about an answer that is not the expected one.
-    pub fn different(&self, expected: &str) -> String {
+    pub fn different(&self, expected: &Expected) -> String {
         match self {
-            Said::Facts(_) => format!("expected {expected}, but {self}"),
+            Said::Facts(_) | Said::NotPlayed { .. } => format!("expected {expected}, but {self}"),
             _ => format!("expected {expected}, the answer was {self}"),
         }
     }
@@ -78,8 +110,8 @@ impl Said {
 impl fmt::Display for Said {
     fn fmt(&self, f: &mut fmt::Formatter<'_>) -> fmt::Result {
         match self {
-            Said::Answered(Ok(answer)) => write!(f, "{answer}"),
-            Said::Answered(Err(refusal)) => write!(f, "{refusal}"),
+            Said::Answered(answer) => write!(f, "{answer}"),
+            Said::Taken(bytes) => f.write_str(&became(bytes)),
             Said::Shown(bytes) if bytes.is_empty() => f.write_str("nothing"),
             Said::Shown(bytes) => {
                 f.write_str(&number_of(bytes.len() as u64, "byte", "bytes"))?;
@@ -90,8 +122,29 @@ impl fmt::Display for Said {
                 f.write_str("the state is this")?;
                 facts.iter().try_for_each(|fact| write!(f, "\n{fact}"))
             }
+            Said::Refused { sentence, .. } => f.write_str(sentence),
+            Said::NotPlayed { refused } => write!(
+                f,
+                "this is not played, since the create in line {refused} was refused"
+            ),
         }
     }
+}
+
+/// What became of line bytes, by how many of them, in the order in which it first happened.
+fn became(bytes: &[LineByte]) -> String {
+    let mut kinds: Vec<(LineByte, usize)> = Vec::new();
+    for byte in bytes {
+        match kinds.iter_mut().find(|(kind, _)| kind == byte) {
+            Some((_, count)) => *count += 1,
+            None => kinds.push((*byte, 1)),
+        }
+    }
+    let parts: Vec<String> = kinds
+        .iter()
+        .map(|(kind, n)| format!("{n} {kind}"))
+        .collect();
+    parts.join(", ")
 }
 
 /// The facts of a state, each always said, in one of its forms.
@@ -99,24 +152,24 @@ pub fn facts(state: &State) -> Vec<String> {
     let mut facts = role_facts(state);
     facts.extend(store_facts(state));
     facts.extend(status_facts(state));
-    facts.extend(register_facts(&state.registers));
+    facts.extend(register_facts(state));
     facts
 }
 
 fn role_facts(state: &State) -> Vec<String> {
     let address = match state.address {
-        31 => "no address".into(),
-        address => format!("address {address}"),
+        Some(address) => format!("address {address}"),
+        None => "no address".into(),
     };
     let talker = match state.talker {
-        0 => "not talker",
-        1 => "talker, addressed",
-        2 => "talker, active with data",
-        _ => "talker, active with status",
+        Talker::Not => "not talker",
+        Talker::Addressed => "talker, addressed",
+        Talker::Data => "talker, active with data",
+        Talker::Status => "talker, active with status",
     };
-    let under_way = match state.talker {
-        0 | 1 => "no frame under way".into(),
-        _ => format!("{} under way", Answer::Frame(state.under_way)),
+    let under_way = match state.under_way {
+        Some(frame) => format!("frame {frame} under way"),
+        None => "no frame under way".into(),
     };
     vec![
         address,
@@ -155,7 +208,10 @@ fn store_facts(state: &State) -> Vec<String> {
 }
 
 fn status_facts(state: &State) -> Vec<String> {
-    let request = match (state.request, state.registers.r00 & 8) {
+    let request = match (
+        state.request,
+        state.registers.r00 & Register::R00_SHOW_REQUESTS,
+    ) {
         (false, _) => "no service request",
         (true, 0) => "service request, hidden",
         (true, _) => "service request, shown",
@@ -178,16 +234,16 @@ fn status_facts(state: &State) -> Vec<String> {
     ]
 }
 
-fn register_facts(r: &Registers) -> Vec<String> {
+/// The registers with their values, in two facts.
+fn register_facts(state: &State) -> Vec<String> {
+    let values = |registers: &[Register]| {
+        let value = |register: &Register| format!("{register} {}", state.registers.get(*register));
+        registers.iter().map(value).collect::<Vec<_>>().join(", ")
+    };
+    let (control, characters) = Register::ALL.split_at(5);
     vec![
-        format!(
-            "control registers: R00 {}, R01 {}, R02 {}, R10 {}, R11 {}",
-            r.r00, r.r01, r.r02, r.r10, r.r11
-        ),
-        format!(
-            "character registers: C00 {}, C01 {}, C02 {}, C03 {}, C04 {}, C05 {}",
-            r.c00, r.c01, r.c02, r.c03, r.c04, r.c05
-        ),
+        format!("control registers: {}", values(control)),
+        format!("character registers: {}", values(characters)),
     ]
 }
 
@@ -196,41 +252,6 @@ pub fn default_bridge(store: u32, margin: u32) -> String {
     format!("no create so far, so both stores have {store} bytes and the margin is {margin}")
 }
 
-/// The last sentence of a run.
-pub fn counts(counts: Counts) -> String {
-    let as_expected = number_of(counts.as_expected, "line", "lines");
-    let differ = number_of(counts.differ, "differs", "differ");
-    format!("{as_expected} as expected, {differ}")
-}
-
-/// About an argument that starts with a hyphen.
-pub fn unknown_option(option: &OsStr) -> String {
-    format!(
-        "there is no option {}, try replay --help",
-        option.to_string_lossy()
-    )
-}
-
-/// About an argument after the script.
-pub fn too_many(argument: &OsStr) -> String {
-    format!(
-        "expected one script, found {} after it",
-        argument.to_string_lossy()
-    )
-}
-
-/// About a script that cannot be opened.
-pub fn cannot_open(path: &OsStr, error: &io::Error) -> String {
-    format!(
-        "the script {} cannot be opened: {error}",
-        path.to_string_lossy()
-    )
-}
-
 fn either(is: bool, yes: &str, no: &str) -> String {
     String::from(if is { yes } else { no })
-}
-
-fn number_of(number: u64, one: &str, many: &str) -> String {
-    format!("{number} {}", if number == 1 { one } else { many })
 }

@@ -1,25 +1,10 @@
 //! The program as a whole: arguments, exit statuses, mistakes, and writing that fails.
 
-use replay::{program, say};
-use std::ffi::OsString;
+mod played;
+
+use played::{play, strings, with};
+use raftershim_replay::{program, say, AS_EXPECTED, DIFFERENT, NOTHING_EXPECTED, NOT_RUN};
 use std::io::{self, ErrorKind, Write};
-
-/// The exit status, what was said and what was said about mistakes.
-fn with(arguments: &[&str], input: &[u8]) -> (u8, String, String) {
-    let arguments: Vec<OsString> = arguments.iter().map(OsString::from).collect();
-    let (mut out, mut err) = (Vec::new(), Vec::new());
-    let status = program(&arguments, &mut &*input, &mut out, &mut err);
-    let text = |bytes| String::from_utf8(bytes).expect("sentences are text");
-    (status, text(out), text(err))
-}
-
-fn play(script: &str) -> (u8, String, String) {
-    with(&[], script.as_bytes())
-}
-
-fn strings(status: u8, said: &str, mistakes: &str) -> (u8, String, String) {
-    (status, said.to_string(), mistakes.to_string())
-}
 
 #[test]
 fn arguments() {
@@ -46,49 +31,6 @@ fn a_script_from_a_file() {
 }
 
 #[test]
-fn a_script_without_create_is_told_its_bridge() {
-    let told = "no create so far, so both stores have 64 bytes and the margin is 8";
-    let none = "0 lines as expected, 0 differ\n";
-    let said = format!("line 2: {told}\nline 2: done\nline 3: no line byte\n{none}");
-    assert_eq!(play("# key\nkey\nnext\n"), strings(0, &said, ""));
-    let said = format!("line 1: refusal 1\nline 2: {told}\nline 2: no line byte\n{none}");
-    let (status, heard, _) = play("create 1 1 1\nnext");
-    assert_eq!(status, 0);
-    assert_eq!(without_reasons(&heard), said);
-    assert_eq!(play(""), strings(0, none, ""));
-}
-
-/// The refusals by their numbers alone.
-fn without_reasons(said: &str) -> String {
-    let number = |line: &str| match line.find("refusal ") {
-        Some(place) => format!("{}\n", &line[..place + "refusal 1".len()]),
-        None => format!("{line}\n"),
-    };
-    said.lines().map(number).collect()
-}
-
-#[test]
-fn a_refused_create_leaves_the_bridge() {
-    let script = "create 4 3 1\nline 7\ncreate 3 3 1 => refusal 1\nshow receive => 1 byte: 7\n";
-    assert_eq!(play(script).0, 0);
-    let script = "create 4 3 1\nline 7\ncreate 4 3 1 => done\nshow receive => nothing\n";
-    assert_eq!(play(script).0, 0);
-}
-
-#[test]
-fn refusals_are_named() {
-    let (_, said, _) = play("create 4 3 1\nframe 2048\nregister R03 1 => refusal 5");
-    let lines: Vec<&str> = said.lines().collect();
-    assert!(lines[1].starts_with("line 2: refusal 3: "), "{said}");
-    assert!(lines[2].starts_with("line 3: refusal 5: "), "{said}");
-    let whole = lines[1].trim_start_matches("line 2: ");
-    assert_eq!(play(&format!("frame 2048 => {whole}")).0, 0);
-    for wrong in ["refusal", "refusal 30", "refusal 3:", "3", "frame 8,0"] {
-        assert_eq!(play(&format!("frame 2048 => {wrong}")).0, 1, "{wrong}");
-    }
-}
-
-#[test]
 fn a_mistake_ends_the_run() {
     let (status, said, mistakes) = play("create 4 3 1\nline 300\nnext\n");
     assert_eq!((status, said.as_str()), (1, "line 1: done\n"));
@@ -106,7 +48,7 @@ fn files_of_other_systems() {
     let (status, _, mistakes) = play(&"#".repeat(5000));
     let sentence = "line 1: expected a line of at most 4096 bytes, found a longer one\n";
     assert_eq!((status, mistakes.as_str()), (1, sentence));
-    assert_eq!(play(&"#".repeat(4096)).0, 0);
+    assert_eq!(play(&"#".repeat(4096)).2, "");
 }
 
 /// Takes some bytes and then fails.
@@ -144,50 +86,17 @@ fn a_broken_pipe_ends_quietly() {
     assert!(mistakes.starts_with("the answers cannot be written: "));
 }
 
-/// A bridge in use, all of whose facts are to be said.
-const IN_USE: &str = "create 4 3 1\nregister R00 9\nframe 4,146\nframe 5,135\nframe 4,39\n\
-    frame 0,1\nframe 4,71\nline 1 2 3 4 5\nline 19\nkey\nframe 5,96\nframe 5,66\n";
-
-/// Its facts, one a line.
-const FACTS: &str = "\
-line 13: the state is this
-address 7
-talker, active with data
-frame 0,1 under way
-finishing
-not listener
-remote
-remote enabled
-receive store: 3 of 4 bytes held
-transmit store: 1 of 3 bytes held
-margin 1
-holding the line off
-our sending is forbidden
-stop owed
-overrun seen
-no break seen
-key seen
-overrun noted since the last status byte
-no break noted since the last status byte
-key noted since the last status byte
-service request, shown
-bytes stored: 4
-bytes lost: 1
-frames sent: 1
-control registers: R00 9, R01 0, R02 0, R10 0, R11 8
-character registers: C00 13, C01 10, C02 13, C03 10, C04 17, C05 19
-0 lines as expected, 0 differ
-";
-
 #[test]
-fn the_state_fact_by_fact() {
-    let (_, said, _) = play(&format!("{IN_USE}state\n"));
-    assert!(said.ends_with(FACTS), "{said}");
-    let (status, said, _) = play(&format!("{IN_USE}state => stop owed\n"));
-    assert_eq!(status, 0);
-    assert!(said.ends_with("\nline 13: stop owed\n1 line as expected, 0 differ\n"));
-    let (status, said, _) = play(&format!("{IN_USE}state => go owed\n"));
-    assert_eq!(status, 1);
-    let different = "\nline 13: expected go owed, but the state is this\naddress 7\n";
-    assert!(said.contains(different), "{said}");
+fn the_help_tells_the_limits_and_the_exit_statuses() {
+    let told = [
+        format!("A line has at most {} bytes.", script::LONGEST_LINE),
+        format!("at most {} bytes here", script::LONGEST_STORE),
+        format!("status is {AS_EXPECTED} if the script expects answers"),
+        format!("It is {DIFFERENT} if a line was not as expected"),
+        format!("It is {NOT_RUN} if the arguments are wrong"),
+        format!("It is {NOTHING_EXPECTED} if no line expects an answer"),
+    ];
+    for sentence in told {
+        assert!(say::HELP.contains(&sentence), "{sentence}");
+    }
 }

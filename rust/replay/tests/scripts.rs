@@ -1,26 +1,10 @@
 //! The scripts of the folder scripts, and what happens when an answer is not the expected one.
 
-use replay::program;
+mod played;
+
+use played::play;
 use std::fs;
 use std::path::PathBuf;
-
-/// What came of a run: the exit status, what was said, and what was said about mistakes.
-struct Ran {
-    status: u8,
-    said: String,
-    mistakes: String,
-}
-
-fn play(script: &str) -> Ran {
-    let (mut out, mut err) = (Vec::new(), Vec::new());
-    let status = program(&[], &mut script.as_bytes(), &mut out, &mut err);
-    let text = |bytes| String::from_utf8(bytes).expect("sentences are text");
-    Ran {
-        status,
-        said: text(out),
-        mistakes: text(err),
-    }
-}
 
 fn folder(name: &str) -> PathBuf {
     PathBuf::from(env!("CARGO_MANIFEST_DIR")).join(name)
@@ -53,11 +37,11 @@ fn every_script_is_as_expected() {
     let scripts = scripts();
     assert!(scripts.len() >= 7, "only {} scripts", scripts.len());
     for (name, script) in scripts {
-        let ran = play(&script);
+        let (status, said, mistakes) = play(&script);
         let expected = expecting(&script).len();
         let last = format!("{expected} lines as expected, 0 differ");
-        assert_eq!(ran.said.lines().last(), Some(last.as_str()), "{name}");
-        assert_eq!((ran.status, ran.mistakes.as_str()), (0, ""), "{name}");
+        assert_eq!(said.lines().last(), Some(last.as_str()), "{name}");
+        assert_eq!((status, mistakes.as_str()), (0, ""), "{name}");
         assert!(expected > 10, "{name}");
     }
 }
@@ -71,9 +55,8 @@ fn no_expected_answer_is_passed_over() {
         expecting
             .iter()
             .for_each(|&number| lines[number].push_str(" or not"));
-        let ran = play(&lines.join("\n"));
-        let (named, right): (Vec<&str>, Vec<&str>) = ran
-            .said
+        let (status, said, _) = play(&lines.join("\n"));
+        let (named, right): (Vec<&str>, Vec<&str>) = said
             .lines()
             .filter(|line| line.starts_with("line "))
             .partition(|line| line.contains(": expected "));
@@ -84,15 +67,15 @@ fn no_expected_answer_is_passed_over() {
             assert!(line.starts_with(start), "{name}: {line}");
         }
         let last = format!("0 lines as expected, {} differ", expecting.len());
-        assert_eq!(ran.said.lines().last(), Some(last.as_str()), "{name}");
-        assert_eq!(ran.status, 1, "{name}");
+        assert_eq!(said.lines().last(), Some(last.as_str()), "{name}");
+        assert_eq!(status, 1, "{name}");
     }
 }
 
 #[test]
 fn a_wrong_script_fails_and_its_lines_are_named() {
     let read = |name| fs::read_to_string(folder("tests/data").join(name)).expect("a file");
-    let ran = play(&read("wrong.script"));
-    assert_eq!((ran.status, ran.mistakes.as_str()), (1, ""));
-    assert_eq!(ran.said, read("wrong.said"));
+    let (status, said, mistakes) = play(&read("wrong.script"));
+    assert_eq!((status, mistakes.as_str()), (1, ""));
+    assert_eq!(said, read("wrong.said"));
 }

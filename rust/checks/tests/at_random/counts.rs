@@ -1,8 +1,8 @@
 //! What the runs met, so that a reader sees that nothing was empty.
 
-use checks::call::Call;
-use checks::seen::Seen;
 use model::boundary::{kind, value, REFUSED};
+use raftershim_checks::call::Call;
+use raftershim_checks::seen::Seen;
 use std::fmt;
 
 #[derive(Default)]

@@ -1,12 +1,11 @@
 //! Blocks that are damaged or of another length, and stores of other lengths than recorded.
 
-use crate::counts::Counts;
 use crate::states::Drawn;
-use checks::call::{frame, Call};
-use checks::pair::Pair;
 use model::block::{pack, LEN};
-use proptest::collection::vec;
-use proptest::prelude::*;
+use raftershim_checks::call::{frame, Call};
+use raftershim_checks::implementation::Implementation;
+use raftershim_checks::pair::Pair;
+use raftershim_checks::random::Random;
 
 /// What is done to a good block and its stores.
 #[derive(Clone, Debug)]
@@ -21,26 +20,40 @@ pub enum Damage {
     Stores(isize, isize),
 }
 
-pub fn damage() -> impl Strategy<Value = Damage> {
-    let byte = prop_oneof![2 => 0_u8..6, 1 => any::<u8>()];
-    let lengths = prop_oneof![
-        Just(0_usize),
-        Just(LEN - 1),
-        Just(LEN + 1),
-        0_usize..=2 * LEN
-    ];
-    let more = || prop_oneof![4 => -3_isize..=3, 1 => Just(1_isize << 16), 1 => Just(-40_000)];
-    prop_oneof![
-        4 => vec((0..LEN, byte), 1..4).prop_map(Damage::Places),
-        1 => vec(any::<u8>(), LEN).prop_map(Damage::Whole),
-        1 => lengths.prop_map(Damage::Length),
-        2 => (more(), more()).prop_map(|(rx, tx)| Damage::Stores(rx, tx)),
-    ]
+pub fn damage(random: &mut Random) -> Damage {
+    match random.below(8) {
+        0..=3 => {
+            let count = random.within(1..=3);
+            Damage::Places((0..count).map(|_| place(random)).collect())
+        }
+        4 => Damage::Whole((0..LEN).map(|_| random.byte()).collect()),
+        5 => {
+            let any = random.within(0..=2 * LEN);
+            Damage::Length(random.one_of(&[0, LEN - 1, LEN + 1, any]))
+        }
+        _ => Damage::Stores(more(random), more(random)),
+    }
+}
+
+/// A place of the block with another byte, mostly a small one.
+fn place(random: &mut Random) -> (usize, u8) {
+    let place = random.below(LEN);
+    let any = random.byte();
+    (place, random.one_of(&[any % 6, any % 6, any]))
+}
+
+/// How much longer a store is, or shorter: mostly a little.
+fn more(random: &mut Random) -> isize {
+    match random.below(6) {
+        0..=3 => random.below(7) as isize - 3,
+        4 => 1 << 16,
+        _ => -40_000,
+    }
 }
 
 impl Damage {
-    /// Archive and model on the damaged buffers.
-    pub fn pair(&self, drawn: &Drawn) -> Pair {
+    /// These two implementations on the damaged buffers.
+    pub fn pair(&self, both: [Implementation; 2], drawn: &Drawn) -> Pair {
         let mut block = pack(&drawn.bridge).to_vec();
         let (mut rx, mut tx) = (drawn.rx.clone(), drawn.tx.clone());
         match self {
@@ -53,15 +66,14 @@ impl Damage {
                 tx.resize(changed(tx.len(), *more_tx), 1);
             }
         }
-        Pair::holding(&block, &rx, &tx)
+        Pair::of(both, &block, &rx, &tx)
     }
 }
 
-/// Every call once, with numbers in and out of range, and last a create.
-pub fn every_call(mut pair: Pair, number: u32, counts: &mut Counts) -> Result<(), String> {
-    counts.runs += 1;
+/// Every call once, with numbers in and out of range.
+pub fn every_call(number: u32) -> Vec<Call> {
     let low = number >> 8 & 0x1f;
-    let calls = [
+    vec![
         Call::Show(0),
         Call::Show(1),
         Call::Show(number >> 30),
@@ -79,11 +91,10 @@ pub fn every_call(mut pair: Pair, number: u32, counts: &mut Counts) -> Result<()
         frame(5, 96),
         frame(number & 3, 50),
         Call::Reset,
-    ];
-    for call in calls {
-        counts.answered(call, pair.call(call)?);
-    }
-    let margin = [1, number & 0x7ff, number][number as usize % 3];
-    counts.created(pair.recreate(margin)?);
-    Ok(())
+    ]
+}
+
+/// A margin for create, in and out of range.
+pub fn margin(number: u32) -> u32 {
+    [1, number & 0x7ff, number][number as usize % 3]
 }

@@ -1,55 +1,65 @@
-//! The source of the random draws.
+//! Draws runs at random, and tells the first difference by a short script.
 
-use proptest::prelude::*;
-use proptest::test_runner::{Config, RngAlgorithm, TestError, TestRng, TestRunner};
+use raftershim_checks::random::Random;
+use raftershim_checks::shrink::shrunk;
+use std::fmt::Debug;
 use std::time::{SystemTime, UNIX_EPOCH};
 
-/// The number that the draws start from.
-fn seed() -> u64 {
-    match std::env::var("AT_RANDOM_SEED").as_deref() {
-        Err(_) => 0,
-        Ok("fresh") => {
-            let now = SystemTime::now().duration_since(UNIX_EPOCH);
-            now.map_or(1, |time| time.as_micros() as u64)
-        }
-        Ok(word) => word.parse().expect("AT_RANDOM_SEED is a number or fresh"),
-    }
+/// A run that shows a difference, made short.
+#[derive(Debug)]
+pub struct Difference {
+    /// What the run starts at.
+    pub start: String,
+    /// How many steps are left of it.
+    pub steps: usize,
+    /// What differs, and the script that leads to it.
+    pub told: String,
 }
 
-/// How many times as many runs are drawn.
-fn times() -> u32 {
-    match std::env::var("AT_RANDOM").as_deref() {
-        Ok("long") => 30,
-        _ => 1,
-    }
+/// How many runs are drawn, and from which number on.
+#[derive(Clone, Copy, Debug)]
+pub struct Draws {
+    pub runs: usize,
+    pub seed: u64,
 }
 
-/// Draws so many times and holds the test for each; a failure is shrunk and told.
-pub fn held_for_all<S: Strategy>(
-    name: &str,
-    cases: u32,
-    strategy: &S,
-    test: impl Fn(S::Value) -> Result<(), String>,
-) {
-    let seed = seed();
-    // Said first, so that a run that dies without a word can be had again.
-    println!("at random, {name}: AT_RANDOM_SEED={seed}");
-    let mut bytes = [0; 32];
-    bytes[..8].copy_from_slice(&seed.to_le_bytes());
-    let config = Config {
-        cases: cases * times(),
-        failure_persistence: None,
-        max_shrink_iters: 20_000,
-        ..Config::default()
-    };
-    let rng = TestRng::from_seed(RngAlgorithm::ChaCha, &bytes);
-    let held = TestRunner::new_with_rng(config, rng)
-        .run(strategy, |value| test(value).map_err(TestCaseError::fail));
-    match held {
-        Ok(()) => {}
-        Err(TestError::Fail(why, drawn)) => {
-            panic!("{name}, AT_RANDOM_SEED={seed}: {why}\ndrawn: {drawn:?}")
+impl Draws {
+    /// So many runs; more of them and other ones if the environment says so.
+    pub fn asked_for(runs: usize) -> Draws {
+        let times = match std::env::var("AT_RANDOM").as_deref() {
+            Ok("long") => 30,
+            _ => 1,
+        };
+        let seed = match std::env::var("AT_RANDOM_SEED").as_deref() {
+            Err(_) => 0,
+            Ok("fresh") => {
+                let now = SystemTime::now().duration_since(UNIX_EPOCH);
+                now.map_or(1, |time| time.as_micros() as u64)
+            }
+            Ok(word) => word.parse().expect("AT_RANDOM_SEED is a number or fresh"),
+        };
+        Draws {
+            runs: runs * times,
+            seed,
         }
-        Err(TestError::Abort(why)) => panic!("{name}, AT_RANDOM_SEED={seed}: {why}"),
+    }
+
+    /// Draws runs, each a start and its steps, and tests each. The first that shows a difference
+    /// is made short.
+    pub fn first_difference<S: Debug, T: Clone>(
+        self,
+        mut draw: impl FnMut(&mut Random) -> (S, Vec<T>),
+        mut test: impl FnMut(&S, &[T]) -> Result<(), String>,
+    ) -> Option<Difference> {
+        let mut random = Random::seeded(self.seed);
+        (0..self.runs).find_map(|_| {
+            let (start, steps) = draw(&mut random);
+            let (steps, told) = shrunk(steps, |steps| test(&start, steps).err())?;
+            Some(Difference {
+                start: format!("{start:?}"),
+                steps: steps.len(),
+                told,
+            })
+        })
     }
 }

@@ -2,62 +2,67 @@
 //!
 //! The same runs every time, unless `AT_RANDOM_SEED` is set: to a number for the runs of that
 //! number, to `fresh` for runs that nobody has seen. With `AT_RANDOM=long` there are thirty times
-//! as many. A failure is shrunk to a few calls and printed as a replay script.
+//! as many. A run that shows a difference is made short and printed as a script for replay.
 
 mod counts;
 mod damage;
 mod draw;
 mod drive;
+mod planted;
+mod runs;
 mod sizes;
 mod states;
 mod steps;
 
-use checks::pair::Pair;
 use counts::Counts;
-use proptest::collection::vec;
-use proptest::prelude::*;
-use std::cell::RefCell;
+use draw::Draws;
+use raftershim_checks::implementation::{Implementation, ARCHIVE, BOTH, PEER};
+use runs::{Kind, FROM_CREATE, FROM_STATES, ON_DAMAGED};
+
+/// Runs of a kind, in which these two never differ.
+fn held(name: &str, both: [Implementation; 2], kind: Kind) -> Counts {
+    let draws = Draws::asked_for(kind.runs);
+    // Said first, so that a run that dies without a word can be had again.
+    println!("at random, {name}: AT_RANDOM_SEED={}", draws.seed);
+    let mut counts = Counts::default();
+    if let Some(found) = (kind.difference)(both, draws, &mut counts) {
+        let (seed, told, start) = (draws.seed, found.told, found.start);
+        panic!("{name}, AT_RANDOM_SEED={seed}: {told}\nstarted at {start}");
+    }
+    println!("at random, {name}: {counts}");
+    counts
+}
 
 #[test]
 fn runs_from_create() {
-    let counts = RefCell::new(Counts::default());
-    let drawn = (sizes::sizes(), vec(steps::step(), 1..200));
-    draw::held_for_all(
-        "runs from create",
-        1500,
-        &drawn,
-        |((rx_len, tx_len, margin), steps)| {
-            let pair = Pair::create(rx_len, tx_len, margin);
-            drive::drive(pair, &steps, &mut counts.borrow_mut())
-        },
-    );
-    let counts = counts.into_inner();
-    println!("at random, runs from create: {counts}");
+    let counts = held("runs from create", BOTH, FROM_CREATE);
     counts.assert_refusals(&[3, 4, 5, 6, 7, 8]);
     counts.assert_answers_and_events();
 }
 
 #[test]
 fn runs_from_states_that_calls_never_reach() {
-    let counts = RefCell::new(Counts::default());
-    let drawn = (states::state(), vec(steps::step(), 1..20));
-    draw::held_for_all("states never reached", 3000, &drawn, |(drawn, steps)| {
-        drive::drive(drawn.pair(), &steps, &mut counts.borrow_mut())
-    });
-    let counts = counts.into_inner();
-    println!("at random, runs from states that calls never reach: {counts}");
+    let name = "runs from states that calls never reach";
+    let counts = held(name, BOTH, FROM_STATES);
     counts.assert_refusals(&[3, 4, 5, 6, 7, 8]);
     counts.assert_answers_and_events();
 }
 
 #[test]
 fn damaged_blocks_and_other_lengths() {
-    let counts = RefCell::new(Counts::default());
-    let drawn = (states::state(), damage::damage(), any::<u32>());
-    draw::held_for_all("damaged blocks", 4000, &drawn, |(state, damage, number)| {
-        damage::every_call(damage.pair(&state), number, &mut counts.borrow_mut())
-    });
-    let counts = counts.into_inner();
-    println!("at random, damaged blocks and other lengths: {counts}");
+    let name = "damaged blocks and other lengths";
+    let counts = held(name, BOTH, ON_DAMAGED);
+    counts.assert_refusals(&[1, 2, 3, 4, 5, 6, 7, 8]);
+}
+
+/// The peer of the benchmarks answers as the archive does.
+#[test]
+fn the_peer_beside_the_archive() {
+    let both = [PEER, ARCHIVE];
+    let counts = held("peer, from create", both, FROM_CREATE);
+    counts.assert_refusals(&[3, 4, 5, 6, 7, 8]);
+    counts.assert_answers_and_events();
+    held("peer, from states", both, FROM_STATES);
+    let counts = held("peer, damaged blocks", both, ON_DAMAGED);
     counts.assert_refusals(&[1, 2, 3, 4, 5, 6, 7, 8]);
 }

@@ -1,25 +1,39 @@
 //! Sizes of stores and margins.
 
-use proptest::prelude::*;
+use raftershim_checks::random::Random;
 
 /// The largest store.
 const LARGEST: usize = 32_768;
 
-/// Lengths of the receive and the transmit store, and the margin; small ones often, since those
-/// fill.
-pub fn sizes() -> impl Strategy<Value = (usize, usize, u32)> {
-    let near = (1_u32..=8, 0_usize..24, 3_usize..24)
-        .prop_map(|(margin, more, tx_len)| (2 * margin as usize + 2 + more, tx_len, margin));
-    let any_margin = (1_u32..=1024).prop_flat_map(|margin| {
-        let rx_len = 2 * margin as usize + 2..=LARGEST;
-        (rx_len, 3..=LARGEST, Just(margin))
-    });
-    prop_oneof![
-        6 => Just((4, 3, 1)),
-        14 => near,
-        1 => Just((2 * 1024 + 2, 3, 1024)),
-        1 => Just((LARGEST, LARGEST, 1)),
-        1 => Just((LARGEST, LARGEST, 1024)),
-        1 => any_margin,
-    ]
+/// Lengths of the two stores, and the margin.
+#[derive(Clone, Copy, Debug)]
+pub struct Sizes {
+    pub rx_len: usize,
+    pub tx_len: usize,
+    pub margin: u32,
+}
+
+/// Sizes that are obeyed; small ones often, since those fill.
+pub fn sizes(random: &mut Random) -> Sizes {
+    let (rx_len, tx_len, margin) = match random.below(24) {
+        0..=5 => (4, 3, 1),
+        6..=19 => {
+            let margin = random.within(1..=8);
+            let rx_len = 2 * margin + 2 + random.below(24);
+            (rx_len, random.within(3..=23), margin)
+        }
+        20 => (2 * 1024 + 2, 3, 1024),
+        21 => (LARGEST, LARGEST, 1),
+        22 => (LARGEST, LARGEST, 1024),
+        _ => {
+            let margin = random.within(1..=1024);
+            let rx_len = random.within(2 * margin + 2..=LARGEST);
+            (rx_len, random.within(3..=LARGEST), margin)
+        }
+    };
+    Sizes {
+        rx_len,
+        tx_len,
+        margin: margin as u32,
+    }
 }

@@ -1,8 +1,8 @@
 //! The steps of a run: calls, and calls that depend on the state of the moment.
 
-use checks::call::{frame, Call};
 use model::{Bridge, ADDRESSED, IDLE, SERVICE, UNASSIGNED};
-use proptest::prelude::*;
+use raftershim_checks::call::{frame, Call};
+use raftershim_checks::random::Random;
 
 /// What a step does.
 #[derive(Clone, Copy, Debug)]
@@ -19,16 +19,24 @@ pub enum What {
     ToUs(u32),
 }
 
-/// A step: the same thing so many times.
+/// A step: a thing that is often done several times in a row.
 #[derive(Clone, Copy, Debug)]
 pub struct Step {
-    pub what: What,
-    pub times: u8,
+    what: What,
+    /// How often it is done already in this row.
+    done: u8,
+}
+
+impl Step {
+    /// The call in this state.
+    pub fn call(self, state: &Bridge) -> Call {
+        self.what.call(state, self.done)
+    }
 }
 
 impl What {
-    /// The call in this state, if it is done this often already in this step.
-    pub fn call(self, state: &Bridge, done: u8) -> Call {
+    /// The call in this state, if it is done this often already.
+    fn call(self, state: &Bridge, done: u8) -> Call {
         match self {
             What::Make(call) => call,
             What::Counting(byte) => Call::Line(byte.wrapping_add(done)),
@@ -43,18 +51,20 @@ impl What {
     }
 }
 
-/// A step drawn as three numbers, which shrink towards plainer steps.
-pub fn step() -> impl Strategy<Value = Step> {
-    (0_u8..66, any::<u32>(), any::<u8>()).prop_map(|(kind, number, times)| {
-        let (what, most) = what(kind, number);
-        let times = times % most + 1;
-        Step { what, times }
-    })
+/// The steps of so many rows, from one on and below a bound.
+pub fn steps(random: &mut Random, rows: usize) -> Vec<Step> {
+    let rows = random.within(1..=rows - 1);
+    let row = |_| {
+        let (what, most) = what(random.below(66), random.word());
+        let times = random.within(1..=most.into()) as u8;
+        (0..times).map(move |done| Step { what, done })
+    };
+    (0..rows).flat_map(row).collect()
 }
 
 /// What is done, and how often at most: weighted so that stores fill, frames return and status is
 /// under way often.
-fn what(kind: u8, number: u32) -> (What, u8) {
+fn what(kind: usize, number: u32) -> (What, u8) {
     let of = |calls: &[Call]| What::Make(calls[number as usize % calls.len()]);
     match kind {
         0..=3 => (What::Make(Call::Next), 8),

@@ -1,0 +1,92 @@
+#!/bin/sh
+# Builds the archive of the proved C functions for each target named: sh archives/make.sh [--stack-sizes] [TRIPLE... | all]
+# Without a target it is for this machine. The archive is target/staticlib/TRIPLE/libraftershim.a; archives/targets has the targets. With
+# --stack-sizes it has a note of each function's stack besides, and stands in target/stack/TRIPLE.
+# The kit proves the code and lowers it to one LLVM module, which its own clang compiles for x86-64. Here a copy of the kit, made of
+# links, has a clang that keeps the module too. The kit's clang then compiles that module for each target, so one proof serves all.
+# The module is kept until a source of a crate or the kit changes. The proofs end at the module: clang is trusted for each target.
+set -eu
+top=$(cd "$(dirname "$0")/.." && pwd)
+kept=$top/target/staticlib/raftershim.bc
+say() { echo "make.sh: $*" >&2; }
+
+known() { sed -n 's/^\([a-z0-9_]*-[^ ]*\) .*/\1/p' "$top/archives/targets"; }
+
+# What the module is made of: the kit's name, the list of crates, and every source and proof.
+made_of() {
+    rt version
+    cd "$top" && find crates crates.txt -type f \( -name '*.rt' -o -name '*.antt' -o -name crates.txt \) -exec sha256sum {} + | sort
+}
+
+# A folder of links to all that is in another, one name left out.
+links() { # FROM TO LEFT-OUT
+    mkdir -p "$2"
+    for file in "$1"/*; do [ "${file##*/}" = "$3" ] || ln -s "$file" "$2/"; done
+}
+
+# The copy of the kit, whose clang keeps the module that it is given.
+keeping_kit() { # KIT
+    own=on/$(uname -m)
+    links "$home" "$1" on
+    links "$home/$own" "$1/$own" toolchain
+    links "$home/$own/toolchain" "$1/$own/toolchain" bin
+    links "$home/$own/toolchain/bin" "$1/$own/toolchain/bin" clang
+    cat > "$1/$own/toolchain/bin/clang" <<WRAP
+#!/bin/sh
+[ ! -f module.bc ] || cp module.bc "$1/module.bc"
+exec "$home/$own/toolchain/bin/clang" "\$@"
+WRAP
+    chmod +x "$1/$own/toolchain/bin/clang"
+}
+
+# Proves the library and lowers it, unless the module that is kept is of the same sources.
+module() {
+    made_of > "$work/made-of"
+    if [ -f "$kept" ] && cmp -s "$work/made-of" "$kept.made-of"; then return; fi
+    say 'proving and lowering the crate raftershim, which takes a minute, and more if the crates below it are not proved yet'
+    keeping_kit "$work/kit"
+    (cd "$top" && RATTLE_HOME=$work/kit rt staticlib raftershim) > "$work/said" 2>&1 || { cat "$work/said" >&2; exit 1; }
+    [ -f "$work/kit/module.bc" ] || { say 'the kit gave its clang no module.bc to keep'; exit 1; }
+    cp "$work/kit/module.bc" "$kept"
+    cp "$work/made-of" "$kept.made-of"
+}
+
+# Compiles the module for one target. The module names x86-64 as its processor in each function, which clang says it ignores; whatever
+# else it says is an error.
+archive() { # TRIPLE
+    words=$(sed -n "s/^$1 //p" "$top/archives/targets")
+    folder=$top/$place/$1
+    mkdir -p "$folder" "$work/$1"
+    # shellcheck disable=SC2086 # the words of a target are separate words
+    "$tools/clang" $words $KIT_WORDS $more -c -x ir "$kept" -o "$work/$1/raftershim.o" 2> "$work/said" || { cat "$work/said" >&2; exit 1; }
+    if grep -v "is not a recognized processor for this target (ignoring processor)$" "$work/said" >&2; then exit 1; fi
+    (cd "$work/$1" && "$tools/llvm-ar" rcs libraftershim.a raftershim.o && mv libraftershim.a "$folder/")
+    echo "$place/$1/libraftershim.a"
+}
+
+# The words that the kit gives its clang for every module, but for the target and the level.
+KIT_WORDS='-ffunction-sections -fdata-sections -mllvm -trap-unreachable -mllvm -no-trap-after-noreturn --no-default-config
+    -no-canonical-prefixes -fintegrated-cc1 -fno-crash-diagnostics -Werror -Wno-override-module'
+
+more=
+place=target/staticlib
+if [ "${1-}" = --stack-sizes ]; then
+    more=-fstack-size-section
+    place=target/stack
+    shift
+fi
+case "${1-}" in
+    '') set -- "$(uname -m)-unknown-linux-gnu" ;;
+    all) set -- $(known) ;;
+esac
+for triple in "$@"; do
+    known | grep -qx -e "$triple" || { say "there is no target $triple; there are: $(known | paste -sd ' ')"; exit 2; }
+done
+command -v rt > /dev/null || { say 'the command rt is missing: the Rattle toolchain makes the archive'; exit 1; }
+home=$(rt doc)
+home=${home%/docs/*}
+tools=$home/on/$(uname -m)/toolchain/bin
+work=$(mktemp -d)
+trap 'rm -rf "$work"' EXIT
+module
+for triple in "$@"; do archive "$triple"; done

@@ -1,0 +1,60 @@
+/*
+ * The main loop of a dongle: a serial port on one side, frames on the other, the proved bridge between.
+ *
+ * It knows no board: ports.h has what it asks of one. It never waits, so no side holds up the other. It says of each reading that goes
+ * out whether a byte is missing in it.
+ */
+#include "frames.h"
+#include "gaps.h"
+#include "ports.h"
+
+#define MARGIN 8u
+
+static uint8_t block[RAFTERSHIM_BLOCK_LEN], rx[RECEIVE_LEN], tx[64];
+static struct gaps gaps;
+
+#define LENT block, sizeof block, rx, sizeof rx, tx, sizeof tx
+
+/* The line: a byte that has come, and a byte for it if it can take one. The bridge hands a byte out once, so it is asked only then. */
+static void line_turn(void) {
+    uint8_t byte;
+    if (line_overran()) gaps_here(&gaps, block);
+    if (line_take(&byte)) {
+        raftershim_line_byte(LENT, byte);
+        gaps_note(&gaps, block);
+    }
+    if (line_free()) {
+        uint64_t answer = raftershim_next_line_byte(LENT);
+        if (RAFTERSHIM_KIND(answer) == RAFTERSHIM_BYTE) line_give((uint8_t)RAFTERSHIM_VALUE(answer));
+    }
+}
+
+/* Whether the frame is the end byte of a reading of ours, and not one that passes by. */
+static int ends_reading(uint32_t frame) {
+    return IS_END_BYTE(frame) && block[RAFTERSHIM_AT_TALKER] == RAFTERSHIM_TALKER_DATA;
+}
+
+/* The loop: each frame gives one frame. Refused as busy, it is offered again on a later turn. Answers whether a frame went on. */
+static int loop_turn(void) {
+    static uint32_t frame;
+    static int offered;
+    if (!offered && !loop_take(&frame)) return 0;
+    uint64_t answer = raftershim_loop_frame(LENT, frame);
+    uint32_t value = RAFTERSHIM_VALUE(answer);
+    offered = RAFTERSHIM_KIND(answer) == RAFTERSHIM_REFUSED && value == RAFTERSHIM_BUSY;
+    if (RAFTERSHIM_KIND(answer) != RAFTERSHIM_FRAME) return 0;
+    loop_give(value);
+    if (ends_reading(value)) reading_ended(gaps_in_reading(&gaps, block));
+    return 1;
+}
+
+int main(void) {
+    raftershim_create(LENT, MARGIN);
+    raftershim_write_register(LENT, LINE_ENDS);
+    line_open();
+    for (;;) {
+        while (loop_turn()) {
+        }
+        line_turn();
+    }
+}

@@ -1,0 +1,41 @@
+#!/bin/sh
+# Builds and runs the examples and holds what they print to the stored texts: sh examples/run.sh [meter] [dongle] [no-std]
+# The meter runs on this machine; the dongle, in C, and the meter without the standard library, in Rust, on the emulated board.
+set -eu
+cd "$(dirname "$0")/.."
+. tests/board/build.sh
+
+# Compares with the stored text.
+same() { # NAME STORED
+    diff "$2" "$out/$1.said" || { echo "examples/run.sh: $1 prints something else" >&2; exit 1; }
+    echo "$1: $(grep -c ': whole$' "$2") readings whole, $(grep -c 'missing$' "$2") with a byte missing, as stored"
+}
+
+meter() {
+    for_target "$own"
+    gcc -std=c11 -Wall -Wextra -Werror -O2 -Iinclude -Iexamples/c examples/c/meter.c "$(archive_of "$own")" -o "$out/meter"
+    "$out/meter" > "$out/meter.said"
+    same meter examples/c/meter.said
+}
+
+# The line and the console of the board are one output here; of the line it has our stop and go, which are spelled out.
+dongle() {
+    board dongle -DRECEIVE_LEN=64u -Iexamples/c examples/dongle/*.c
+    emulated dongle -chardev stdio,id=line,signal=off -serial chardev:line < examples/dongle/line.txt > "$out/dongle.raw"
+    sed 's/\x13/stop\n/g; s/\x11/go\n/g' "$out/dongle.raw" > "$out/dongle.said"
+    same dongle examples/dongle/dongle.said
+}
+
+no_std() {
+    (cd examples/no-std && sh ../../rust/cargo.sh thumbv6m-none-eabi run --quiet) > "$out/no-std.said"
+    same no-std examples/c/meter.said
+}
+
+[ $# -gt 0 ] || set -- meter dongle no-std
+for name in "$@"; do
+    case $name in
+        meter | dongle) "$name" ;;
+        no-std) no_std ;;
+        *) echo "examples/run.sh: there is no example $name" >&2; exit 2 ;;
+    esac
+done

@@ -1,0 +1,95 @@
+//! Readers with a fault planted: both ways of checking find every one.
+
+use crate::at_random::runs;
+use crate::both::{our_meter, OurMeter, Sizes};
+use crate::every_order::{go_through, BYTES_AND_READS};
+use raftershim::BLOCK_LEN;
+use raftershim_checks::told::{Act, Reader, Told, Worth};
+
+/// The crate's meter, with what it tells made wrong.
+#[derive(Clone)]
+struct Wrong {
+    meter: OurMeter,
+    fault: Fault,
+    /// The count of bytes lost at the last reading, or whether the last one had a gap.
+    noted: u32,
+}
+
+#[derive(Clone, Copy)]
+enum Fault {
+    /// Every reading that has ended is called whole: 25 is spoken.
+    Unwarned,
+    /// The count of bytes lost is compared around each reading.
+    ByCount,
+    /// The reading after the one with a gap is called bad in its place.
+    OneLate,
+    /// A reading that has not ended is called whole.
+    NotAwaited,
+}
+
+impl Wrong {
+    fn worth(&mut self, worth: Worth) -> Worth {
+        let gap = |gap| [Worth::Whole, Worth::Gap][usize::from(gap)];
+        let lost = self.meter.bridge().state().expect("a fitting state").lost;
+        match (self.fault, worth) {
+            (Fault::NotAwaited, Worth::NotEnded) => Worth::Whole,
+            (_, Worth::NotEnded) | (Fault::NotAwaited, _) => worth,
+            (Fault::Unwarned, _) => Worth::Whole,
+            (Fault::ByCount, _) => gap(std::mem::replace(&mut self.noted, lost) != lost),
+            (Fault::OneLate, _) => {
+                let bad = u32::from(worth == Worth::Gap);
+                gap(std::mem::replace(&mut self.noted, bad) == 1)
+            }
+        }
+    }
+}
+
+impl Reader for Wrong {
+    fn act(&mut self, act: Act) -> Told {
+        match self.meter.act(act) {
+            Told::Reading(worth, text) => Told::Reading(self.worth(worth), text),
+            told => told,
+        }
+    }
+
+    fn block(&self) -> [u8; BLOCK_LEN] {
+        self.meter.block()
+    }
+}
+
+fn wrong(sizes: Sizes, fault: Fault) -> Wrong {
+    Wrong {
+        meter: our_meter(sizes),
+        fault,
+        noted: 0,
+    }
+}
+
+#[test]
+fn every_order_finds_each_fault() {
+    let faults = [
+        Fault::Unwarned,
+        Fault::ByCount,
+        Fault::OneLate,
+        Fault::NotAwaited,
+    ];
+    for fault in faults {
+        let reader = wrong(BYTES_AND_READS.sizes, fault);
+        let finding = go_through(&BYTES_AND_READS, reader).unwrap_err();
+        println!("readings, a planted fault: {finding}");
+    }
+}
+
+#[test]
+fn runs_at_random_find_each_fault() {
+    let makes: [fn(Sizes) -> Wrong; 4] = [
+        |sizes| wrong(sizes, Fault::Unwarned),
+        |sizes| wrong(sizes, Fault::ByCount),
+        |sizes| wrong(sizes, Fault::OneLate),
+        |sizes| wrong(sizes, Fault::NotAwaited),
+    ];
+    for make in makes {
+        let finding = runs(make, 100).unwrap_err();
+        println!("readings at random, a planted fault: {finding}");
+    }
+}

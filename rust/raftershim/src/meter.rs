@@ -1,0 +1,470 @@
+//! A bridge whose loop side is played here, reading by reading.
+
+use core::fmt;
+
+use crate::gaps::{place, Gaps};
+use crate::line::Line;
+use crate::{Address, BadSize, Bridge, Frame, LineByte, Reading, Refusal, Register, State, Stores};
+
+/// The two buffers in which a [`Meter`] notes what it needs. What they hold at first does not
+/// matter.
+#[derive(Clone, Copy, Default, PartialEq, Eq, Hash)]
+pub struct Notes<G, X> {
+    /// Where bytes are missing: at least a bit for each byte of the receive store, so 8 bytes for a
+    /// store of 64.
+    pub gaps: G,
+    /// The text of the reading under way. A reading that is longer is told as
+    /// [`Reading::Gap`].
+    pub text: X,
+}
+
+/// A bridge with a meter on its line, which gives the meter's readings one by one and says of each
+/// whether a byte is missing in it.
+///
+/// It finds the ends of lines from the start. All calls of a [`Bridge`] are here too, so that the
+/// meter sees them; none of them makes a reading wrong unsaid.
+///
+/// # Which reading has a gap
+///
+/// The line is cut after each end of line, which is C00 followed by C01, that came through to the
+/// bridge. A reading is what came on the line between two cuts. It is [`Reading::Whole`] exactly if
+/// every byte of it is in its text or in its end of line, and otherwise [`Reading::Gap`]. Go and
+/// stop are no bytes of a reading. This comes to the following.
+///
+/// - A byte lost within a reading is missing in that reading and in no other.
+/// - A byte lost right after an end of line is missing in the reading that follows.
+/// - If a byte of the end of line is lost, two readings run into one, which has a gap.
+/// - If all text of a reading is lost but its end of line came, it is given without text, as a gap.
+///   An empty line of which nothing is lost is not given.
+/// - A reset or a device clear throws away what the bridge holds. Readings that ended in it are
+///   gone. The one that it cuts in two has a gap; the one after that has none.
+/// - Data frames that the app takes by [`loop_frame`](Meter::loop_frame) are missing in the reading
+///   that they belong to. A reading whose end the app has so taken is not given.
+/// - A reading that is longer than the text has a gap.
+///
+/// Neither status polls nor breaks nor keys change any of this.
+///
+/// ```
+/// use raftershim::{Meter, Notes, Reading, Stores};
+///
+/// let stores = Stores { receive: [0; 6], transmit: [0; 3] };
+/// let mut meter = Meter::create(stores, Notes { gaps: [0; 1], text: [0; 32] }, 2)?;
+/// // The 2 fills the store, and the point is lost. Then the app reads, and there is room again.
+/// assert_eq!(meter.line_bytes(b"1.5\r\n2.")?, 1);
+/// assert!(matches!(meter.reading()?, Reading::Whole(text) if text.as_bytes() == b"1.5"));
+/// assert_eq!(meter.line_bytes(b"5\r\n")?, 0);
+/// assert!(matches!(meter.reading()?, Reading::Gap(text) if text.as_bytes() == b"25"));
+/// assert!(matches!(meter.reading()?, Reading::NotEnded(_)));
+/// # Ok::<(), raftershim::Refusal>(())
+/// ```
+#[derive(Clone, PartialEq, Eq, Hash)]
+pub struct Meter<R, T, G, X> {
+    bridge: Bridge<R, T>,
+    gaps: Gaps<G>,
+    line: Line<X>,
+}
+
+impl<R, T, G, X> Meter<R, T, G, X>
+where
+    R: AsRef<[u8]> + AsMut<[u8]>,
+    T: AsRef<[u8]> + AsMut<[u8]>,
+    G: AsRef<[u8]> + AsMut<[u8]>,
+    X: AsRef<[u8]> + AsMut<[u8]>,
+{
+    /// Creates a bridge on these stores with this margin, as [`Bridge::create`] does, and lets it
+    /// find the ends of lines: R10 has [`Register::R10_FIND_LINE_END`].
+    ///
+    /// # Errors
+    ///
+    /// Refusal 1, with the size that is broken and its limits.
+    ///
+    /// ```
+    /// use raftershim::{Meter, Notes, Size, Stores};
+    ///
+    /// let stores = Stores { receive: [0; 64], transmit: [0; 64] };
+    /// let bad = Meter::create(stores, Notes { gaps: [0; 7], text: [0; 32] }, 8).unwrap_err();
+    /// assert_eq!((bad.which, bad.given, bad.least), (Size::Gaps, 7, 8));
+    /// ```
+    #[must_use = "the meter is in the answer, or the size that is broken"]
+    pub fn create(
+        stores: Stores<R, T>,
+        notes: Notes<G, X>,
+        margin: u32,
+    ) -> Result<Meter<R, T, G, X>, BadSize> {
+        let mut meter = Meter::of(Bridge::create(stores, margin)?, notes)?;
+        match meter.find_line_ends() {
+            Ok(()) => Ok(meter),
+            // A bridge that was created fits its stores, and then this write is never refused.
+            Err(_) => Err(BadSize::of(0, 0, margin)),
+        }
+    }
+
+    /// Takes a bridge as it is, such as one that was put together again. Its registers stay. If it
+    /// was used before, nobody knows where bytes are missing in what it holds: each reading of
+    /// which a part came before is told as a gap.
+    ///
+    /// # Errors
+    ///
+    /// Refusal 1 if there are too few gap marks for its receive store.
+    ///
+    /// ```
+    /// use raftershim::{Bridge, Meter, Notes, Reading, Register, Stores};
+    ///
+    /// let mut bridge = Bridge::create(Stores { receive: [0; 64], transmit: [0; 64] }, 8)?;
+    /// bridge.write_register(Register::R10, Register::R10_FIND_LINE_END)?;
+    /// let mut meter = Meter::of(bridge, Notes { gaps: [0; 8], text: [0; 32] })?;
+    /// meter.line_bytes(b"2.5\r\n")?;
+    /// assert!(matches!(meter.reading()?, Reading::Whole(_)));
+    /// # Ok::<(), raftershim::Refusal>(())
+    /// ```
+    #[must_use = "the meter is in the answer, or the size that is broken"]
+    pub fn of(bridge: Bridge<R, T>, notes: Notes<G, X>) -> Result<Meter<R, T, G, X>, BadSize> {
+        let receive = bridge.receive_store().len();
+        if let Some(bad) = BadSize::of_gaps(notes.gaps.as_ref().len(), receive) {
+            return Err(bad);
+        }
+        let counts = bridge
+            .state()
+            .map(|state| [state.stored, state.lost, state.sent]);
+        let fresh = counts == Ok([0; 3]);
+        let mut gaps = Gaps::none(notes.gaps);
+        if !fresh {
+            (0..receive).for_each(|place| gaps.note(place));
+        }
+        let line = Line::new(notes.text, !fresh);
+        Ok(Meter { bridge, gaps, line })
+    }
+
+    /// Reads one reading: plays the controller of the loop until an end byte, or until the bridge
+    /// has no more to send.
+    ///
+    /// The bridge is given [`Address::FIRST`] if it has no address, is made talker, so it listens no
+    /// more, and is asked to send data. Each data frame is given back to it and brings the next one.
+    /// After an end byte it is told 5,66, not ready, so it stops there and keeps what comes after
+    /// for the next call.
+    ///
+    /// Each reading that has ended is told once. [`Reading::NotEnded`] means that the bridge has
+    /// nothing more for now; its text stays, and the next call goes on with it.
+    ///
+    /// # Errors
+    ///
+    /// Refusal 2 if a store no longer lends the length that it had.
+    ///
+    /// ```
+    /// use raftershim::{Meter, Notes, Reading, Stores};
+    ///
+    /// let stores = Stores { receive: [0; 64], transmit: [0; 64] };
+    /// let mut meter = Meter::create(stores, Notes { gaps: [0; 8], text: [0; 32] }, 8)?;
+    /// meter.line_bytes(b"7\r\n2.")?;
+    /// assert!(matches!(meter.reading()?, Reading::Whole(text) if text.as_bytes() == b"7"));
+    /// assert!(matches!(meter.reading()?, Reading::NotEnded(_)));
+    /// meter.line_bytes(b"5\r\n")?;
+    /// assert!(matches!(meter.reading()?, Reading::Whole(text) if text.as_bytes() == b"2.5"));
+    /// # Ok::<(), raftershim::Refusal>(())
+    /// ```
+    #[must_use = "the reading is told only once"]
+    pub fn reading(&mut self) -> Result<Reading<'_>, Refusal> {
+        self.line.go_on();
+        if !self.line.has_news() {
+            self.read()?;
+        }
+        Ok(self.line.tell())
+    }
+
+    /// Plays the controller until there is something to tell, or nothing more to read.
+    fn read(&mut self) -> Result<(), Refusal> {
+        let address = match self.bridge.state()?.address {
+            Some(address) => address,
+            None => {
+                self.offer(Frame::auto_address(Address::FIRST), Reader::Meter)?;
+                Address::FIRST
+            }
+        };
+        self.offer(Frame::talk_address(address), Reader::Meter)?;
+        let mut out = self.offer(Frame::SEND_DATA, Reader::Meter)?;
+        while out.is_data() {
+            if self.line.has_news() {
+                self.offer(Frame::NOT_READY, Reader::Meter)?;
+            }
+            out = self.offer(out, Reader::Meter)?;
+        }
+        Ok(())
+    }
+
+    /// Takes bytes from the line, as a serial port hands them over, and gives how many of them were
+    /// lost. In which reading they are missing is for [`reading`](Meter::reading) to say.
+    ///
+    /// # Errors
+    ///
+    /// Refusal 2 if a store no longer lends the length that it had. The same holds for every call
+    /// below.
+    ///
+    /// ```
+    /// use raftershim::{Meter, Notes, Stores};
+    ///
+    /// let stores = Stores { receive: [0; 4], transmit: [0; 3] };
+    /// let mut meter = Meter::create(stores, Notes { gaps: [0; 1], text: [0; 32] }, 1)?;
+    /// assert_eq!(meter.line_bytes(b"2.5\r\n")?, 1);
+    /// # Ok::<(), raftershim::Refusal>(())
+    /// ```
+    #[must_use = "refused bytes are not taken"]
+    pub fn line_bytes(&mut self, bytes: &[u8]) -> Result<usize, Refusal> {
+        let mut lost = 0;
+        for &byte in bytes {
+            lost += usize::from(self.line_byte(byte)? == LineByte::Lost);
+        }
+        Ok(lost)
+    }
+
+    /// Takes a byte from the line, as [`Bridge::line_byte`] does.
+    ///
+    /// # Errors
+    ///
+    /// Refusal 2.
+    #[must_use = "whether the byte is lost is in the answer"]
+    pub fn line_byte(&mut self, byte: u8) -> Result<LineByte, Refusal> {
+        let state = self.bridge.state()?;
+        let taken = self.bridge.line_byte(byte)?;
+        if taken == LineByte::Lost {
+            self.gaps.note(newest(&state));
+        }
+        Ok(taken)
+    }
+
+    /// Takes a break on the line, as [`Bridge::line_break`] does.
+    ///
+    /// # Errors
+    ///
+    /// Refusal 2.
+    #[must_use = "a refused break is not noted"]
+    pub fn line_break(&mut self) -> Result<(), Refusal> {
+        self.bridge.line_break()
+    }
+
+    /// Takes a press of the MSRQ key, as [`Bridge::key`] does.
+    ///
+    /// # Errors
+    ///
+    /// Refusal 2.
+    #[must_use = "a refused press is not noted"]
+    pub fn key(&mut self) -> Result<(), Refusal> {
+        self.bridge.key()
+    }
+
+    /// Gives the next byte for the line, as [`Bridge::next_line_byte`] does. It may be the stop or
+    /// the go that the meter waits for, so ask after every call that takes line bytes or reads.
+    ///
+    /// # Errors
+    ///
+    /// Refusal 2.
+    #[must_use = "the byte is taken off, and the line must get it"]
+    pub fn next_line_byte(&mut self) -> Result<Option<u8>, Refusal> {
+        self.bridge.next_line_byte()
+    }
+
+    /// Writes a register, as [`Bridge::write_register`] does. Without
+    /// [`Register::R10_FIND_LINE_END`] in R10 no reading ever ends.
+    ///
+    /// # Errors
+    ///
+    /// Refusal 6, 7, 8 or 2.
+    #[must_use = "a refused write has changed nothing"]
+    pub fn write_register(&mut self, register: Register, value: u8) -> Result<(), Refusal> {
+        self.bridge.write_register(register, value)
+    }
+
+    /// Takes a frame from the loop, as [`Bridge::loop_frame`] does, for instance to ask for the
+    /// status. Data frames that it gives are not in the readings.
+    ///
+    /// # Errors
+    ///
+    /// Refusal 4 if the bridge is busy, and 2.
+    ///
+    /// ```
+    /// use raftershim::{Frame, Meter, Notes, Reading, StatusByte, Stores};
+    ///
+    /// let stores = Stores { receive: [0; 64], transmit: [0; 64] };
+    /// let mut meter = Meter::create(stores, Notes { gaps: [0; 8], text: [0; 32] }, 8)?;
+    /// // After a reading the bridge is talker, so it can be asked for its status.
+    /// assert!(matches!(meter.reading()?, Reading::NotEnded(_)));
+    /// let status = meter.loop_frame(Frame::SEND_STATUS)?;
+    /// assert!(!StatusByte::from(status.data()).has(StatusByte::OVERRUN));
+    /// assert_eq!(meter.loop_frame(status)?, Frame::END_OF_TRANSMISSION);
+    /// # Ok::<(), raftershim::Refusal>(())
+    /// ```
+    #[must_use = "the frame that goes on along the loop is in the answer"]
+    pub fn loop_frame(&mut self, frame: Frame) -> Result<Frame, Refusal> {
+        self.offer(frame, Reader::App)
+    }
+
+    /// Resets the bridge, as [`Bridge::reset`] does, and lets it find the ends of lines again. All
+    /// other registers have their start values.
+    ///
+    /// # Errors
+    ///
+    /// Refusal 2.
+    ///
+    /// ```
+    /// use raftershim::{Meter, Notes, Reading, Stores};
+    ///
+    /// let stores = Stores { receive: [0; 64], transmit: [0; 64] };
+    /// let mut meter = Meter::create(stores, Notes { gaps: [0; 8], text: [0; 32] }, 8)?;
+    /// meter.line_bytes(b"2.")?;
+    /// meter.reset()?;
+    /// meter.line_bytes(b"5\r\n7\r\n")?;
+    /// assert!(matches!(meter.reading()?, Reading::Gap(_)));
+    /// assert!(matches!(meter.reading()?, Reading::Whole(text) if text.as_bytes() == b"7"));
+    /// # Ok::<(), raftershim::Refusal>(())
+    /// ```
+    #[must_use = "a refused reset has changed nothing"]
+    pub fn reset(&mut self) -> Result<(), Refusal> {
+        let before = self.bridge.state()?;
+        self.bridge.reset()?;
+        self.thrown_away(&before);
+        self.find_line_ends()
+    }
+
+    /// The bridge, to look at its state and its stores.
+    ///
+    /// ```
+    /// use raftershim::{Meter, Notes, Stores};
+    ///
+    /// let stores = Stores { receive: [0; 64], transmit: [0; 64] };
+    /// let mut meter = Meter::create(stores, Notes { gaps: [0; 8], text: [0; 32] }, 8)?;
+    /// meter.line_break()?;
+    /// assert!(meter.bridge().state()?.seen_break);
+    /// # Ok::<(), raftershim::Refusal>(())
+    /// ```
+    pub fn bridge(&self) -> &Bridge<R, T> {
+        &self.bridge
+    }
+
+    /// The bridge, to be used without the meter, or to be saved.
+    ///
+    /// ```
+    /// use raftershim::{Meter, Notes, Stores};
+    ///
+    /// let stores = Stores { receive: [0; 64], transmit: [0; 64] };
+    /// let meter = Meter::create(stores, Notes { gaps: [0; 8], text: [0; 32] }, 8)?;
+    /// let (saved, stores) = meter.into_bridge().into_parts();
+    /// assert_eq!((saved.version(), stores.receive.len()), (1, 64));
+    /// # Ok::<(), raftershim::Refusal>(())
+    /// ```
+    pub fn into_bridge(self) -> Bridge<R, T> {
+        self.bridge
+    }
+
+    fn find_line_ends(&mut self) -> Result<(), Refusal> {
+        self.bridge
+            .write_register(Register::R10, Register::R10_FIND_LINE_END)
+    }
+
+    /// Offers a frame to the bridge and notes what it did to the bytes held for the loop.
+    fn offer(&mut self, frame: Frame, reader: Reader) -> Result<Frame, Refusal> {
+        let before = self.bridge.state()?;
+        let out = self.bridge.loop_frame(frame)?;
+        let after = self.bridge.state()?;
+        let gone = usize::from(before.receive.held.saturating_sub(after.receive.held));
+        match (frame.is_command(), after.sent == before.sent) {
+            (true, _) if gone > 0 => self.thrown_away(&before),
+            (true, _) => {}
+            (false, true) => self.read_off(&before, gone, None, reader),
+            (false, false) => self.read_off(&before, gone, Some(out), reader),
+        }
+        Ok(out)
+    }
+
+    /// A send has taken bytes off: first the ends of lines that came by themselves, then what
+    /// became the frame that was sent. That is a byte, and for an end byte its end of line too.
+    fn read_off(&mut self, before: &State, gone: usize, sent: Option<Frame>, reader: Reader) {
+        let alone = match sent {
+            None => gone,
+            Some(frame) if frame.is_end() => gone.saturating_sub(3),
+            Some(_) => gone.saturating_sub(1),
+        };
+        for index in 0..gone {
+            let missing = self.gaps.take(place(before, index));
+            let ends = match sent {
+                Some(frame) if index >= alone => frame.is_end() && index + 1 == gone,
+                _ => index % 2 == 1,
+            };
+            match (sent.filter(|_| index == alone), reader) {
+                (None, _) => {}
+                (Some(frame), Reader::Meter) => self.line.put(frame.data()),
+                (Some(_), Reader::App) => self.line.lacks(true),
+            }
+            match (ends, reader) {
+                (false, _) => self.line.lacks(missing),
+                (true, Reader::Meter) if index < alone => self.line.end_alone(missing),
+                (true, Reader::Meter) => self.line.end(missing),
+                (true, Reader::App) => self.line.drop(missing),
+            }
+        }
+    }
+
+    /// What the bridge held for the loop was thrown away; its bytes are still in the store.
+    fn thrown_away(&mut self, before: &State) {
+        let held = usize::from(before.receive.held);
+        if held == 0 {
+            return;
+        }
+        let after_last = self.gaps.take(newest(before));
+        (0..held).for_each(|index| {
+            self.gaps.take(place(before, index));
+        });
+        match self.after_last_end(before) {
+            None => self.line.lacks(true),
+            Some(bytes) => self.line.drop(bytes > 0 || after_last),
+        }
+    }
+
+    /// How many of the bytes held stand after the last end of line among them, if there is one.
+    fn after_last_end(&self, state: &State) -> Option<usize> {
+        if state.registers.r10 & Register::R10_FIND_LINE_END == 0 {
+            return None;
+        }
+        let (c00, c01) = (state.registers.c00, state.registers.c01);
+        let (mut after, mut first_seen) = (None, false);
+        for index in 0..usize::from(state.receive.held) {
+            let byte = self.bridge.receive_store().get(place(state, index));
+            if first_seen && byte == Some(&c01) {
+                (after, first_seen) = (Some(0), false);
+            } else {
+                (after, first_seen) = (after.map(|bytes| bytes + 1), byte == Some(&c00));
+            }
+        }
+        after
+    }
+}
+
+/// Who plays the controller.
+#[derive(Clone, Copy)]
+enum Reader {
+    /// The call that gives a reading.
+    Meter,
+    /// The app, by frames of its own.
+    App,
+}
+
+/// The place of the newest byte held.
+fn newest(state: &State) -> usize {
+    place(state, usize::from(state.receive.held).saturating_sub(1))
+}
+
+impl<R, T, G, X> fmt::Debug for Meter<R, T, G, X> {
+    fn fmt(&self, f: &mut fmt::Formatter<'_>) -> fmt::Result {
+        f.debug_struct("Meter")
+            .field("bridge", &self.bridge)
+            .finish_non_exhaustive()
+    }
+}
+
+impl<G: AsRef<[u8]>, X: AsRef<[u8]>> fmt::Debug for Notes<G, X> {
+    /// The lengths; the buffers may be long.
+    fn fmt(&self, f: &mut fmt::Formatter<'_>) -> fmt::Result {
+        f.debug_struct("Notes")
+            .field("gaps_len", &self.gaps.as_ref().len())
+            .field("text_len", &self.text.as_ref().len())
+            .finish()
+    }
+}

@@ -1,0 +1,117 @@
+//! The sizes that create asks for, and the refusal that says which one is broken.
+
+use core::fmt;
+
+use crate::refusal::error;
+use crate::Refusal;
+
+/// The longest store.
+const MOST_STORE: usize = 32768;
+/// The largest margin.
+const MOST_MARGIN: usize = 1024;
+
+/// A size that create judges.
+#[derive(Clone, Copy, Debug, PartialEq, Eq, Hash)]
+#[non_exhaustive]
+pub enum Size {
+    /// The margin.
+    Margin,
+    /// The length of the receive store.
+    Receive,
+    /// The length of the transmit store.
+    Transmit,
+    /// The length of the gap marks of a [`Meter`](crate::Meter).
+    Gaps,
+}
+
+/// Refusal 1: the first size that is broken, what was given, and its limits.
+///
+/// The margin is 1 to 1024. The receive store has twice the margin plus 2 to 32768 bytes, the
+/// transmit store 3 to 32768. Gap marks have at least a bit for each byte of the receive store. It
+/// becomes a [`Refusal`] where one is asked for.
+///
+/// ```
+/// use raftershim::{Bridge, Refusal, Size, Stores};
+///
+/// let bad = Bridge::create(Stores { receive: [0; 7], transmit: [0; 3] }, 3).unwrap_err();
+/// assert_eq!((bad.which, bad.given, bad.least, bad.most), (Size::Receive, 7, 8, 32768));
+/// let said = "refusal 1: the length of the receive store is 7, and it must be 8 to 32768";
+/// assert_eq!(bad.to_string(), said);
+/// assert_eq!(Refusal::from(bad), Refusal::SIZES);
+/// ```
+#[derive(Clone, Copy, Debug, PartialEq, Eq, Hash)]
+#[non_exhaustive]
+pub struct BadSize {
+    /// Which size is broken.
+    pub which: Size,
+    /// What was given.
+    pub given: usize,
+    /// The least that is taken.
+    pub least: usize,
+    /// The most that is taken.
+    pub most: usize,
+}
+
+impl BadSize {
+    /// Which size made create refuse: the margin, else the receive store, else the transmit store.
+    pub(crate) fn of(receive: usize, transmit: usize, margin: u32) -> BadSize {
+        let margin = usize::try_from(margin).unwrap_or(usize::MAX);
+        let margin = BadSize::new(Size::Margin, margin, 1, MOST_MARGIN);
+        let least = margin.given.saturating_mul(2).saturating_add(2);
+        let receive = BadSize::new(Size::Receive, receive, least, MOST_STORE);
+        let transmit = BadSize::new(Size::Transmit, transmit, 3, MOST_STORE);
+        [margin, receive]
+            .into_iter()
+            .find(BadSize::is_broken)
+            .unwrap_or(transmit)
+    }
+
+    /// The gap marks, if they are too few for a receive store of this length.
+    pub(crate) fn of_gaps(gaps: usize, receive: usize) -> Option<BadSize> {
+        let least = (receive + 7) / 8;
+        Some(BadSize::new(Size::Gaps, gaps, least, usize::MAX)).filter(BadSize::is_broken)
+    }
+
+    fn new(which: Size, given: usize, least: usize, most: usize) -> BadSize {
+        BadSize {
+            which,
+            given,
+            least,
+            most,
+        }
+    }
+
+    fn is_broken(&self) -> bool {
+        self.given < self.least || self.given > self.most
+    }
+}
+
+impl From<BadSize> for Refusal {
+    fn from(_: BadSize) -> Refusal {
+        Refusal::SIZES
+    }
+}
+
+impl fmt::Display for Size {
+    fn fmt(&self, f: &mut fmt::Formatter<'_>) -> fmt::Result {
+        f.write_str(match self {
+            Size::Margin => "the margin",
+            Size::Receive => "the length of the receive store",
+            Size::Transmit => "the length of the transmit store",
+            Size::Gaps => "the length of the gap marks",
+        })
+    }
+}
+
+impl fmt::Display for BadSize {
+    fn fmt(&self, f: &mut fmt::Formatter<'_>) -> fmt::Result {
+        let number = Refusal::SIZES.number();
+        write!(f, "refusal {number}: {} is {}, ", self.which, self.given)?;
+        match self.most {
+            usize::MAX => write!(f, "and it must be at least {}", self.least),
+            most => write!(f, "and it must be {} to {most}", self.least),
+        }
+    }
+}
+
+error!(BadSize);

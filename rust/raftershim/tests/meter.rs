@@ -1,0 +1,174 @@
+//! A meter beside its readings: how it starts, what it notes, and what it says of itself.
+
+use raftershim::{
+    Address, Bridge, Frame, LineByte, Meter, Notes, Reading, Refusal, Register, Size, Stores,
+    Talker,
+};
+
+type Small = Meter<[u8; 8], [u8; 3], [u8; 1], [u8; 16]>;
+
+const STORES: Stores<[u8; 8], [u8; 3]> = Stores {
+    receive: [0; 8],
+    transmit: [0; 3],
+};
+
+/// Buffers that hold anything.
+const NOTES: Notes<[u8; 1], [u8; 16]> = Notes {
+    gaps: [255; 1],
+    text: [255; 16],
+};
+
+fn meter() -> Small {
+    Meter::create(STORES, NOTES, 3).unwrap()
+}
+
+/// The next reading as a word and its text.
+fn read(meter: &mut Small) -> String {
+    match meter.reading().unwrap() {
+        Reading::Whole(text) => format!("whole {text}"),
+        Reading::Gap(text) => format!("gap {text}"),
+        Reading::NotEnded(text) => format!("not ended {text}"),
+        other => panic!("{other:?}"),
+    }
+}
+
+#[test]
+fn a_reading_leaves_an_addressed_talker_and_no_frame_under_way() {
+    let mut meter = meter();
+    assert_eq!(meter.line_bytes(b"2\r\n5\r\n"), Ok(0));
+    assert_eq!(read(&mut meter), "whole 2");
+    let state = meter.bridge().state().unwrap();
+    assert_eq!(state.address, Some(Address::FIRST));
+    assert_eq!((state.talker, state.under_way), (Talker::Addressed, None));
+    assert_eq!((state.receive.held, state.sent), (3, 1));
+}
+
+#[test]
+fn an_address_that_the_loop_gave_is_kept() {
+    let mut meter = meter();
+    let seven = Address::new(7).unwrap();
+    assert!(meter.loop_frame(Frame::auto_address(seven)).is_ok());
+    assert_eq!(meter.line_bytes(b"2\r\n"), Ok(0));
+    assert_eq!(read(&mut meter), "whole 2");
+    assert_eq!(meter.bridge().state().unwrap().address, Some(seven));
+}
+
+#[test]
+fn stop_is_owed_before_a_byte_is_lost_and_go_after_the_reading() {
+    let mut meter = meter();
+    assert_eq!(meter.line_bytes(b"2.5\r\n"), Ok(0));
+    assert_eq!(meter.next_line_byte(), Ok(Some(19)));
+    assert_eq!(meter.line_byte(b'7'), Ok(LineByte::Stored));
+    assert_eq!(read(&mut meter), "whole 2.5");
+    assert_eq!(meter.next_line_byte(), Ok(Some(17)));
+    assert_eq!(meter.next_line_byte(), Ok(None));
+}
+
+#[test]
+fn a_reset_finds_ends_of_lines_again() {
+    let mut meter = meter();
+    meter.write_register(Register::R10, 0).unwrap();
+    meter.reset().unwrap();
+    assert_eq!(meter.line_bytes(b"2\r\n"), Ok(0));
+    assert_eq!(read(&mut meter), "whole 2");
+}
+
+#[test]
+fn a_reset_cuts_one_reading_and_no_other() {
+    let mut meter = meter();
+    assert_eq!(meter.line_bytes(b"1\r\n2."), Ok(0));
+    meter.reset().unwrap();
+    assert_eq!(meter.line_bytes(b"5\r\n3\r\n"), Ok(0));
+    assert_eq!(read(&mut meter), "gap 5");
+    assert_eq!(read(&mut meter), "whole 3");
+    assert_eq!(meter.line_bytes(b"4\r\n"), Ok(0));
+    meter.reset().unwrap();
+    assert_eq!(meter.line_bytes(b"5\r\n"), Ok(0));
+    assert_eq!(read(&mut meter), "whole 5");
+}
+
+#[test]
+fn a_stop_character_that_is_the_point_swallows_it_unsaid() {
+    // So the manual has it, and the page of the registers warns of it.
+    let mut meter = meter();
+    meter.write_register(Register::C05, b'.').unwrap();
+    assert_eq!(meter.line_bytes(b"2.5\r\n"), Ok(0));
+    assert_eq!(read(&mut meter), "whole 25");
+    meter.write_register(Register::R11, 0).unwrap();
+    assert_eq!(meter.line_bytes(b"2.5\r\n"), Ok(0));
+    assert_eq!(read(&mut meter), "whole 2.5");
+}
+
+#[test]
+fn what_a_used_bridge_holds_is_told_as_gaps() {
+    let mut bridge = Bridge::create(STORES, 3).unwrap();
+    let finding = Register::R10_FIND_LINE_END;
+    bridge.write_register(Register::R10, finding).unwrap();
+    for byte in *b"1\r\n2\r\n3" {
+        assert_eq!(bridge.line_byte(byte), Ok(LineByte::Stored));
+    }
+    let (saved, stores) = bridge.into_parts();
+    let mut meter = Meter::of(Bridge::restore(saved, stores).unwrap(), NOTES).unwrap();
+    assert_eq!(read(&mut meter), "gap 1");
+    assert_eq!(read(&mut meter), "gap 2");
+    assert_eq!(meter.line_bytes(b".5\r\n4\r\n"), Ok(0));
+    assert_eq!(read(&mut meter), "gap 3.5");
+    assert_eq!(read(&mut meter), "whole 4");
+    assert_eq!(meter.into_bridge().state().unwrap().stored, 14);
+}
+
+#[test]
+fn too_few_marks_are_refused_with_what_is_needed() {
+    for (receive, least) in [(8, 1), (9, 2), (16, 2), (17, 3), (32768, 4096)] {
+        let create = |gaps: usize| {
+            let stores = Stores {
+                receive: vec![0; receive],
+                transmit: [0; 3],
+            };
+            let notes = Notes {
+                gaps: vec![0; gaps],
+                text: [0; 4],
+            };
+            Meter::create(stores, notes, 3).map(|_| ())
+        };
+        assert_eq!(create(least), Ok(()));
+        let bad = create(least - 1).unwrap_err();
+        assert_eq!(
+            (bad.which, bad.given, bad.least),
+            (Size::Gaps, least - 1, least)
+        );
+        let said = format!("is {}, and it must be at least {least}", least - 1);
+        assert_eq!(
+            bad.to_string(),
+            format!("refusal 1: the length of the gap marks {said}")
+        );
+        assert_eq!(Refusal::from(bad), Refusal::SIZES);
+    }
+}
+
+#[test]
+fn a_size_of_the_bridge_is_refused_first() {
+    let stores = Stores {
+        receive: [0; 7],
+        transmit: [0; 3],
+    };
+    let notes = Notes {
+        gaps: [0; 0],
+        text: [0; 4],
+    };
+    assert_eq!(
+        Meter::create(stores, notes, 3).unwrap_err().which,
+        Size::Receive
+    );
+}
+
+#[test]
+fn a_text_is_shown_as_characters_and_told_apart_in_debug() {
+    let mut meter = meter();
+    assert_eq!(meter.line_bytes(b"2\xb5\"A\r\n"), Ok(0));
+    let reading = meter.reading().unwrap();
+    assert_eq!(format!("{reading:?}"), r#"Whole(Text("2\xb5\"A"))"#);
+    assert!(matches!(reading, Reading::Whole(text) if text.to_string() == "2\u{b5}\"A"));
+    let said = format!("{meter:?} {NOTES:?}");
+    assert!(said.len() < 1500 && said.contains("text_len: 16"), "{said}");
+}

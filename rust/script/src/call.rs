@@ -1,0 +1,92 @@
+//! The calls of a script, and how each is printed.
+
+use crate::{FrameName, RegisterName};
+use std::fmt;
+
+/// The store that is shown.
+#[derive(Clone, Copy, Debug, PartialEq, Eq, Hash)]
+pub enum Side {
+    /// The receive store, line to loop.
+    Receive,
+    /// The transmit store, loop to line.
+    Transmit,
+}
+
+/// One call of a script.
+#[derive(Clone, Debug, PartialEq, Eq, Hash)]
+pub enum Call {
+    /// Create a bridge.
+    Create {
+        /// The length of the receive store.
+        receive: u32,
+        /// The length of the transmit store.
+        transmit: u32,
+        /// The margin.
+        margin: u32,
+    },
+    /// Reset the bridge.
+    Reset,
+    /// Put the bridge together again from this saved block, on its stores as they are; there is at
+    /// least one byte.
+    Restore(Vec<u8>),
+    /// Write a register.
+    Register {
+        /// The register's number.
+        number: u32,
+        /// The value written.
+        value: u32,
+    },
+    /// Take these line bytes, one after the other; there is at least one.
+    Line(Vec<u8>),
+    /// Take a break.
+    Break,
+    /// Take a press of the MSRQ key.
+    Key,
+    /// Give the next line byte.
+    Next,
+    /// Take a loop frame.
+    Frame(u32),
+    /// Show a store.
+    Show(Side),
+    /// Say the state.
+    State,
+}
+
+impl fmt::Display for Side {
+    fn fmt(&self, f: &mut fmt::Formatter<'_>) -> fmt::Result {
+        f.write_str(match self {
+            Side::Receive => "receive",
+            Side::Transmit => "transmit",
+        })
+    }
+}
+
+/// Prints the call as a script has it. Up to 1,000 bytes stay below the longest line.
+impl fmt::Display for Call {
+    fn fmt(&self, f: &mut fmt::Formatter<'_>) -> fmt::Result {
+        match self {
+            Call::Create {
+                receive,
+                transmit,
+                margin,
+            } => write!(f, "create {receive} {transmit} {margin}"),
+            Call::Reset => f.write_str("reset"),
+            Call::Register { number, value } => {
+                write!(f, "register {} {value}", RegisterName(*number))
+            }
+            Call::Restore(bytes) => with_bytes(f, "restore", bytes),
+            Call::Line(bytes) => with_bytes(f, "line", bytes),
+            Call::Break => f.write_str("break"),
+            Call::Key => f.write_str("key"),
+            Call::Next => f.write_str("next"),
+            Call::Frame(frame) => write!(f, "frame {}", FrameName(*frame)),
+            Call::Show(side) => write!(f, "show {side}"),
+            Call::State => f.write_str("state"),
+        }
+    }
+}
+
+fn with_bytes(f: &mut fmt::Formatter<'_>, name: &str, bytes: &[u8]) -> fmt::Result {
+    f.write_str(name)?;
+    bytes.iter().try_for_each(|byte| write!(f, " {byte}"))
+}

@@ -1,0 +1,137 @@
+//! What can be wrong in a line of a script.
+
+use crate::{LONGEST_LINE, LONGEST_STORE};
+use std::error::Error;
+use std::fmt;
+
+/// The names of all calls.
+const CALLS: &str =
+    "create, reset, restore, register, line, break, key, next, frame, show or state";
+
+/// What is wrong in a line: its sentence says what was expected there and what was found.
+#[derive(Clone, Debug, PartialEq, Eq)]
+#[non_exhaustive]
+pub enum Mistake {
+    /// The first word is the name of no call.
+    UnknownCall {
+        /// The word, cut short.
+        found: String,
+    },
+    /// A word after the call's name is not what the call takes there.
+    Word {
+        /// The call's name.
+        after: &'static str,
+        /// What the call takes there.
+        wanted: Wanted,
+        /// The word, cut short, or `None` at the end of the line.
+        found: Option<String>,
+    },
+    /// There is no call before the sign =>.
+    NoCall,
+    /// There is no answer after the sign =>.
+    NoAnswer,
+    /// A text has no closing quotation mark.
+    OpenText,
+    /// There is nothing between two quotation marks.
+    EmptyText,
+    /// A text has a character that is not one byte.
+    WideCharacter(char),
+    /// The line has more bytes than [`LONGEST_LINE`].
+    TooLong,
+    /// The line is not UTF-8.
+    NotText,
+}
+
+/// What a call takes after its name.
+#[derive(Clone, Copy, Debug, PartialEq, Eq)]
+#[non_exhaustive]
+pub enum Wanted {
+    /// The length of the receive store.
+    ReceiveLength,
+    /// The length of the transmit store.
+    TransmitLength,
+    /// A margin.
+    Margin,
+    /// A register.
+    Register,
+    /// A register's value.
+    Value,
+    /// A byte.
+    Byte,
+    /// A loop frame.
+    Frame,
+    /// One of the two stores.
+    Side,
+    /// The end of the line.
+    NothingMore,
+}
+
+impl Wanted {
+    /// The largest number that is taken, where it is a plain number.
+    pub(crate) fn largest(self) -> u32 {
+        match self {
+            Wanted::ReceiveLength | Wanted::TransmitLength => LONGEST_STORE,
+            Wanted::Byte => 255,
+            _ => u32::MAX,
+        }
+    }
+
+    fn words(self) -> &'static str {
+        match self {
+            Wanted::ReceiveLength => "a receive length",
+            Wanted::TransmitLength => "a transmit length",
+            Wanted::Margin => "a margin",
+            Wanted::Register => "a register R00 to R12, C00 to C05 or a number",
+            Wanted::Value => "a value",
+            Wanted::Byte => "a byte",
+            Wanted::Frame => "a frame as control,data with data up to 255, or as one number,",
+            Wanted::Side => "receive or transmit",
+            Wanted::NothingMore => "nothing more",
+        }
+    }
+}
+
+impl fmt::Display for Wanted {
+    fn fmt(&self, f: &mut fmt::Formatter<'_>) -> fmt::Result {
+        f.write_str(self.words())?;
+        match self {
+            Wanted::Register | Wanted::Frame | Wanted::Side | Wanted::NothingMore => Ok(()),
+            _ => write!(f, " from 0 to {}", self.largest()),
+        }
+    }
+}
+
+impl fmt::Display for Mistake {
+    fn fmt(&self, f: &mut fmt::Formatter<'_>) -> fmt::Result {
+        match self {
+            Mistake::UnknownCall { found } => {
+                write!(f, "expected {CALLS}, found {found}")
+            }
+            Mistake::Word {
+                after,
+                wanted,
+                found,
+            } => {
+                let found = found.as_deref().unwrap_or("nothing");
+                write!(f, "expected {wanted} after {after}, found {found}")
+            }
+            Mistake::NoCall => f.write_str("expected a call before =>, found nothing"),
+            Mistake::NoAnswer => f.write_str("expected an answer after =>, found nothing"),
+            Mistake::OpenText => f.write_str("expected a closing quotation mark, found none"),
+            Mistake::EmptyText => {
+                f.write_str("expected characters between the quotation marks, found nothing")
+            }
+            Mistake::WideCharacter(c) => write!(
+                f,
+                "expected characters of one byte between the quotation marks, found {c}"
+            ),
+            Mistake::TooLong => write!(
+                f,
+                "expected a line of at most {LONGEST_LINE} bytes, found a longer one"
+            ),
+            Mistake::NotText => f.write_str("expected text in UTF-8, found other bytes"),
+        }
+    }
+}
+
+impl Error for Mistake {}

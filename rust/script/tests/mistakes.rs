@@ -1,0 +1,144 @@
+//! Every mistake that a script can have, by its sentence.
+
+use raftershim_script::{Script, Unread, LONGEST_LINE};
+use std::error::Error;
+use std::io::{self, BufReader, Read};
+
+/// What is said about a script whose third line is this one, and whose fourth is a mistake too.
+fn mistake(line: &str) -> String {
+    let script = format!("# first\n\n{line}\nnonsense\n");
+    match script.parse::<Script>() {
+        Ok(script) => panic!("{line}: {script:?}"),
+        Err(unread) => unread.to_string(),
+    }
+}
+
+/// Each line is a mistake: the sentence has its number, what was expected and what was found.
+fn mistakes(expected: &str, lines: &[(&str, &str)]) {
+    for (line, found) in lines {
+        let sentence = format!("line 3: expected {expected}, found {found}");
+        assert_eq!(mistake(line), sentence);
+    }
+}
+
+#[test]
+fn mistakes_in_the_call() {
+    let calls = "create, reset, restore, register, line, break, key, next, frame, show or state";
+    let found = [
+        ("lines 5", "lines"),
+        ("\"next\"", "\"next\""),
+        ("a\u{7}b", "a?b"),
+    ];
+    mistakes(calls, &found);
+    mistakes("nothing more after next", &[("next 1", "1")]);
+    mistakes("nothing more after frame", &[("frame 5,96 0,50", "0,50")]);
+    mistakes("nothing more after create", &[("create 4 3 1 2", "2")]);
+    let found = [("next =>", "nothing"), ("next => :", "nothing")];
+    mistakes("an answer after =>", &found);
+    mistakes("a call before =>", &[("=> done", "nothing")]);
+}
+
+#[test]
+fn mistakes_in_line_bytes() {
+    let found = [
+        ("line 300", "300"),
+        ("line", "nothing"),
+        ("line 1 -1", "-1"),
+        ("line +1", "+1"),
+        ("line \"2\" 2.5", "2.5"),
+    ];
+    mistakes("a byte from 0 to 255 after line", &found);
+    let found = [("restore", "nothing"), ("restore 1 256", "256")];
+    mistakes("a byte from 0 to 255 after restore", &found);
+    mistakes("a closing quotation mark", &[("line \"2.5", "none")]);
+    let between = "between the quotation marks";
+    mistakes(
+        &format!("characters {between}"),
+        &[("line \"\"", "nothing")],
+    );
+    let one = format!("characters of one byte {between}");
+    mistakes(&one, &[("line \"5Ω\"", "Ω")]);
+}
+
+#[test]
+fn mistakes_in_frames() {
+    let found = [
+        ("frame", "nothing"),
+        ("frame 5,256", "5,256"),
+        ("frame 5,", "5,"),
+        ("frame 16777216,0", "16777216,0"),
+        ("frame 4294967296", "4294967296"),
+        ("frame \"5,96\"", "\"5,96\""),
+    ];
+    let frame = "a frame as control,data with data up to 255, or as one number, after frame";
+    mistakes(frame, &found);
+}
+
+#[test]
+fn mistakes_in_registers() {
+    let found = [
+        ("register", "nothing"),
+        ("register R13 0", "R13"),
+        ("register C06 0", "C06"),
+        ("register R1 0", "R1"),
+        ("register 4294967296 0", "4294967296"),
+    ];
+    let register = "a register R00 to R12, C00 to C05 or a number after register";
+    mistakes(register, &found);
+    let found = [("register R10", "nothing"), ("register R10 x", "x")];
+    mistakes("a value from 0 to 4294967295 after register", &found);
+}
+
+#[test]
+fn mistakes_in_create_and_show() {
+    let lengths = "length from 0 to 1000000 after create";
+    mistakes(&format!("a receive {lengths}"), &[("create x", "x")]);
+    let found = [("create 64", "nothing"), ("create 64 1000001", "1000001")];
+    mistakes(&format!("a transmit {lengths}"), &found);
+    let found = [("create 64 64", "nothing")];
+    mistakes("a margin from 0 to 4294967295 after create", &found);
+    let found = [("show", "nothing"), ("show line", "line")];
+    mistakes("receive or transmit after show", &found);
+}
+
+#[test]
+fn long_words_are_cut() {
+    let sentence = mistake(&"x".repeat(1000));
+    assert!(sentence.ends_with(&format!("found {}", "x".repeat(40))));
+}
+
+#[test]
+fn lines_that_are_too_long_or_no_text() {
+    let long = "#".repeat(LONGEST_LINE + 1);
+    mistakes("a line of at most 4096 bytes", &[(&long, "a longer one")]);
+    assert!("#".repeat(LONGEST_LINE).parse::<Script>().is_ok());
+    let steps = raftershim_script::Steps::new(&b"key\nline \xff\n"[..]);
+    let last = steps.last().expect("a line").expect_err("no text");
+    let sentence = "line 2: expected text in UTF-8, found other bytes";
+    assert_eq!(last.to_string(), sentence);
+}
+
+/// Gives one line and then fails.
+struct Failing(&'static [u8]);
+
+impl Read for Failing {
+    fn read(&mut self, buffer: &mut [u8]) -> io::Result<usize> {
+        match self.0.read(buffer)? {
+            0 => Err(io::Error::new(io::ErrorKind::Other, "gone")),
+            taken => Ok(taken),
+        }
+    }
+}
+
+#[test]
+fn an_error_has_its_source() {
+    let mut steps = raftershim_script::Steps::new(BufReader::new(Failing(b"key\n")));
+    assert!(matches!(steps.next(), Some(Ok((1, _)))));
+    let unread = steps.next().expect("not the end").expect_err("it fails");
+    assert!(matches!(unread, Unread::Reading(_)));
+    assert_eq!(unread.to_string(), "the script cannot be read: gone");
+    assert!(unread.source().is_some());
+    let unread = "next 1".parse::<Script>().expect_err("a mistake");
+    let source = unread.source().expect("the mistake").to_string();
+    assert_eq!(unread.to_string(), format!("line 1: {source}"));
+}

@@ -1,0 +1,92 @@
+/*
+ * Holds examples/c/gaps.h to a history that is kept beside the bridge: every line byte, whether it found room, and which reading took it.
+ * Line bytes, readings that end or do not, and status polls come in any order.
+ */
+#include <stdio.h>
+
+#include "frames.h"
+#include "gaps.h"
+
+#define CR 13u
+#define LF 10u
+#define STEPS 400000
+#define SEND_STATUS FRAME(5u, 97u)
+
+static uint8_t block[RAFTERSHIM_BLOCK_LEN], rx[RECEIVE_LEN], tx[3];
+static struct gaps gaps;
+
+#define LENT block, sizeof block, rx, sizeof rx, tx, sizeof tx
+
+/* The history: the bytes that found room, whether one was lost before each, and how many were taken. */
+static uint8_t stored[STEPS + 3];
+static uint8_t gap_before[STEPS + 3];
+static uint32_t came, taken, reading_from;
+
+static uint32_t on_loop(uint32_t frame) {
+    return RAFTERSHIM_VALUE(raftershim_loop_frame(LENT, frame));
+}
+
+static void from_line(uint8_t byte) {
+    raftershim_line_byte(LENT, byte);
+    gaps_note(&gaps, block);
+    if (came - taken < RECEIVE_LEN) stored[came++] = byte;
+    else gap_before[came] = 1;
+}
+
+static int pair_at(uint32_t i) {
+    return i + 1u < came && stored[i] == CR && stored[i + 1u] == LF;
+}
+
+/* Takes from the history what one reading takes, by the rule; whether it ended. */
+static int history_ends(void) {
+    for (;;) {
+        while (pair_at(taken)) taken += 2u;
+        if (pair_at(taken + 1u)) return taken += 3u, 1;
+        if (taken + 1u >= came || (taken + 2u == came && stored[taken + 1u] == CR)) return 0;
+        taken++;
+    }
+}
+
+/* Whether a byte is missing in the reading that has just ended, by the history. */
+static int history_misses(void) {
+    int missing = 0;
+    for (; reading_from < taken; reading_from++) missing |= gap_before[reading_from];
+    return missing;
+}
+
+/* Plays the controller for a reading; whether it ended. */
+static int reading_ends(void) {
+    int ended = 0;
+    for (uint32_t frame = on_loop(SEND_DATA); IS_DATA(frame); frame = on_loop(frame)) {
+        ended = IS_END_BYTE(frame) != 0;
+        if (ended) on_loop(NOT_READY);
+    }
+    return ended;
+}
+
+int main(void) {
+    uint32_t random = 1u, readings = 0u, missing = 0u;
+    raftershim_create(LENT, 1);
+    raftershim_write_register(LENT, LINE_ENDS);
+    raftershim_write_register(LENT, NO_PROTOCOL);
+    on_loop(ASSIGN_1);
+    on_loop(TALK_1);
+    for (int step = 0; step < STEPS; step++) {
+        random = random * 1664525u + 1013904223u;
+        uint32_t draw = random >> 24;
+        if (draw < 8u) on_loop(on_loop(SEND_STATUS));
+        if (draw < 200u) {
+            from_line((uint8_t)("12.5\r\n\r\n"[draw % 8u]));
+            continue;
+        }
+        int ended = reading_ends(), told = ended && gaps_in_reading(&gaps, block), right = history_ends();
+        if (ended != right || (ended && told != history_misses())) {
+            printf("reading %u: ended %d, missing %d; by the history it ended %d\n", (unsigned)readings, ended, told, right);
+            return 1;
+        }
+        readings += (uint32_t)ended;
+        missing += (uint32_t)told;
+    }
+    printf("%u readings, %u with a byte missing, as in the history\n", (unsigned)readings, (unsigned)missing);
+    return readings == 0u || missing == 0u || missing == readings;
+}

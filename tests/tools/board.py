@@ -1,0 +1,28 @@
+"""A fault on a chip that tests/board/run.sh must find, on each board; and a count of instructions that saw no call."""
+import os
+
+from planting import ROOT, Room
+
+CHIPS = ("thumbv6m-none-eabi", "thumbv7em-none-eabi", "riscv32imc-unknown-none-elf")
+COUNT = ["awk", "-f", "tests/board/count.awk", "names", "trace"]
+NAMES = "00000100 00000010 t work\n00000201 00000010 T raftershim_line_byte\n00000301 00000010 T raftershim_loop_frame\n"
+
+
+def trace(*places):
+    """What the emulator writes of instructions at these places."""
+    return "".join(f"Trace 0: 0xffff [00800400/{place:08x}/00000510/ff000201] name\n" for place in places)
+
+
+def run():
+    """Plants every fault; how many."""
+    with Room("tests/board", "tests/c", "archives", "include") as room:
+        os.symlink(os.path.join(ROOT, "target"), room.at("target"))
+        for chip in CHIPS:
+            check = ["sh", "tests/board/run.sh", chip]
+            room.passes(check, "all as the paper says")
+            room.finds(check, "1 of", ("tests/c/calls.c", "IS(frame(5, 129), FRAME(5, 130))", "IS(frame(5, 129), FRAME(5, 131))"))
+        room.write("names", NAMES)
+        room.write("trace", trace(0x200, 0x100, 0x200, 0x202, 0x400, 0x102, 0x300, 0x104, 0x200, 0x106))
+        room.passes(COUNT, "a line byte: 2 instructions on average of 2, 3 at most")
+        room.finds(COUNT, "no call was seen", ("trace", trace(0x200, 0x300, 0x100, 0x200, 0x102)))
+        return room.count
