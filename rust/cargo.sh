@@ -1,5 +1,6 @@
 #!/bin/sh
 # Runs cargo for another target than this machine's: sh rust/cargo.sh TRIPLE WORDS..., as in sh rust/cargo.sh x86_64-unknown-linux-gnu test
+# The targets are x86_64-unknown-linux-gnu, aarch64-unknown-linux-gnu and thumbv6m-none-eabi.
 # Programs of this machine's own target need none of this: plain cargo does. For another, Debian's compiler and its standard library for
 # that target, a cross linker and an emulator stand in; what is missing is installed, after a line that says so.
 set -eu
@@ -19,12 +20,12 @@ if [ "$triple" = thumbv6m-none-eabi ]; then
     cd "$here" && exec /usr/bin/cargo "$@"
 fi
 
-for_target "$triple"
 case $triple in
-    x86_64-*) debian=amd64 ;;
-    aarch64-*) debian=arm64 ;;
-    *) debian=armhf ;;
+    x86_64-unknown-linux-gnu) debian=amd64 ;;
+    aarch64-unknown-linux-gnu) debian=arm64 ;;
+    *) echo "cargo.sh: there is no Rust here for $triple" >&2; exit 2 ;;
 esac
+for_target "$triple"
 if ! { [ -x /usr/bin/cargo ] && [ -d "/usr/lib/rustlib/$triple/lib" ]; }; then
     dpkg --add-architecture "$debian"
     install rustc cargo "libstd-rust-dev:$debian"

@@ -7,8 +7,8 @@ cd "$(dirname "$0")/.."
 . archives/tools.sh
 folder=$(pwd)/target/rust/core/$1
 libraries=$folder/lib/rustlib/$1/lib
-source=/usr/src/rustc-1.63.0/library/core/src/lib.rs
-[ -x /usr/bin/rustc ] && [ -f "$source" ] || install rustc rust-src
+source_of_core() { echo /usr/src/rustc-*/library/core/src/lib.rs; }
+[ -x /usr/bin/cargo ] && [ -f "$(source_of_core)" ] || install rustc cargo rust-src
 
 library() { # NAME SOURCE WORDS...
     name=$1
@@ -20,7 +20,7 @@ library() { # NAME SOURCE WORDS...
 triple=$1
 if [ ! -f "$libraries/libcompiler_builtins.rlib" ]; then
     mkdir -p "$libraries"
-    library core "$source"
+    library core "$(source_of_core)"
     echo '#![feature(compiler_builtins)] #![compiler_builtins] #![no_builtins] #![no_std]' > "$folder/empty.rs"
     library compiler_builtins "$folder/empty.rs" --extern "core=$libraries/libcore.rlib"
 fi
