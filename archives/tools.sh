@@ -10,6 +10,9 @@ have() { command -v "$1" > /dev/null 2>&1; }
 
 install() { # PACKAGE...
     echo "Installing from Debian, as root: $*" >&2
+    for package in "$@"; do
+        case $package in *:*) dpkg --add-architecture "${package#*:}" ;; esac
+    done
     { apt-get update -qq && apt-get install -y -qq --no-install-recommends "$@"; } > /dev/null
 }
 

@@ -26,10 +26,7 @@ case $triple in
     *) echo "cargo.sh: there is no Rust here for $triple" >&2; exit 2 ;;
 esac
 for_target "$triple"
-if ! { [ -x /usr/bin/cargo ] && [ -d "/usr/lib/rustlib/$triple/lib" ]; }; then
-    dpkg --add-architecture "$debian"
-    install rustc cargo "libstd-rust-dev:$debian"
-fi
+[ -x /usr/bin/cargo ] && [ -d "/usr/lib/rustlib/$triple/lib" ] || install rustc cargo "libstd-rust-dev:$debian"
 name=$(echo "$triple" | tr 'a-z-' 'A-Z_')
 export "CARGO_TARGET_${name}_LINKER=${prefix}gcc" "CARGO_TARGET_${name}_RUNNER=$emulator"
 # RUSTC_BOOTSTRAP lets this cargo run the examples of the documentation for another processor than its own
