@@ -8,7 +8,7 @@
  *
  * A length has 64 bits on every target, also where a pointer has 32: that is what the proved code takes, so no length is ever cut.
  *
- * The first byte of a block is the version of its layout, which is 1. A block with another first byte is not a state: every call but
+ * The first byte of a block is the version of its layout, which is 2. A block with another first byte is not a state: every call but
  * create is refused by 2, and showing answers an empty part. What the other bytes are stands below: a caller may read them and writes
  * none.
  *
@@ -64,10 +64,10 @@ extern "C" {
 #define RAFTERSHIM_TRANSMIT 1u
 
 /*
- * The layout of a block, version 1: where each field starts, and how it is packed. A number of two or four bytes has its low byte first;
+ * The layout of a block, version 2: where each field starts, and how it is packed. A number of two or four bytes has its low byte first;
  * a flag is 1 or 0. A field means what it says while the block is a state, which is after create, and after every later call.
  */
-#define RAFTERSHIM_VERSION 1u
+#define RAFTERSHIM_VERSION 2u
 #define RAFTERSHIM_BLOCK_LEN 56u
 
 #define RAFTERSHIM_AT_VERSION 0u /* byte: the version */

@@ -140,7 +140,7 @@ static void other_blocks(void) {
         block[i] = b;
     }
     for (int version = 0; version < 256; version++) {
-        if (version == 1) continue;
+        if (version == RAFTERSHIM_VERSION) continue;
         block[0] = (uint8_t)version;
         misfits();
     }

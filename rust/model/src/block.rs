@@ -9,7 +9,7 @@ use crate::{Bridge, Registers, Ring};
 pub const LEN: usize = 56;
 
 /// What the first byte of every block is.
-pub const VERSION: u8 = 1;
+pub const VERSION: u8 = 2;
 
 /// The block of a state; lengths, margin and places are cut to two bytes.
 #[inline]

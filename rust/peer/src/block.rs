@@ -3,6 +3,9 @@
 /// The state as the caller keeps it.
 pub type Block = [u8; 56];
 
+/// What the first byte of our blocks is.
+const OURS: u8 = 2;
+
 /// The places of the fields; a number of several bytes starts there, low byte first.
 const VERSION: usize = 0;
 pub const MARGIN: usize = 1;
@@ -44,7 +47,7 @@ pub const UNASSIGNED: u8 = 31;
 /// What create gives, sizes and margin aside: no address, the protocol on, and the characters.
 const START: Block = {
     let mut block = [0; 56];
-    block[VERSION] = 1;
+    block[VERSION] = OURS;
     block[ADDRESS] = UNASSIGNED;
     block[R11] = 8;
     block[C00] = 13;
@@ -119,7 +122,7 @@ pub fn fits(block: &Block, rx_len: usize, tx_len: usize) -> bool {
         at(place) == len && at(place + 2) < len && at(place + 4) <= len
     };
     let wrong = |row: usize| eight(block, 24 + 8 * row) & u64::from_le_bytes(ZERO[row]);
-    block[VERSION] == 1
+    block[VERSION] == OURS
         && wrong(0) | wrong(1) | wrong(2) | wrong(3) == 0
         && ring(3, rx_len)
         && ring(9, tx_len)

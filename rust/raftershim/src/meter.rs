@@ -342,12 +342,12 @@ where
     /// The bridge, to be used without the meter, or to be saved.
     ///
     /// ```
-    /// use raftershim::{Meter, Notes, Stores};
+    /// use raftershim::{Meter, Notes, Saved, Stores};
     ///
     /// let stores = Stores { receive: [0; 64], transmit: [0; 64] };
     /// let meter = Meter::create(stores, Notes { gaps: [0; 8], text: [0; 32] }, 8)?;
     /// let (saved, stores) = meter.into_bridge().into_parts();
-    /// assert_eq!((saved.version(), stores.receive.len()), (1, 64));
+    /// assert_eq!((saved.version(), stores.receive.len()), (Saved::VERSION, 64));
     /// # Ok::<(), raftershim::Refusal>(())
     /// ```
     pub fn into_bridge(self) -> Bridge<R, T> {

@@ -25,15 +25,15 @@ pub struct Saved([u8; BLOCK_LEN]);
 
 impl Saved {
     /// The version of the layout that this crate writes and takes.
-    pub const VERSION: u8 = 1;
+    pub const VERSION: u8 = 2;
 
     /// The version of the layout.
     ///
     /// ```
-    /// use raftershim::{Bridge, Stores};
+    /// use raftershim::{Bridge, Saved, Stores};
     ///
     /// let bridge = Bridge::create(Stores { receive: [0; 64], transmit: [0; 64] }, 8)?;
-    /// assert_eq!(bridge.saved().version(), 1);
+    /// assert_eq!(bridge.saved().version(), Saved::VERSION);
     /// # Ok::<(), raftershim::Refusal>(())
     /// ```
     pub const fn version(&self) -> u8 {

@@ -15,7 +15,7 @@ Usage: replay without an argument reads the script from standard input.
 A script has one call a line. Numbers are decimal.
 create 64 64 8: make a bridge with these lengths of the receive and the transmit store and this margin.
 reset: give the bridge the state that create gave.
-restore 1 8 0 and so on: put the bridge together again from the 56 bytes of a saved block, on its stores as they are.
+restore 2 8 0 and so on: put the bridge together again from the 56 bytes of a saved block, on its stores as they are.
 register R10 8: write a register. It is R00 to R12, C00 to C05, or a number.
 line 50: take a byte from the line. Several may follow, and text in quotation marks: line \"2.5\" 13 10.
 The answer to line says how many bytes were stored, lost, taken as go or taken as stop, as in 4 stored, 1 lost.

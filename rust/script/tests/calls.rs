@@ -22,7 +22,7 @@ fn calls() {
     };
     assert_eq!(call("create 64 32 8"), create);
     assert_eq!(call("reset"), Call::Reset);
-    assert_eq!(call("restore 1 8 0"), Call::Restore(vec![1, 8, 0]));
+    assert_eq!(call("restore 2 8 0"), Call::Restore(vec![2, 8, 0]));
     assert_eq!(call("break"), Call::Break);
     assert_eq!(call("key"), Call::Key);
     assert_eq!(call("next"), Call::Next);
