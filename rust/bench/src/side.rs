@@ -1,4 +1,4 @@
-//! A side: the C functions of one bridge, by pointer, so that every side is called by the same code.
+//! A side: the C functions of one bridge, by pointer: every side is called by the same code.
 
 use raftershim::raw;
 

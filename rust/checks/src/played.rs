@@ -15,7 +15,7 @@ fn created(both: [Implementation; 2], sizes: [u32; 3]) -> Result<(Pair, u64), St
 }
 
 /// Plays a script on both, call by call; a refused create leaves what was there, and a restored
-/// block is lent as it is. Gives how many calls were compared, or a sentence that says what differs.
+/// block is lent as it is. Gives how many calls were compared, or a sentence on what differs.
 pub fn play(both: [Implementation; 2], script: &Script) -> Result<usize, String> {
     let (mut pair, _) = created(both, [DEFAULT_STORE, DEFAULT_STORE, DEFAULT_MARGIN])?;
     let mut asked = 0;
