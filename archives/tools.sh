@@ -6,6 +6,9 @@ case $own in
     *) other=x86_64-unknown-linux-gnu ;;
 esac
 
+# The names of all targets.
+targets() { sed -n 's/^\([a-z0-9_]*-[^ ]*\) .*/\1/p' archives/targets; }
+
 have() { command -v "$1" > /dev/null 2>&1; }
 
 install() { # PACKAGE...

@@ -1,6 +1,7 @@
 #!/bin/sh
 # Runs cargo for another target than this machine's: sh rust/cargo.sh TRIPLE WORDS..., as in sh rust/cargo.sh x86_64-unknown-linux-gnu test
-# The targets are x86_64-unknown-linux-gnu, aarch64-unknown-linux-gnu and thumbv6m-none-eabi.
+# The targets are x86_64-unknown-linux-gnu, aarch64-unknown-linux-gnu and thumbv6m-none-eabi. Debian's cargo is 1.65: an app's Cargo.lock
+# that a newer cargo wrote must be removed first.
 # Programs of this machine's own target need none of this: plain cargo does. For another, Debian's compiler and its standard library for
 # that target, a cross linker and an emulator stand in; what is missing is installed, after a line that says so.
 set -eu

@@ -38,8 +38,8 @@ divides() { # TRIPLE ARCHIVE
     grep -cE '^ +[0-9a-f]+:' "$out/code" > "$out/instructions" || fails "$1" 'the archive has no code that can be read'
 }
 
-for triple in "${@:-}"; do
-    [ -n "$triple" ] || { sh archives/make.sh all > /dev/null; exec sh "$0" $(sed -n 's/^\([a-z0-9_]*-[^ ]*\) .*/\1/p' archives/targets); }
+[ $# -gt 0 ] || set -- $(targets)
+for triple in "$@"; do
     archive=$(archive_of "$triple")
     asked "$triple" "$archive"
     exported "$triple" "$archive"

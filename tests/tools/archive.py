@@ -80,6 +80,8 @@ def run():
         copies = f"extern void *memcpy(void *, const void *, unsigned long);\n{KEPT} void *x(void *a, void *b, long n) {{ return memcpy(a, b, n); }}\n"
         made(room, "aarch64-unknown-linux-gnu", copies)
         room.passes([*CONTENTS, "aarch64-unknown-linux-gnu"], "asks for memcpy")
+        made(room, "aarch64-unknown-linux-gnu", KEPT + ' void x(void) { __asm__(".inst 0xffffffff"); }\n')
+        room.finds([*CONTENTS, "aarch64-unknown-linux-gnu"], "has code that cannot be read")
         made(room, X86)
         room.write("target/staticlib/libraftershim.a", "another")
         room.finds([*CONTENTS, X86], "it is not the kit's")
