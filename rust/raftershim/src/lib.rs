@@ -120,11 +120,11 @@ pub use status::StatusByte;
 /// The length in bytes of every block, and so of what is [`Saved`].
 ///
 /// ```
-/// use raftershim::{Bridge, Stores, BLOCK_LEN};
+/// use raftershim::{Bridge, Saved, Stores, BLOCK_LEN};
 ///
 /// let bridge = Bridge::create(Stores { receive: [0; 64], transmit: [0; 64] }, 8)?;
 /// let file: [u8; BLOCK_LEN] = *bridge.saved().as_bytes();
-/// assert_eq!((file.len(), file[0]), (56, 1));
+/// assert_eq!((file.len(), file[0]), (56, Saved::VERSION));
 /// # Ok::<(), raftershim::Refusal>(())
 /// ```
 pub const BLOCK_LEN: usize = 56;

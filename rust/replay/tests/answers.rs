@@ -39,13 +39,13 @@ fn what_became_of_line_bytes() {
 
 #[test]
 fn a_saved_block_is_put_on_the_stores() {
-    let fresh = "1 1 0 4 0 0 0 0 0 3 0 0 0 0 0 0 0 0 0 0 0 0 0 0 0 0 0 31 0 0 0 0 0 \
+    let fresh = "2 1 0 4 0 0 0 0 0 3 0 0 0 0 0 0 0 0 0 0 0 0 0 0 0 0 0 31 0 0 0 0 0 \
                  0 0 0 0 8 13 10 13 10 17 19 0 0 0 0 0 0 0 0 0 0 0 0";
     let two_held = fresh.replacen("4 0 0 0 0 0", "4 0 1 0 2 0", 1);
     let other_length = fresh.replacen("4 0", "5 0", 1);
     let script = format!(
         "create 4 3 1\nline \"1234\"\nrestore {two_held} => done\nshow receive => 2 bytes: 50 51\n\
-         restore {other_length} => refusal 2\nrestore 1 => refusal 2\nshow receive => 2 bytes 50 51\n\
+         restore {other_length} => refusal 2\nrestore 2 => refusal 2\nshow receive => 2 bytes 50 51\n\
          restore {fresh} => done\nshow receive => nothing\n"
     );
     assert_eq!(ends(&script), end(0, "7 lines as expected, 0 differ"));
