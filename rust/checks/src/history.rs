@@ -190,6 +190,10 @@ impl Reader for History {
     fn act(&mut self, act: Act) -> Told {
         let call = match act {
             Act::Read => return self.read(),
+            Act::Gap => {
+                self.line.push((0, Fate::Missing));
+                return Told::Answer(Ok(Answer::Done));
+            }
             Act::Call(call) => call,
         };
         let go = self.state().registers.c[4];

@@ -8,6 +8,8 @@ use raftershim::{Answer, Answered, Frame, LineByte, Meter, Reading, Refusal, Reg
 pub enum Act {
     /// A call of the bridge.
     Call(Call),
+    /// It says that its port lost a byte.
+    Gap,
     /// It asks for a reading.
     Read,
 }
@@ -46,6 +48,7 @@ where
     fn act(&mut self, act: Act) -> Told {
         let call = match act {
             Act::Read => return told(self.reading()),
+            Act::Gap => return Told::Answer(self.line_gap().map(Answer::from)),
             Act::Call(call) => call,
         };
         Told::Answer(match call {

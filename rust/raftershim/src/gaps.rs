@@ -4,9 +4,9 @@ use crate::State;
 
 /// A bit for each place of the receive store: a byte is missing right after the one held there.
 ///
-/// A byte is lost only while the store is full, so it is missing after the newest byte. The bit is
-/// taken when that byte leaves the store. So a bit for each place is enough, however many bytes are
-/// lost.
+/// A byte that is lost is missing after the newest byte. The bit is taken when that byte leaves the
+/// store. So a bit for each place is enough, however many bytes are lost. The bridge loses a byte
+/// only while the store is full; one lost on the way to an empty store is noted elsewhere.
 #[derive(Clone, PartialEq, Eq, Hash)]
 pub(crate) struct Gaps<G>(G);
 

@@ -21,8 +21,11 @@ pub struct Notes<G, X> {
 /// A bridge with a meter on its line, which gives the meter's readings one by one and says of each
 /// whether a byte is missing in it.
 ///
-/// It finds the ends of lines from the start. All calls of a [`Bridge`] are here too, so that the
-/// meter sees them; none of them makes a reading wrong unsaid.
+/// It finds the ends of lines from the start. A reading ends with the pair C00 and C01, which is at
+/// first CR LF. A meter that ends its lines with one character gives no reading.
+///
+/// All calls of a [`Bridge`] are here too, so that the meter sees them; none of them makes a reading
+/// wrong unsaid.
 ///
 /// # Which reading has a gap
 ///
@@ -41,8 +44,11 @@ pub struct Notes<G, X> {
 /// - Data frames that the app takes by [`loop_frame`](Meter::loop_frame) are missing in the reading
 ///   that they belong to. A reading whose end the app has so taken is not given.
 /// - A reading that is longer than the text has a gap.
+/// - A byte that the serial port lost was never seen here, so the app says where it is missing, by
+///   [`line_gap`](Meter::line_gap).
 ///
-/// Neither status polls nor breaks nor keys change any of this.
+/// Neither status polls nor breaks nor keys change any of this. R10, C00 and C01 count as they are
+/// when a byte is read. Write them only when all is read.
 ///
 /// ```
 /// use raftershim::{Meter, Notes, Reading, Stores};
@@ -226,9 +232,45 @@ where
         let state = self.bridge.state()?;
         let taken = self.bridge.line_byte(byte)?;
         if taken == LineByte::Lost {
-            self.gaps.note(newest(&state));
+            self.missing_after_newest(&state);
         }
         Ok(taken)
+    }
+
+    /// Notes that a byte was lost before it came to the bridge, such as by an overrun of the serial
+    /// port, after all bytes given so far and before the next one. One call does for several bytes
+    /// lost there.
+    ///
+    /// The byte is missing right after the newest one that came, and counts as any other byte lost
+    /// there. If that one was an end of line, it is missing in the next reading. The bridge is not
+    /// told, so neither its count of bytes lost nor its status byte has it.
+    ///
+    /// A port with a FIFO loses the byte that comes after those still in it. So call this when they
+    /// were taken and given. If the port does not say when it lost the byte, call it both before and
+    /// after they are given: that may warn of a reading too many, and of none too few.
+    ///
+    /// # Errors
+    ///
+    /// Refusal 2.
+    ///
+    /// ```
+    /// use raftershim::{Meter, Notes, Reading, Stores};
+    ///
+    /// let stores = Stores { receive: [0; 64], transmit: [0; 64] };
+    /// let mut meter = Meter::create(stores, Notes { gaps: [0; 8], text: [0; 32] }, 8)?;
+    /// // The port hands over the 2 and says that it lost what came after.
+    /// meter.line_bytes(b"1.5\r\n2")?;
+    /// meter.line_gap()?;
+    /// meter.line_bytes(b"5\r\n")?;
+    /// assert!(matches!(meter.reading()?, Reading::Whole(text) if text.as_bytes() == b"1.5"));
+    /// assert!(matches!(meter.reading()?, Reading::Gap(text) if text.as_bytes() == b"25"));
+    /// # Ok::<(), raftershim::Refusal>(())
+    /// ```
+    #[must_use = "a refused gap is not noted"]
+    pub fn line_gap(&mut self) -> Result<(), Refusal> {
+        let state = self.bridge.state()?;
+        self.missing_after_newest(&state);
+        Ok(())
     }
 
     /// Takes a break on the line, as [`Bridge::line_break`] does.
@@ -276,6 +318,9 @@ where
     /// Takes a frame from the loop, as [`Bridge::loop_frame`] does, for instance to ask for the
     /// status. Data frames that it gives are not in the readings.
     ///
+    /// A fresh bridge is no talker, and passes [`Frame::SEND_STATUS`] on: take the answer as a status
+    /// only if it [is data](Frame::is_data).
+    ///
     /// # Errors
     ///
     /// Refusal 4 if the bridge is busy, and 2.
@@ -288,6 +333,7 @@ where
     /// // After a reading the bridge is talker, so it can be asked for its status.
     /// assert!(matches!(meter.reading()?, Reading::NotEnded(_)));
     /// let status = meter.loop_frame(Frame::SEND_STATUS)?;
+    /// assert!(status.is_data());
     /// assert!(!StatusByte::from(status.data()).has(StatusByte::OVERRUN));
     /// assert_eq!(meter.loop_frame(status)?, Frame::END_OF_TRANSMISSION);
     /// # Ok::<(), raftershim::Refusal>(())
@@ -399,6 +445,15 @@ where
                 (true, Reader::Meter) => self.line.end(missing),
                 (true, Reader::App) => self.line.drop(missing),
             }
+        }
+    }
+
+    /// A byte is missing after the newest one that came: after the newest held, or if none is held,
+    /// in the line under way.
+    fn missing_after_newest(&mut self, state: &State) {
+        match state.receive.held {
+            0 => self.line.lacks(true),
+            _ => self.gaps.note(newest(state)),
         }
     }
 

@@ -88,6 +88,42 @@ fn a_reset_cuts_one_reading_and_no_other() {
 }
 
 #[test]
+fn a_byte_that_the_port_lost_is_missing_after_the_newest_that_came() {
+    let mut meter = meter();
+    // Before the first byte; after an end of line that is held; and within a reading that is held.
+    assert_eq!(meter.line_gap(), Ok(()));
+    assert_eq!(meter.line_bytes(b"1\r\n"), Ok(0));
+    assert_eq!(read(&mut meter), "gap 1");
+    assert_eq!(meter.line_bytes(b"2\r\n"), Ok(0));
+    assert_eq!(meter.line_gap(), Ok(()));
+    assert_eq!(meter.line_bytes(b"3\r\n"), Ok(0));
+    assert_eq!([read(&mut meter), read(&mut meter)], ["whole 2", "gap 3"]);
+    assert_eq!(meter.line_bytes(b"2"), Ok(0));
+    assert_eq!(meter.line_gap(), Ok(()));
+    assert_eq!(meter.line_bytes(b"5\r\n4\r\n"), Ok(0));
+    assert_eq!([read(&mut meter), read(&mut meter)], ["gap 25", "whole 4"]);
+    assert_eq!(meter.bridge().state().unwrap().lost, 0);
+}
+
+#[test]
+fn a_byte_that_the_port_lost_when_all_is_read_is_missing_in_what_is_under_way() {
+    let mut meter = meter();
+    // A byte that may be an end byte is kept back while ends of lines are found.
+    meter.write_register(Register::R10, 0).unwrap();
+    assert_eq!(meter.line_bytes(b"2"), Ok(0));
+    assert_eq!(read(&mut meter), "not ended 2");
+    let finding = Register::R10_FIND_LINE_END;
+    meter.write_register(Register::R10, finding).unwrap();
+    assert_eq!(meter.line_gap(), Ok(()));
+    assert_eq!(meter.line_bytes(b"5\r\n"), Ok(0));
+    assert_eq!(read(&mut meter), "gap 25");
+    // The reading has ended and is told, so the next one lacks it.
+    assert_eq!(meter.line_gap(), Ok(()));
+    assert_eq!(meter.line_bytes(b"3\r\n4\r\n"), Ok(0));
+    assert_eq!([read(&mut meter), read(&mut meter)], ["gap 3", "whole 4"]);
+}
+
+#[test]
 fn a_stop_character_that_is_the_point_swallows_it_unsaid() {
     // So the manual has it, and the page of the registers warns of it.
     let mut meter = meter();

@@ -13,6 +13,8 @@ pub enum Letter {
     /// An end of line, both its characters.
     LineEnd,
     Read,
+    /// The port lost a byte.
+    Gap,
     Next,
     Break,
     Key,
@@ -32,6 +34,7 @@ impl Letter {
     fn acts(self, last: u32) -> Vec<Act> {
         let calls = match self {
             Letter::Read => return vec![Act::Read],
+            Letter::Gap => return vec![Act::Gap],
             Letter::Line(byte) => vec![Call::Line(byte)],
             Letter::LineEnd => vec![Call::Line(b'\r'), Call::Line(b'\n')],
             Letter::Next => vec![Call::Next],

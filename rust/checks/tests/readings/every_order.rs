@@ -3,7 +3,7 @@
 use crate::both::{our_meter, Both, Counts, Letter, Sizes};
 use raftershim_checks::told::Reader;
 use Letter::{
-    AskData, AskStatus, Back, Break, Clear, Key, Line, LineEnd, Next, Read, Register, Reset,
+    AskData, AskStatus, Back, Break, Clear, Gap, Key, Line, LineEnd, Next, Read, Register, Reset,
 };
 
 /// What to go through.
@@ -84,6 +84,21 @@ fn bytes_ends_of_lines_and_reads() {
     };
     held("the same, store 5", longer(5, 1, 8));
     held("the same, store 6, texts of 2", longer(6, 2, 2));
+}
+
+pub const PORT_GAPS: Plan = Plan {
+    letters: &[Line(b'2'), Line(b'\r'), Line(b'\n'), Gap, Read],
+    length: 8,
+    ..BYTES_AND_READS
+};
+
+#[test]
+fn bytes_that_the_port_lost() {
+    held("bytes that the port lost, store 4", PORT_GAPS);
+    let letters = &[Line(b'2'), LineEnd, Gap, Read, AskData, Back, Clear];
+    held_on_both("the same and the app itself", &[], letters, [7, 7]);
+    let letters = &[Line(b'2'), LineEnd, Gap, Read, Clear, Reset];
+    held_on_both("the same and resets", &[], letters, [7, 7]);
 }
 
 /// Holds every order of these letters on stores of 4 and 5, after these.

@@ -2,8 +2,8 @@
 
 use crate::at_random::runs;
 use crate::both::{our_meter, OurMeter, Sizes};
-use crate::every_order::{go_through, BYTES_AND_READS};
-use raftershim::BLOCK_LEN;
+use crate::every_order::{go_through, BYTES_AND_READS, PORT_GAPS};
+use raftershim::{Answer, BLOCK_LEN};
 use raftershim_checks::told::{Act, Reader, Told, Worth};
 
 /// The crate's meter, with what it tells made wrong.
@@ -11,7 +11,8 @@ use raftershim_checks::told::{Act, Reader, Told, Worth};
 struct Wrong {
     meter: OurMeter,
     fault: Fault,
-    /// The count of bytes lost at the last reading, or whether the last one had a gap.
+    /// The count of bytes lost at the last reading, whether the last one had a gap, or whether the
+    /// port lost a byte since.
     noted: u32,
 }
 
@@ -25,6 +26,10 @@ enum Fault {
     OneLate,
     /// A reading that has not ended is called whole.
     NotAwaited,
+    /// A byte that the port lost is not heard of.
+    PortUnheard,
+    /// A byte that the port lost is said of the reading that is told next.
+    PortTooEarly,
 }
 
 impl Wrong {
@@ -35,6 +40,10 @@ impl Wrong {
             (Fault::NotAwaited, Worth::NotEnded) => Worth::Whole,
             (_, Worth::NotEnded) | (Fault::NotAwaited, _) => worth,
             (Fault::Unwarned, _) => Worth::Whole,
+            (Fault::PortUnheard, _) => worth,
+            (Fault::PortTooEarly, _) => {
+                gap(std::mem::take(&mut self.noted) == 1 || worth == Worth::Gap)
+            }
             (Fault::ByCount, _) => gap(std::mem::replace(&mut self.noted, lost) != lost),
             (Fault::OneLate, _) => {
                 let bad = u32::from(worth == Worth::Gap);
@@ -46,6 +55,10 @@ impl Wrong {
 
 impl Reader for Wrong {
     fn act(&mut self, act: Act) -> Told {
+        if let (Act::Gap, Fault::PortUnheard | Fault::PortTooEarly) = (act, self.fault) {
+            self.noted = 1;
+            return Told::Answer(Ok(Answer::Done));
+        }
         match self.meter.act(act) {
             Told::Reading(worth, text) => Told::Reading(self.worth(worth), text),
             told => told,
@@ -68,25 +81,29 @@ fn wrong(sizes: Sizes, fault: Fault) -> Wrong {
 #[test]
 fn every_order_finds_each_fault() {
     let faults = [
-        Fault::Unwarned,
-        Fault::ByCount,
-        Fault::OneLate,
-        Fault::NotAwaited,
+        (Fault::Unwarned, BYTES_AND_READS),
+        (Fault::ByCount, BYTES_AND_READS),
+        (Fault::OneLate, BYTES_AND_READS),
+        (Fault::NotAwaited, BYTES_AND_READS),
+        (Fault::PortUnheard, PORT_GAPS),
+        (Fault::PortTooEarly, PORT_GAPS),
     ];
-    for fault in faults {
-        let reader = wrong(BYTES_AND_READS.sizes, fault);
-        let finding = go_through(&BYTES_AND_READS, reader).unwrap_err();
+    for (fault, plan) in faults {
+        let reader = wrong(plan.sizes, fault);
+        let finding = go_through(&plan, reader).unwrap_err();
         println!("readings, a planted fault: {finding}");
     }
 }
 
 #[test]
 fn runs_at_random_find_each_fault() {
-    let makes: [fn(Sizes) -> Wrong; 4] = [
+    let makes: [fn(Sizes) -> Wrong; 6] = [
         |sizes| wrong(sizes, Fault::Unwarned),
         |sizes| wrong(sizes, Fault::ByCount),
         |sizes| wrong(sizes, Fault::OneLate),
         |sizes| wrong(sizes, Fault::NotAwaited),
+        |sizes| wrong(sizes, Fault::PortUnheard),
+        |sizes| wrong(sizes, Fault::PortTooEarly),
     ];
     for make in makes {
         let finding = runs(make, 100).unwrap_err();
