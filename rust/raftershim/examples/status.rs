@@ -11,9 +11,10 @@ fn main() -> Result<(), Refusal> {
     let mut bridge: Polled = Bridge::create(stores, 1)?;
     let asking = Register::R00_SHOW_REQUESTS | Register::R00_OVERRUN;
     bridge.write_register(Register::R00, asking)?;
+    say("before it is talker", &mut bridge)?;
     bridge.loop_frame(Frame::auto_address(Address::FIRST))?;
     bridge.loop_frame(Frame::talk_address(Address::FIRST))?;
-    println!("at first: {}", poll(&mut bridge)?);
+    say("at first", &mut bridge)?;
     for byte in *b"12.55" {
         if bridge.line_byte(byte)? == LineByte::Lost {
             println!("lost: {}", char::from(byte));
@@ -22,18 +23,29 @@ fn main() -> Result<(), Refusal> {
     let identify = Frame::new(6, 0)?;
     let asks = bridge.loop_frame(identify)?.asks_service();
     println!("asks for service: {asks}");
-    println!("then: {}", poll(&mut bridge)?);
-    println!("told, so then: {}", poll(&mut bridge)?);
+    say("then", &mut bridge)?;
+    say("told, so then", &mut bridge)
+}
+
+fn say(when: &str, bridge: &mut Polled) -> Result<(), Refusal> {
+    match poll(bridge)? {
+        Some(status) => println!("{when}: {status}"),
+        None => println!("{when}: no status"),
+    }
     Ok(())
 }
 
 // Asks for the status byte and gives it back, so that the bridge knows that it was told. One that
-// comes back changed is not believed, and is asked for again.
-fn poll(bridge: &mut Polled) -> Result<StatusByte, Refusal> {
+// comes back changed is not believed, and is asked for again. A bridge that is not talker passes the
+// question on, so what is no data is no status.
+fn poll(bridge: &mut Polled) -> Result<Option<StatusByte>, Refusal> {
     loop {
         let status = bridge.loop_frame(Frame::SEND_STATUS)?;
+        if !status.is_data() {
+            return Ok(None);
+        }
         if bridge.loop_frame(status)? == Frame::END_OF_TRANSMISSION {
-            return Ok(status.data().into());
+            return Ok(Some(status.data().into()));
         }
     }
 }

@@ -390,7 +390,9 @@ where
         }
     }
 
-    /// Takes a frame from the loop, and gives the one frame that goes on.
+    /// Takes a frame from the loop, and gives the one frame that goes on. A frame that is not for
+    /// this bridge goes on as it is: if it is not talker, so does [`Frame::SEND_STATUS`], and the
+    /// answer is a status only if it [is data](Frame::is_data).
     ///
     /// # Errors
     ///

@@ -26,7 +26,8 @@ impl Frame {
     /// [`END_OF_TRANSMISSION`](Frame::END_OF_TRANSMISSION) if it has none.
     pub const SEND_DATA: Frame = Frame::joined(5, 96);
     /// 5,97, send status: the addressed talker answers with its
-    /// [`StatusByte`](crate::StatusByte).
+    /// [`StatusByte`](crate::StatusByte). A bridge that is not talker passes 5,97 on, so take the
+    /// answer as a status only if it [is data](Frame::is_data).
     pub const SEND_STATUS: Frame = Frame::joined(5, 97);
     /// 5,66, not ready: the talker finishes after the frame under way. A controller that has seen
     /// the end byte of a reading sends it before it passes that frame on, and so stops there.
