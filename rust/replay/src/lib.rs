@@ -6,12 +6,14 @@
 //!
 //! - [`run`] makes the calls, line by line, and compares the answers;
 //! - [`say`] has the sentences of the answers;
-//! - [`counts`] says what came of it all, and [`stop`] why it ended early.
+//! - [`counts`] says what came of it all, and [`stop`] why it ended early;
+//! - [`keyboard`] tells a person who types that a script is awaited.
 
 #![forbid(unsafe_code)]
 #![deny(missing_docs)]
 
 pub mod counts;
+pub mod keyboard;
 pub mod run;
 pub mod say;
 pub mod stop;

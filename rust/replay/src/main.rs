@@ -2,6 +2,7 @@
 
 #![forbid(unsafe_code)]
 
+use raftershim_replay::{keyboard, program};
 use std::env;
 use std::ffi::OsString;
 use std::io;
@@ -9,7 +10,10 @@ use std::process::ExitCode;
 
 fn main() -> ExitCode {
     let arguments: Vec<OsString> = env::args_os().skip(1).collect();
-    ExitCode::from(raftershim_replay::program(
+    if arguments.is_empty() && keyboard::is_input() {
+        eprintln!("{}", keyboard::READS_FROM_IT);
+    }
+    ExitCode::from(program(
         &arguments,
         &mut io::stdin().lock(),
         &mut io::stdout().lock(),

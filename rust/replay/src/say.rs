@@ -10,7 +10,7 @@ pub const HELP: &str = "\
 replay plays a script of calls to the bridge and says each answer.
 
 Usage: replay SCRIPT reads the script from that file.
-Usage: replay without an argument reads the script from standard input.
+Usage: replay without an argument reads the script from standard input, which is the keyboard if nothing else was given.
 
 A script has one call a line. Numbers are decimal.
 create 64 64 8: make a bridge with these lengths of the receive and the transmit store and this margin.
