@@ -51,10 +51,11 @@ static inline void gaps_note(struct gaps *gaps, const uint8_t *block) {
     gaps_here(gaps, block);
 }
 
-/* To be called after a reset or a device clear: no gap is ahead any more, and the next reading may lack what was thrown away. */
-static inline void gaps_thrown_away(struct gaps *gaps, const uint8_t *block) {
-    gaps->lost = RAFTERSHIM_LOST(block);
-    gaps->taken = RAFTERSHIM_STORED(block);
+/*
+ * To be called after a reset or a device clear: no gap is ahead any more, and the next reading may lack what was thrown away. After a reset
+ * the two counts catch up at the next line byte; if that notes a gap, it is in the same reading.
+ */
+static inline void gaps_thrown_away(struct gaps *gaps) {
     gaps->count = 0u;
     gaps->missing = 1;
 }

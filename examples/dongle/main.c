@@ -53,7 +53,7 @@ static int loop_turn(void) {
     offered = RAFTERSHIM_KIND(answer) == RAFTERSHIM_REFUSED && value == RAFTERSHIM_BUSY;
     if (RAFTERSHIM_KIND(answer) != RAFTERSHIM_FRAME) return 0;
     loop_give(value);
-    if (IS_CLEAR(frame, block)) gaps_thrown_away(&gaps, block);
+    if (IS_CLEAR(frame, block)) gaps_thrown_away(&gaps);
     if (ends_reading(value)) reading_ended(gaps_in_reading(&gaps, block));
     return 1;
 }

@@ -83,7 +83,7 @@ static void throw_away(uint32_t way) {
         on_loop(SELECTED_DEVICE_CLEAR);
         on_loop(TALK_1);
     }
-    gaps_thrown_away(&gaps, block);
+    gaps_thrown_away(&gaps);
     taken = came;
     gap_before[came] = 1;
 }

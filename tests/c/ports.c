@@ -27,6 +27,10 @@ static const struct moment moments[] = {
     {{0}, "1.5\r\n2."},
     {{0}, "5\r\n"},
     {{0}, "3.5\r\n"},
+    /* The 2 of 2.5 is the seventh byte, and the six before it are a reading. */
+    {{0}, "6.25\r\n2"},
+    {{0}, ".5\r\n"},
+    {{0}, "7.5\r\n"},
     /* The 2 is thrown away. */
     {{0}, "12"},
     {{DEVICE_CLEAR}, ".5\r\n"},
