@@ -48,6 +48,7 @@ for_target() { # TRIPLE
         aarch64-unknown-linux-gnu) prefix=aarch64-linux-gnu- emulator=qemu-aarch64-static packages='gcc-aarch64-linux-gnu libc6-dev-arm64-cross' ;;
         armv7-unknown-linux-gnueabihf)
             prefix=arm-linux-gnueabihf- emulator=qemu-arm-static packages='gcc-arm-linux-gnueabihf libc6-dev-armhf-cross' ;;
+        *-none-*) echo "tools.sh: programs for the chip $1 are not run here; sh tests/board/run.sh $1 runs the C test on a board" >&2; return 1 ;;
         *) echo "tools.sh: programs for $1 are not run here" >&2; return 1 ;;
     esac
     need "$packages qemu-user-static" "${prefix}gcc" "$emulator"

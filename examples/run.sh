@@ -1,6 +1,7 @@
 #!/bin/sh
-# Builds and runs the examples and holds what they print to the stored texts: sh examples/run.sh [meter] [dongle] [no-std]
-# The meter runs on this machine; the dongle, in C, and the meter without the standard library, in Rust, on the emulated board.
+# Builds and runs the examples and holds what they print to the stored texts: sh examples/run.sh [meter] [ports] [dongle] [no-std]
+# The meter runs on this machine, and so does the dongle's main loop, on ports that lose a byte. The dongle, in C, and the meter without
+# the standard library, in Rust, run on the emulated board.
 set -eu
 cd "$(dirname "$0")/.."
 . tests/board/build.sh
@@ -11,12 +12,19 @@ same() { # NAME STORED
     echo "$1: $(grep -c ': whole$' "$2") readings whole, $(grep -c 'missing$' "$2") with a byte missing, as stored"
 }
 
-meter() {
+# Compiles for this machine, runs and compares.
+here() { # NAME STORED WORDS-AND-SOURCES...
+    name=$1 stored=$2
+    shift 2
     for_target "$own"
-    gcc -std=c11 -Wall -Wextra -Werror -O2 -Iinclude -Iexamples/c examples/c/meter.c "$(archive_of "$own")" -o "$out/meter"
-    "$out/meter" > "$out/meter.said"
-    same meter examples/c/meter.said
+    gcc -std=c11 -Wall -Wextra -Werror -O2 -Iinclude -Iexamples/c "$@" "$(archive_of "$own")" -o "$out/$name"
+    "$out/$name" > "$out/$name.said"
+    same "$name" "$stored"
 }
+
+meter() { here meter examples/c/meter.said examples/c/meter.c; }
+
+ports() { here ports tests/c/ports.said -DRECEIVE_LEN=64u -Iexamples/dongle examples/dongle/main.c tests/c/ports.c; }
 
 # The line and the console of the board are one output here; of the line it has our stop and go, which are spelled out.
 dongle() {
@@ -31,10 +39,10 @@ no_std() {
     same no-std examples/c/meter.said
 }
 
-[ $# -gt 0 ] || set -- meter dongle no-std
+[ $# -gt 0 ] || set -- meter ports dongle no-std
 for name in "$@"; do
     case $name in
-        meter | dongle) "$name" ;;
+        meter | ports | dongle) "$name" ;;
         no-std) no_std ;;
         *) echo "examples/run.sh: there is no example $name" >&2; exit 2 ;;
     esac

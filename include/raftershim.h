@@ -4,7 +4,8 @@
  * The bridge keeps nothing between calls. The caller lends three buffers at every call, each as a pointer and a length in bytes:
  * the block, which holds the state (raftershim_block_len() bytes), the receive store (line to loop) and the transmit store (loop
  * to line). They are the same three at every call, untouched in between, and they do not overlap. A pointer is not null and is
- * good for its length. One call at a time may use a set of buffers.
+ * good for its length. One call at a time may use a set of buffers. A state knows its stores by their lengths alone: two of equal length
+ * that are exchanged are not noticed, and neither is a store of another bridge.
  *
  * A length has 64 bits on every target, also where a pointer has 32: that is what the proved code takes, so no length is ever cut.
  *

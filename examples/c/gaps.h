@@ -1,10 +1,13 @@
 /*
- * Where bytes are missing in what comes from the line, so that each reading is told exactly whether one is missing in it.
+ * Where bytes are missing in what comes from the line, so that each reading is told whether one is missing in it.
  *
  * A byte is lost only when the receive store is full, and it falls after a byte that was stored. So a gap is a number: how many bytes had
  * been stored before it. It is in the reading whose bytes are taken next: the one that has not ended before the gap. Gaps ahead of what
  * is taken lie among the bytes held, at most one before each of them and one after the last, so the list has room for all.
- * After a reset set all of this to 0. A device clear takes the held bytes away unread: set missing to 1 then.
+ *
+ * A reset and a device clear throw the held bytes away unread: call gaps_thrown_away after each. The next reading is then told as
+ * missing a byte, though it may be whole. Every other reading is told exactly, and none that misses a byte is told as whole.
+ * After create set all of this to 0.
  */
 #ifndef GAPS_H
 #define GAPS_H
@@ -46,6 +49,15 @@ static inline void gaps_note(struct gaps *gaps, const uint8_t *block) {
     if (RAFTERSHIM_LOST(block) == gaps->lost) return;
     gaps->lost = RAFTERSHIM_LOST(block);
     gaps_here(gaps, block);
+}
+
+/*
+ * To be called after a reset or a device clear: no gap is ahead any more, and the next reading may lack what was thrown away. After a reset
+ * the two counts catch up at the next line byte; if that notes a gap, it is in the same reading.
+ */
+static inline void gaps_thrown_away(struct gaps *gaps) {
+    gaps->count = 0u;
+    gaps->missing = 1;
 }
 
 /* To be called when a reading has ended, and no byte after it was taken: whether a byte is missing in it. */

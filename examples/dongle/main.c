@@ -15,14 +15,23 @@ static struct gaps gaps;
 
 #define LENT block, sizeof block, rx, sizeof rx, tx, sizeof tx
 
-/* The line: a byte that has come, and a byte for it if it can take one. The bridge hands a byte out once, so it is asked only then. */
-static void line_turn(void) {
+/*
+ * A byte that has come from the line. Where a port has lost one is not known: from then on a gap is noted before every byte that it gives
+ * and after the last, until it gives none. It is asked after the taking, so a loss just before a byte is known before that byte is stored.
+ */
+static void line_in(void) {
+    static int overran;
     uint8_t byte;
-    if (line_overran()) gaps_here(&gaps, block);
-    if (line_take(&byte)) {
-        raftershim_line_byte(LENT, byte);
-        gaps_note(&gaps, block);
-    }
+    int came = line_take(&byte), overran_before = overran;
+    overran = line_overran() || (came && overran_before);
+    if (overran || overran_before) gaps_here(&gaps, block);
+    if (!came) return;
+    raftershim_line_byte(LENT, byte);
+    gaps_note(&gaps, block);
+}
+
+/* A byte for the line, if it can take one. The bridge hands a byte out once, so it is asked only then. */
+static void line_out(void) {
     if (line_free()) {
         uint64_t answer = raftershim_next_line_byte(LENT);
         if (RAFTERSHIM_KIND(answer) == RAFTERSHIM_BYTE) line_give((uint8_t)RAFTERSHIM_VALUE(answer));
@@ -44,6 +53,7 @@ static int loop_turn(void) {
     offered = RAFTERSHIM_KIND(answer) == RAFTERSHIM_REFUSED && value == RAFTERSHIM_BUSY;
     if (RAFTERSHIM_KIND(answer) != RAFTERSHIM_FRAME) return 0;
     loop_give(value);
+    if (IS_CLEAR(frame, block)) gaps_thrown_away(&gaps);
     if (ends_reading(value)) reading_ended(gaps_in_reading(&gaps, block));
     return 1;
 }
@@ -55,6 +65,7 @@ int main(void) {
     for (;;) {
         while (loop_turn()) {
         }
-        line_turn();
+        line_in();
+        line_out();
     }
 }

@@ -8,7 +8,10 @@
 void line_open(void);
 /* Takes a byte that has come from the line; whether there was one. */
 int line_take(uint8_t *byte);
-/* Whether the port itself has lost a byte since it was asked: the bridge cannot count what never came to it. */
+/*
+ * Whether the port itself has lost a byte since it was asked: the bridge cannot count what never came to it. The lost byte may lie before
+ * or after any byte that the port still has: a port with a queue loses what comes after them, one without may lose what came before.
+ */
 int line_overran(void);
 /* Whether the line can take a byte, and giving it one. */
 int line_free(void);

@@ -1,6 +1,6 @@
 /*
  * Holds examples/c/gaps.h to a history that is kept beside the bridge: every line byte, whether it found room, and which reading took it.
- * Line bytes, readings that end or do not, and status polls come in any order.
+ * Line bytes, readings that end or do not, status polls, resets and device clears come in any order.
  */
 #include <stdio.h>
 
@@ -10,7 +10,6 @@
 #define CR 13u
 #define LF 10u
 #define STEPS 400000
-#define SEND_STATUS FRAME(5u, 97u)
 
 static uint8_t block[RAFTERSHIM_BLOCK_LEN], rx[RECEIVE_LEN], tx[3];
 static struct gaps gaps;
@@ -64,21 +63,46 @@ static int reading_ends(void) {
     return ended;
 }
 
-int main(void) {
-    uint32_t random = 1u, readings = 0u, missing = 0u;
-    raftershim_create(LENT, 1);
+/* Makes the bridge talker with end bytes and without the protocol, after create or reset. */
+static void set_up(void) {
     raftershim_write_register(LENT, LINE_ENDS);
     raftershim_write_register(LENT, NO_PROTOCOL);
     on_loop(ASSIGN_1);
     on_loop(TALK_1);
+}
+
+/* Throws away what is held: by reset, by 4,20, or by 4,4 to a listener. In the history that is a byte lost before the next one. */
+static void throw_away(uint32_t way) {
+    if (way == 0u) {
+        raftershim_reset(LENT);
+        set_up();
+    } else if (way == 1u) {
+        on_loop(DEVICE_CLEAR);
+    } else {
+        on_loop(LISTEN_1);
+        on_loop(SELECTED_DEVICE_CLEAR);
+        on_loop(TALK_1);
+    }
+    gaps_thrown_away(&gaps);
+    taken = came;
+    gap_before[came] = 1;
+}
+
+/* Everything but a reading, by the draw: a status poll, a line byte, bytes thrown away. Whether it was one of these. */
+static int no_reading(uint32_t draw) {
+    if (draw < 8u) on_loop(on_loop(SEND_STATUS));
+    if (draw < 200u) from_line((uint8_t)("12.5\r\n\r\n"[draw % 8u]));
+    if (draw >= 253u) throw_away(draw - 253u);
+    return draw < 200u || draw >= 253u;
+}
+
+int main(void) {
+    uint32_t random = 1u, readings = 0u, missing = 0u;
+    raftershim_create(LENT, 1);
+    set_up();
     for (int step = 0; step < STEPS; step++) {
         random = random * 1664525u + 1013904223u;
-        uint32_t draw = random >> 24;
-        if (draw < 8u) on_loop(on_loop(SEND_STATUS));
-        if (draw < 200u) {
-            from_line((uint8_t)("12.5\r\n\r\n"[draw % 8u]));
-            continue;
-        }
+        if (no_reading(random >> 24)) continue;
         int ended = reading_ends(), told = ended && gaps_in_reading(&gaps, block), right = history_ends();
         if (ended != right || (ended && told != history_misses())) {
             printf("reading %u: ended %d, missing %d; by the history it ended %d\n", (unsigned)readings, ended, told, right);

@@ -20,6 +20,7 @@ def run():
         for chip in CHIPS:
             check = ["sh", "tests/board/run.sh", chip]
             room.passes(check, "all as the paper says")
+            room.finds(["sh", "tests/c/run.sh", chip], f"sh tests/board/run.sh {chip} runs the C test")
             room.finds(check, "1 of", ("tests/c/calls.c", "IS(frame(5, 129), FRAME(5, 130))", "IS(frame(5, 129), FRAME(5, 131))"))
         room.write("names", NAMES)
         room.write("trace", trace(0x200, 0x100, 0x200, 0x202, 0x400, 0x102, 0x300, 0x104, 0x200, 0x106))
