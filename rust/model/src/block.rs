@@ -213,7 +213,7 @@ mod tests {
         let mut spoilt = 0;
         for place in 0..LEN {
             let mut block = numbered();
-            block[place] = 2;
+            block[place] = 3;
             let back = unpack(&block).map(|bridge| pack(&bridge));
             assert!(back.is_none() || back == Some(block));
             spoilt += usize::from(back.is_none());
