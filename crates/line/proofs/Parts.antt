@@ -36,8 +36,8 @@ module _ (s : State) (rx : List ℕ) (b : ℕ) where
     pub taken-stored : (t : State) → o .stored ≡ true → t ≡ storedWith s (o .ring) → Taken s rx b rx′ t
     unfolding lineState
     taken-stored t h q =
-        let room : full (s .rx) ≡ false = not-is (full (s .rx)) (sym (p .stored) ∙ h) in
-        record { state = rw (e, room) (q ∙ ap (storedWith s) (p .ring)); bytes = put-written; size = p .size }
+        let room : full (s .rx) ≡ false = not-is (full (s .rx)) (sym (p .offering .stored) ∙ h) in
+        record { state = rw (e, room) (q ∙ ap (storedWith s) (p .offering .ring)); bytes = put-written; size = p .size }
       where
         not-is : (x : Bool) → not x ≡ true → x ≡ false
         not-is true h = sym h
@@ -46,7 +46,7 @@ module _ (s : State) (rx : List ℕ) (b : ℕ) where
     pub taken-lost : (t : State) → o .stored ≡ false → t ≡ lostState s → Taken s rx b rx′ t
     unfolding lineState
     taken-lost t h q =
-        let none : full (s .rx) ≡ true = not-is (full (s .rx)) (sym (p .stored) ∙ h) in
+        let none : full (s .rx) ≡ true = not-is (full (s .rx)) (sym (p .offering .stored) ∙ h) in
         record { state = rw (e, none) q; bytes = put-written; size = p .size }
       where
         not-is : (x : Bool) → not x ≡ false → x ≡ true

@@ -52,7 +52,7 @@ pub puts-more : {s : List ℕ} {r : Ring} {b : ℕ} {l : List ℕ} {s₁ s₂ : 
 unfolding putsBytes putsRing
 puts-more {s} {r} {b} {l} {s₁} {s₂} {o₁} {o₂} p q =
     record {
-      ring = q .ring ∙ ap (λ (x : Ring). putsRing x l) (p .ring);
-      bytes = q .bytes ∙ (λ i. putsBytes (p .bytes i) (p .ring i) l);
+      ring = q .ring ∙ ap (λ (x : Ring). putsRing x l) (p .offering .ring);
+      bytes = q .bytes ∙ (λ i. putsBytes (p .bytes i) (p .offering .ring i) l);
       size = q .size ∙ p .size;
     }

@@ -3,7 +3,7 @@ ghost use mathlib.Core.Path.{_≡_};
 ghost use Prim.Native.Nat.{_+_, _≤_, _<_};
 ghost use lib.ListN.{getD};
 ghost use Rattle.store.specs.Ring.{Within, Fit, fitTest, wrap, held, emptyRing, room};
-ghost use Rattle.store.specs.Promises.{Put, Dropped, Shown};
+ghost use Rattle.store.specs.Promises.{Offering, Put, Dropped, Spanned, Shown};
 
 // The capacity, the place of the oldest byte, and how many bytes are held.
 pub struct Ring {
@@ -17,6 +17,12 @@ pub struct Offered {
     pub stored: bool,
     pub ring: Ring,
     pub room: usize,
+}
+
+// The places from start up to, and without, end.
+pub struct Stretch {
+    pub start: usize,
+    pub end: usize,
 }
 
 // The place p, gone round by a comparison where it is past the last.
@@ -53,13 +59,22 @@ pub fn room(r: Ring) -> usize
     r.cap - r.len
 }
 
-// Stores b behind the newest byte; a full store stays as it was.
-pub fn put(s: &mut [u8], r: Ring, b: u8) -> Offered
-    requires { ⌜ Fit (now s) r ⌝ }
-    ensures { λ o. ⌜ Put (now (s .entry)) r b (now (s .exit)) o ⌝ }
+// The place of the k-th oldest byte, from 0, and that of the next byte where k bytes are held.
+pub fn place_of(r: Ring, k: usize) -> usize
+    requires { ⌜ Within r ⌝ }
+    requires { ⌜ k ≤ r .len ⌝ }
+    ensures { λ o. ⌜ (o ≡ wrap (r .cap) (r .oldest + k)) × (o < r .cap) ⌝ }
+{
+    let oldest = r.oldest;
+    place(r.cap, oldest + k)
+}
+
+// What a byte offered finds: whether it is stored, the ring after it and the room that is left.
+pub fn offer(r: Ring) -> Offered
+    requires { ⌜ Within r ⌝ }
+    ensures { λ o. ⌜ Offering r o ⌝ }
 {
     let cap = r.cap;
-    let oldest = r.oldest;
     let len = r.len;
     if len >= cap {
         return Offered {
@@ -68,12 +83,10 @@ pub fn put(s: &mut [u8], r: Ring, b: u8) -> Offered
             room: 0,
         };
     }
-    let at = place(cap, oldest + len);
-    s[at] = b;
     let more = len + 1;
     let ring = Ring {
         cap: cap,
-        oldest: oldest,
+        oldest: r.oldest,
         len: more,
     };
     let left = room(ring);
@@ -82,17 +95,6 @@ pub fn put(s: &mut [u8], r: Ring, b: u8) -> Offered
         ring: ring,
         room: left,
     }
-}
-
-// The k-th oldest byte, from 0.
-pub fn look(s: &[u8], r: Ring, k: usize) -> u8
-    requires { ⌜ Fit (now s) r ⌝ }
-    requires { ⌜ k < r .len ⌝ }
-    ensures { λ o. ⌜ o ≡ getD (held (now (s .entry)) r) k 0 ⌝ }
-{
-    let oldest = r.oldest;
-    let at = place(r.cap, oldest + k);
-    s[at]
 }
 
 // The ring without the n oldest bytes, which stay written where they are.
@@ -113,17 +115,58 @@ pub fn drop_oldest(r: Ring, n: usize) -> Ring
     }
 }
 
-// The longest unbroken run of bytes from the oldest one.
-pub fn show(s: &[u8], r: Ring) -> &[u8]
-    requires { ⌜ Fit (now s) r ⌝ }
-    ensures { λ o. ⌜ Shown (now (s .entry)) r (now o) ⌝ }
+// The longest unbroken run of places from the oldest byte.
+pub fn unbroken(r: Ring) -> Stretch
+    requires { ⌜ Within r ⌝ }
+    ensures { λ o. ⌜ Spanned r o ⌝ }
 {
     let oldest = r.oldest;
     let len = r.len;
     if len <= r.cap - oldest {
         let end = oldest + len;
-        &s[oldest..end]
+        Stretch {
+            start: oldest,
+            end: end,
+        }
     } else {
-        &s[oldest..]
+        Stretch {
+            start: oldest,
+            end: r.cap,
+        }
     }
+}
+
+// Stores b behind the newest byte; a full store stays as it was.
+pub fn put(s: &mut [u8], r: Ring, b: u8) -> Offered
+    requires { ⌜ Fit (now s) r ⌝ }
+    ensures { λ o. ⌜ Put (now (s .entry)) r b (now (s .exit)) o ⌝ }
+{
+    let o = offer(r);
+    if o.stored {
+        let at = place_of(r, r.len);
+        s[at] = b;
+        return o;
+    }
+    o
+}
+
+// The k-th oldest byte, from 0.
+pub fn look(s: &[u8], r: Ring, k: usize) -> u8
+    requires { ⌜ Fit (now s) r ⌝ }
+    requires { ⌜ k < r .len ⌝ }
+    ensures { λ o. ⌜ o ≡ getD (held (now (s .entry)) r) k 0 ⌝ }
+{
+    let at = place_of(r, k);
+    s[at]
+}
+
+// The longest unbroken run of bytes from the oldest one.
+pub fn show(s: &[u8], r: Ring) -> &[u8]
+    requires { ⌜ Fit (now s) r ⌝ }
+    ensures { λ o. ⌜ Shown (now (s .entry)) r (now o) ⌝ }
+{
+    let p = unbroken(r);
+    let start = p.start;
+    let end = p.end;
+    &s[start..end]
 }

@@ -1,0 +1,34 @@
+use borrow.Author.Needs.{needs}
+use denote.Ref.{now}
+use mathlib.Core.Path.{refl}
+use Rattle.mailstate.proofs.Fits.{is-misfit, is-fit, tobus-fits}
+use Rattle.mailbox.specs.Calls.{checksOn, outcome, tobusAfter, toloopAfter, busFetch}
+use Rattle.mailbox.proofs.Steps.{misfit-met, done-met}
+use Rattle.mailbox.proofs.bus_fetch.Statement.{statement}
+use Rattle.mailbox.proofs.bus_fetch.Tie as tie
+
+returns : tie.Need-returns
+returns c =
+    let a = c .before .before .before .before .before .args in
+    misfit-met (a .s) (now (a .tobus)) (now (a .toloop)) (is-misfit (c .before .before .state-fits .ensures) (c .before .if1 .taken)) busFetch _ (c .refused .ensures)
+
+given-requires : tie.Need-given-requires
+given-requires c κs =
+    let a = c .before .before .before .before .args in
+    tobus-fits (a .s) (now (a .tobus)) (now (a .toloop)) (is-fit (c .before .state-fits .ensures) (c .if1 .left))
+
+returns-2 : tie.Need-returns-2
+unfolding checksOn outcome tobusAfter toloopAfter
+returns-2 c =
+    let a = c .before .before .before .before .before .args in
+    done-met (a .s) (now (a .tobus)) (now (a .toloop)) (is-fit (c .before .before .state-fits .ensures) (c .before .if1 .left)) busFetch _ _ _ refl (c .given .ensures) refl refl
+
+pub bus-fetch-spec : {M : Type 1} → statement M
+bus-fetch-spec =
+    tie.close
+    (tie.spec
+    (λ c κs. search needs)
+    (λ c κs. search needs)
+    returns
+    given-requires
+    returns-2)

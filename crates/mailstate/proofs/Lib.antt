@@ -1,0 +1,3 @@
+-- `Parts` composes the functions of this crate, `Fits` says what fitting gives.
+pub mod Parts
+pub mod Fits
