@@ -60,7 +60,7 @@ fn command(s: State, f: u16) -> Outcome
     q.talker = t;
     q.hold = h;
     q.response = p;
-    if (d == 20) | ((d == 4) & listens) {
+    if role::is_clear(o) {
         let w = way::empty(s.tobus.ring.cap);
         q.tobus = w;
         return passed(q, f);
