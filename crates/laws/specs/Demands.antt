@@ -8,7 +8,7 @@ use Rattle.machine.specs.Course.{all, Without}
 use Rattle.machine.specs.Machine.{ofCalls, ofRuns}
 use Rattle.machine.specs.Turns.{Reading, AllRead}
 use Rattle.bridge.specs.Calls.{Call, on, loopFrame, World}
-use Rattle.answers.specs.Answers.{Said, done, none, byte, frame, refused, part}
+use Rattle.answers.specs.Answers.{Said, done, none, byte, frame, refused, part, cell, lines}
 use Rattle.laws.specs.Observers.{taken, isFrame, accepted, lost, sent, changes}
 use Rattle.laws.specs.Spells.{spells, AtMost}
 use Rattle.laws.specs.Bridges.{Law}
@@ -33,6 +33,8 @@ isEleven done = true
 isEleven none = true
 isEleven (byte b) = true
 isEleven (part xs) = true
+isEleven (cell n) = true
+isEleven (lines n) = true
 
 -- of every frame out
 abbrev pub ElevenBits : Law
