@@ -1,3 +1,10 @@
 -- `Refusal` says what a call that is not refused tells, and `FrameWays` is the one view of a loop frame.
 pub mod Refusal
 pub mod FrameWays
+pub mod FrameTests
+pub mod Fields
+pub mod Moves
+pub mod BusMoves
+pub mod LoopMoves
+pub mod EveryMove
+pub mod Ways
