@@ -8,3 +8,5 @@ pub mod Small
 pub mod FitParts
 pub mod FrameFits
 pub mod Fitted
+-- `Replied` has the laws of answers and refusals.
+pub mod Replied
