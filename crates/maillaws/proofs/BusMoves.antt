@@ -18,7 +18,7 @@ use Rattle.mailstate.proofs.Fits.{tobus-fits}
 use Rattle.mailloop.specs.Sends.{serviced, ended, sends, sendWaiting, sendId, sendAccessory, sendStatus}
 use Rattle.mailloop.specs.Messages.{cellOf, busy, clears, released, identify, keeps, frameCells}
 use Rattle.mailbox.specs.Calls.{loopFrame, on, World}
-use Rattle.maillaws.specs.Sights.{toBus, counted, taken, cellFor, loopListens, left, fetched, told, clearsBy, restarts, asksClear}
+use Rattle.maillaws.specs.Sights.{toBus, taken, cellFor, loopListens, left, fetched, told, clearsBy, restarts, asksClear}
 use Rattle.maillaws.specs.StateFits.{Fits}
 use Rattle.maillaws.proofs.Fields.{listener-idle}
 use Rattle.maillaws.proofs.FrameTests.{data-not}
@@ -91,11 +91,8 @@ module _ (w : World) (f : ℕ) where
         subst
         (λ (c : List ℕ). Move toBus w (record { left = cellOf f ∷ []; fetched = []; told = []; clears = false }) (leftIn (w .state .tobus) .ring) (leftIn (w .state .tobus) .news) c)
         (sym (ap (λ (t : Bool). cond t (putBytes (w .tobus) (w .state .tobus .ring) (cellOf f)) (w .tobus)) (λ i. (r .isdata i && not (r .idle i)) && l i)))
-        (isPut (cellOf f) small (tobus-fits (w .state) (w .tobus) (w .toloop) F) room)
+        (isPut (cellOf f) (tobus-fits (w .state) (w .tobus) (w .toloop) F) room)
       where
-        small : counted (cellOf f) ≡ cellOf f
-        small = by-cond (λ (n : ℕ). counted n ≡ n) (isEnd f) _ _ (λ _. omega arith) (λ _. omega arith)
-
         room : w .state .tobus .ring .len < w .state .tobus .ring .cap
         room = leb-false (w .state .tobus .ring .cap) (w .state .tobus .ring .len) ((λ i. (sym l i && sym (r .isdata) i) && leb (w .state .tobus .ring .cap) (w .state .tobus .ring .len)) ∙ b)
 

@@ -29,7 +29,6 @@ use Rattle.mailloop.specs.Messages.{frameTaken}
 use Rattle.mailbox.specs.BusSide as bus-side
 use Rattle.mailbox.specs.Calls.{OnState, reset, loopFrame, busCommand, busByte, busFetch, busClear, busLines, Call, create, show, on, World, Did}
 use Rattle.mailbox.specs.Calls.{checks, outcome, tobusAfter, toloopAfter, notRefused, step}
-use Rattle.maillaws.specs.Mailboxes.{ByteCall}
 use Rattle.maillaws.specs.Sights as see
 use Rattle.maillaws.specs.Sights.{Direction, toBus, toLoop, storeOf, ringOf, newsOf, counted, loopActive, fromWay, busListens, cellFor, asksClear}
 use Rattle.maillaws.specs.StateFits.{Fits}
@@ -117,20 +116,17 @@ module _ (w : World) (F : Fits w) where
       G k = Fetched toLoop (bus-side.given (w .state) (w .tobus) k)
 
   -- a byte of the bus
-  byte-to-loop : (b : ℕ) (mark : Bool) → b < 256 → bus-side.busBusy (w .state) ≡ false → Moved toLoop (on (busByte b mark)) w (notRefused (on (busByte b mark)) w)
+  byte-to-loop : (b : ℕ) (mark : Bool) → bus-side.busBusy (w .state) ≡ false → Moved toLoop (on (busByte b mark)) w (notRefused (on (busByte b mark)) w)
   unfolding notRefused outcome toloopAfter bus-side.busByte bus-side.busCells leftIn said see.left see.fetched see.told see.clearsBy see.restarts
-  byte-to-loop b mark h n = go (busListens w) refl
+  byte-to-loop b mark n = go (busListens w) refl
     where
-      small : counted (cellFor b mark) ≡ cellFor b mark
-      small = by-cond (λ (x : ℕ). counted x ≡ x) mark _ _ (λ _. omega arith) (λ _. omega arith)
-
       go : (l : Bool) → busListens w ≡ l →
           Move toLoop w (record { left = cond l (cellFor b mark ∷ []) []; fetched = []; told = []; clears = false })
           (cond l (withToLoop (w .state) (leftIn (w .state .toloop))) (w .state) .toloop .ring)
           (cond l (withToLoop (w .state) (leftIn (w .state .toloop))) (w .state) .toloop .news)
           (cond l (putBytes (w .toloop) (w .state .toloop .ring) (cellFor b mark)) (w .toloop))
       go true e =
-          isPut (cellFor b mark) small (toloop-fits (w .state) (w .tobus) (w .toloop) F)
+          isPut (cellFor b mark) (toloop-fits (w .state) (w .tobus) (w .toloop) F)
           (leb-false (w .state .toloop .ring .cap) (w .state .toloop .ring .len) ((λ i. sym e i && leb (w .state .toloop .ring .cap) (w .state .toloop .ring .len)) ∙ n))
       go false e = isStill
 
@@ -159,28 +155,28 @@ command-to-loop c w =
 
 -- ---- every call
 
-done-moved : (d : Direction) (c : Call) (w : World) → ByteCall c → firstRefusal (checks c w) ≡ 0 → Moved d c w (notRefused c w)
+done-moved : (d : Direction) (c : Call) (w : World) → firstRefusal (checks c w) ≡ 0 → Moved d c w (notRefused c w)
 unfolding notRefused outcome tobusAfter toloopAfter startState emptyWay bus-side.busClear bus-side.busLines said see.left see.fetched see.told see.clearsBy see.restarts
-done-moved toBus (create a) w h e = isEmptied (length (w .tobus))
-done-moved toBus (show side) w h e = isStill
-done-moved toBus (on reset) w h e = isEmptied (length (w .tobus))
-done-moved toBus (on (loopFrame f)) w h e =
+done-moved toBus (create a) w e = isEmptied (length (w .tobus))
+done-moved toBus (show side) w e = isStill
+done-moved toBus (on reset) w e = isEmptied (length (w .tobus))
+done-moved toBus (on (loopFrame f)) w e =
     let x = frame-fitting f w e in
     frame-to-bus w f (x .0) (x .1 .1) (frameTaken (w .state) (w .toloop) f) (way (w .state) (w .toloop) f)
-done-moved toBus (on (busCommand c)) w h e = command-to-bus c w
-done-moved toBus (on (busByte b mark)) w h e = byte-to-bus w (fitting (busByte b mark) w e .0) b mark
-done-moved toBus (on busFetch) w h e = fetch-to-bus w (fitting busFetch w e .0)
-done-moved toBus (on busClear) w h e = isStill
-done-moved toBus (on busLines) w h e = isStill
-done-moved toLoop (create a) w h e = isEmptied (length (w .toloop))
-done-moved toLoop (show side) w h e = isStill
-done-moved toLoop (on reset) w h e = isEmptied (length (w .toloop))
-done-moved toLoop (on (loopFrame f)) w h e = frame-to-loop w f (fitting (loopFrame f) w e .0) (frameTaken (w .state) (w .toloop) f) (way (w .state) (w .toloop) f)
-done-moved toLoop (on (busCommand c)) w h e = command-to-loop c w
-done-moved toLoop (on (busByte b mark)) w h e = let x = byte-fitting b mark w e in byte-to-loop w (x .0) b mark h (x .1)
-done-moved toLoop (on busFetch) w h e = fetch-to-loop w (fitting busFetch w e .0)
-done-moved toLoop (on busClear) w h e = isStill
-done-moved toLoop (on busLines) w h e = isStill
+done-moved toBus (on (busCommand c)) w e = command-to-bus c w
+done-moved toBus (on (busByte b mark)) w e = byte-to-bus w (fitting (busByte b mark) w e .0) b mark
+done-moved toBus (on busFetch) w e = fetch-to-bus w (fitting busFetch w e .0)
+done-moved toBus (on busClear) w e = isStill
+done-moved toBus (on busLines) w e = isStill
+done-moved toLoop (create a) w e = isEmptied (length (w .toloop))
+done-moved toLoop (show side) w e = isStill
+done-moved toLoop (on reset) w e = isEmptied (length (w .toloop))
+done-moved toLoop (on (loopFrame f)) w e = frame-to-loop w f (fitting (loopFrame f) w e .0) (frameTaken (w .state) (w .toloop) f) (way (w .state) (w .toloop) f)
+done-moved toLoop (on (busCommand c)) w e = command-to-loop c w
+done-moved toLoop (on (busByte b mark)) w e = let x = byte-fitting b mark w e in byte-to-loop w (x .0) b mark (x .1)
+done-moved toLoop (on busFetch) w e = fetch-to-loop w (fitting busFetch w e .0)
+done-moved toLoop (on busClear) w e = isStill
+done-moved toLoop (on busLines) w e = isStill
 
-pub moved : (d : Direction) (c : Call) (w : World) → ByteCall c → Moved d c w (step c w)
-moved d c w h = by-refusal (Moved d c w) c w (done-moved d c w h) (λ _. refused-still d c w _)
+pub moved : (d : Direction) (c : Call) (w : World) → Moved d c w (step c w)
+moved d c w = by-refusal (Moved d c w) c w (done-moved d c w) (λ _. refused-still d c w _)

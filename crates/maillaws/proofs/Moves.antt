@@ -30,7 +30,7 @@ pub data Move (d : Direction) (w : World) : Sight → Ring → News → List ℕ
   -- nothing is done to it
   isStill : Move d w nothing (ringOf d w) (newsOf d w) (storeOf d w)
   -- a cell is left
-  isPut : (x : ℕ) → counted x ≡ x → Fit (storeOf d w) (ringOf d w) → ringOf d w .len < ringOf d w .cap →
+  isPut : (x : ℕ) → Fit (storeOf d w) (ringOf d w) → ringOf d w .len < ringOf d w .cap →
       Move d w (record { left = x ∷ []; fetched = []; told = []; clears = false }) (putRing (ringOf d w)) (cond (eqb (ringOf d w .len) 0) come (newsOf d w))
       (putBytes (storeOf d w) (ringOf d w) x)
   -- the oldest is fetched

@@ -1,8 +1,8 @@
 -- What was fetched and what waits is what was left, on both ways; and which message clears which way. Assumes nothing.
 use Prim.Native.Nat.{ℕ, _<_, _≤_}
 use native.Mathlib.Omega.{arith}
-use mathlib.Core.Path.{_≡_, refl, sym, ap, _∙_}
-use mathlib.Core.Bool.{Bool, true, false, _&&_, _||_, false≢true, true≢false}
+use mathlib.Core.Path.{_≡_, refl, sym, ap, subst, _∙_}
+use mathlib.Core.Bool.{Bool, true, false, cond, _&&_, _||_, false≢true, true≢false}
 use mathlib.Core.List.{List, [], _∷_, _++_, map, append-assoc}
 use lib.ListN.{length, getD, drop}
 use Rattle.machine.specs.Course.{Each, Without, of}
@@ -12,7 +12,7 @@ use Rattle.machine.proofs.Course.{first-not}
 use Rattle.machine.proofs.Turns.{from-turns, from-kept}
 use lib.Dec.{eqb}
 use Rattle.branches.proofs.Branches.{by-cond, and-left, and-right}
-use Rattle.frame.specs.Frame.{controlOf, dataOf}
+use Rattle.frame.specs.Frame.{controlOf, dataOf, isEnd}
 use Rattle.store.specs.declared.Ring.{Ring}
 use Rattle.store.specs.Ring.{Fit, held, putRing, putBytes, dropRing}
 use Rattle.store.proofs.Laws.{held-put, held-drop, held-empty, held-length}
@@ -28,7 +28,7 @@ use Rattle.mailbox.specs.BusSide.{busCommand}
 use Rattle.mailbox.specs.Calls.{reset, loopFrame, busByte, busFetch, busClear, busLines, Call, create, show, on, World, world, Did, outcome, tobusAfter, toloopAfter, notRefused, step}
 use Rattle.mailbox.specs.Calls as calls
 use Rattle.maillaws.specs.Mailboxes.{mailbox, ByteCall}
-use Rattle.maillaws.specs.Sights.{Direction, toBus, toLoop, storeOf, ringOf, newsOf, waits, counted, taken, loopListens, asksClear, restarts, clearsBy, clears}
+use Rattle.maillaws.specs.Sights.{Direction, toBus, toLoop, storeOf, ringOf, newsOf, waits, counted, taken, loopListens, cellFor, asksClear, left, clearsBy, clears}
 use Rattle.maillaws.specs.WaysKept.{through, WayKept, WaySince}
 use Rattle.maillaws.specs.WaysCleared.{Emptied, ClearsWay, SameWay, OtherStays}
 use Rattle.maillaws.proofs.Refusal.{by-refusal}
@@ -62,15 +62,44 @@ waits-fetched s r F h =
 
 -- ---- every call
 
-keeps : (d : Direction) (w : World) (x : Sight) (r : Ring) (n : News) (s : List ℕ) → Move d w x r n s → x .clears ≡ false → (ys : List ℕ) →
-    waits d w ++ (x .left ++ ys) ≡ x .fetched ++ (map counted (held s r) ++ ys)
-keeps d w x r n s isStill c ys = refl
-keeps d w x r n s (isPut y e F h) c ys =
-    sym (append-assoc (waits d w) (y ∷ []) ys) ∙ ap (λ (l : List ℕ). l ++ ys) (sym (waits-put (storeOf d w) (ringOf d w) y e F h))
-keeps d w x r n s (isFetched F h) c ys = ap (λ (l : List ℕ). l ++ ys) (waits-fetched (storeOf d w) (ringOf d w) F h)
-keeps d w x r n s (isEmptied cap) c ys = absurd (true≢false c)
-keeps d w x r n s (isAsked b m e) c ys = refl
-keeps d w x r n s (isReturned m e) c ys = refl
+keeps : (d : Direction) (w : World) (x : Sight) (r : Ring) (n : News) (s : List ℕ) → Move d w x r n s → x .clears ≡ false → ((y : ℕ) → x .left ≡ y ∷ [] → counted y ≡ y) →
+    (ys : List ℕ) → waits d w ++ (x .left ++ ys) ≡ x .fetched ++ (map counted (held s r) ++ ys)
+keeps d w x r n s isStill c b ys = refl
+keeps d w x r n s (isPut y F h) c b ys =
+    sym (append-assoc (waits d w) (y ∷ []) ys) ∙ ap (λ (l : List ℕ). l ++ ys) (sym (waits-put (storeOf d w) (ringOf d w) y (b y refl) F h))
+keeps d w x r n s (isFetched F h) c b ys = ap (λ (l : List ℕ). l ++ ys) (waits-fetched (storeOf d w) (ringOf d w) F h)
+keeps d w x r n s (isEmptied cap) c b ys = absurd (true≢false c)
+keeps d w x r n s (isAsked b m e) c b ys = refl
+keeps d w x r n s (isReturned m e) c b ys = refl
+
+-- a byte with its mark, and nothing besides
+cell-counted : (b : ℕ) (mark : Bool) → b < 256 → counted (cellFor b mark) ≡ cellFor b mark
+cell-counted b mark h = by-cond (λ (x : ℕ). counted x ≡ x) mark _ _ (λ _. omega arith) (λ _. omega arith)
+
+only : (t : Bool) (x y : ℕ) → counted x ≡ x → cond t (x ∷ []) [] ≡ y ∷ [] → counted y ≡ y
+only true x y h e = let z : x ≡ y = cc in subst (λ (n : ℕ). counted n ≡ n) z h
+only false x y h e = cc
+
+left-counted : (d : Direction) (c : Call) (w : World) (a : Said) → ByteCall c → (y : ℕ) → left d c w a ≡ y ∷ [] → counted y ≡ y
+unfolding left
+left-counted toBus (on (loopFrame f)) w a h y e = only _ (cellFor (dataOf f) (isEnd f)) y (cell-counted (dataOf f) (isEnd f) (omega arith)) e
+left-counted toLoop (on (busByte b mark)) w a h y e = only _ (cellFor b mark) y (cell-counted b mark h) e
+left-counted toBus (create m) w a h y e = cc
+left-counted toBus (show side) w a h y e = cc
+left-counted toBus (on reset) w a h y e = cc
+left-counted toBus (on (calls.busCommand c)) w a h y e = cc
+left-counted toBus (on (busByte b mark)) w a h y e = cc
+left-counted toBus (on busFetch) w a h y e = cc
+left-counted toBus (on busClear) w a h y e = cc
+left-counted toBus (on busLines) w a h y e = cc
+left-counted toLoop (create m) w a h y e = cc
+left-counted toLoop (show side) w a h y e = cc
+left-counted toLoop (on reset) w a h y e = cc
+left-counted toLoop (on (loopFrame f)) w a h y e = cc
+left-counted toLoop (on (calls.busCommand c)) w a h y e = cc
+left-counted toLoop (on busFetch) w a h y e = cc
+left-counted toLoop (on busClear) w a h y e = cc
+left-counted toLoop (on busLines) w a h y e = cc
 
 turns : (d : Direction) (cs : List Call) (w : World) → AllFair (mailbox step) cs → Without (clears d) (course (mailbox step) cs w) →
     Each (TurnReads (through d)) (course (mailbox step) cs w)
@@ -78,7 +107,7 @@ unfolding course
 turns d [] w k n = tt
 turns d (c ∷ cs) w k n =
     let m = first-not (clears d) (seen (mailbox step) c w) (course (mailbox step) cs (step c w .world)) n in
-    (keeps d w _ _ _ _ (moved d c w (k .0)) (m .0), turns d cs (step c w .world) (k .1) (m .1))
+    (keeps d w _ _ _ _ (moved d c w) (m .0) (left-counted d c w _ (k .0)), turns d cs (step c w .world) (k .1) (m .1))
 
 pub way-kept : (d : Direction) → Obeys (mailbox step) (WayKept d)
 way-kept d cs w h k n = from-turns (through d) (mailbox step) cs w (turns d cs w k n)
@@ -89,29 +118,15 @@ way-kept d cs w h k n = from-turns (through d) (mailbox step) cs w (turns d cs w
 emptied : (d : Direction) (w : World) (x : Sight) (r : Ring) (n : News) (s : List ℕ) → Move d w x r n s → x .clears ≡ true →
     (map counted (held s r) ≡ []) × ((n .request ≡ false) × (n .available ≡ false))
 emptied d w x r n s isStill c = absurd (false≢true c)
-emptied d w x r n s (isPut y e F h) c = absurd (false≢true c)
+emptied d w x r n s (isPut y F h) c = absurd (false≢true c)
 emptied d w x r n s (isFetched F h) c = absurd (false≢true c)
 emptied d w x r n s (isEmptied cap) c = (ap (map counted) (held-empty (storeOf d w) cap), (refl, refl))
 emptied d w x r n s (isAsked b m e) c = absurd (false≢true c)
 emptied d w x r n s (isReturned m e) c = absurd (false≢true c)
 
--- a call that clears brings no byte
-clears-fair : (d : Direction) (c : Call) (w : World) (a : Said) → clears d c w a ≡ true → ByteCall c
-unfolding clearsBy restarts
-clears-fair d (create m) w a e = tt
-clears-fair d (show side) w a e = tt
-clears-fair d (on reset) w a e = tt
-clears-fair d (on (loopFrame f)) w a e = tt
-clears-fair d (on (calls.busCommand c)) w a e = tt
-clears-fair toBus (on (busByte b mark)) w a e = absurd (false≢true e)
-clears-fair toLoop (on (busByte b mark)) w a e = absurd (false≢true e)
-clears-fair d (on busFetch) w a e = tt
-clears-fair d (on busClear) w a e = tt
-clears-fair d (on busLines) w a e = tt
-
 pub clear-moved : (d : Direction) (c : Call) (w : World) → clears d c w (step c w .said) ≡ true → Emptied d (step c w .world)
 clear-moved d c w e =
-    let m = emptied d w _ _ _ _ (moved d c w (clears-fair d c w _ e)) e in
+    let m = emptied d w _ _ _ _ (moved d c w) e in
     record { none = m .0; request = m .1 .0; available = m .1 .1 }
 
 pub clears-way : (d : Direction) → Obeys (mailbox step) (ClearsWay d)
