@@ -1,3 +1,10 @@
 -- `Refusal` says what a call that is not refused tells, and `FrameWays` is the one view of a loop frame.
 pub mod Refusal
 pub mod FrameWays
+-- `Fetching` is the view of a fetch, `Small` says that what is sent is bytes and data frames, `FitParts` takes fitting apart, `FrameFits` is of
+-- loop frames; `Fitted` has the laws.
+pub mod Fetching
+pub mod Small
+pub mod FitParts
+pub mod FrameFits
+pub mod Fitted
