@@ -8,6 +8,7 @@ pub mod BusMoves
 pub mod LoopMoves
 pub mod EveryMove
 pub mod Ways
+pub mod Requests
 -- `Fetching` is the view of a fetch, `Small` says that what is sent is bytes and data frames, `FitParts` takes fitting apart, `FrameFits` is of
 -- loop frames; `Fitted` has the laws.
 pub mod Fetching
