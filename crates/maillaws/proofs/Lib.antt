@@ -18,3 +18,5 @@ pub mod FrameFits
 pub mod Fitted
 -- `Replied` has the laws of answers and refusals.
 pub mod Replied
+-- `HeldBack` has the laws of not ready for data.
+pub mod HeldBack
