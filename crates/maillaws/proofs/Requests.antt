@@ -25,7 +25,7 @@ use Rattle.maillaws.proofs.EveryMove.{moved}
 
 any-length : (l : List ℕ) → any (map counted l) ≡ not (eqb (length l) 0)
 any-length [] = refl
-any-length (x ∷ l) = refl
+any-length (x ∷ l) = sym (ap not (ne-eqb (length (x ∷ l)) 0 (λ e. omega arith)))
 
 pub any-waits : (s : List ℕ) (r : Ring) → Fit s r → any (map counted (held s r)) ≡ not (eqb (r .len) 0)
 any-waits s r F = any-length (held s r) ∙ ap (λ (n : ℕ). not (eqb n 0)) (held-length s r F)
