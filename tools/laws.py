@@ -1,14 +1,15 @@
-"""Holds every law of a bridge to two wrong bridges that are proved to break it, and the documents to their lists and numbers of these.
+"""Holds every law of a product to two wrong ones that are proved to break it, and the documents to their lists and numbers of these.
 
 Usage: python3 tools/laws.py           fails where a law has fewer than two, where a page of laws is not true of the repository, and where a
                                        number of docs/CHECKS.md is not
-       python3 tools/laws.py --lists   prints for each law the lists of wrong bridges of its page
-The laws are the list of crates/laws/specs/Laws.antt. A refutation is a theorem of a file of crates/wrong/proofs in one of these forms:
-    pub NAME : Breaks BRIDGE LAW
+       python3 tools/laws.py --lists   prints for each law the lists of wrong bridges or mailboxes of its page
+tools/products.py has the products. The laws of one are the list of the file Laws.antt in the specs of its crate of laws. A refutation is a
+theorem of a file in the proofs of its crate of wrong ones, in one of these forms, where WRONG is a wrong bridge or a wrong mailbox:
+    pub NAME : Breaks WRONG LAW
     pub NAME : BreaksAs MACHINE LAW
-    pub NAME : (e : Event) → Breaks BRIDGE LAW
-A law with an event is one of a family, such as Stays, and counts with its family: a refutation for every event counts once, and so does one
-for one event. What a wrong bridge does is said by the remark above its definition in crates/wrong/specs.
+    pub NAME : (e : KIND) → Breaks WRONG LAW
+A law over a KIND, an event of a bridge or a direction of a mailbox, is one of a family, such as Stays, and counts with its family: a
+refutation for all of the KIND counts once, and so does one for one of them. What a wrong one does is said by the remark above its definition.
 """
 import glob
 import os
@@ -19,10 +20,8 @@ from typing import NamedTuple
 sys.dont_write_bytecode = True
 import law_pages
 import listing
+from products import PRODUCTS
 
-LAWS = "crates/laws/specs/Laws.antt"
-PROOFS = "crates/wrong/proofs"
-SPECS = law_pages.SPECS
 CHECKS = "docs/CHECKS.md"
 LEAST = 2
 REMARK = re.compile(r"--[^\n]*")
@@ -31,20 +30,19 @@ THEOREM = re.compile(r"^pub (\S+) :(?=[^\n]*\bBreaks)([^\n]*(?:\n[ \t]+[^\n]*)*)
 TERM = r"([\w']+|\([^()]*\))"
 USE = re.compile(r"^use ([^\s{]+)\.\{([^}]*)\}", re.M)
 DECLARED = re.compile(r"^ *(?:(?:abbrev|unfoldable|pub|record|data) )*(\w+)(?: [^=:\n]*)? :", re.M)
-FORM = re.compile(rf"(?:\((\w+) : Event\) → )?Breaks(?:As)? {TERM} {TERM}")
 
 
 class Refutation(NamedTuple):
-    """A theorem that a wrong bridge breaks a law, for every event where there is a word that stands for one."""
+    """A theorem that a wrong one breaks a law, for all of a kind where there is a word that stands for each of them."""
 
     law: str
-    bridge: str
+    wrong: str
     name: str
     path: str
-    event: str
+    each: str
 
     def family(self):
-        """The law's name without an event."""
+        """The law's name without what it is over."""
         return self.law.split()[0]
 
 
@@ -53,103 +51,115 @@ def plain(term):
     return " ".join(term.strip("()").split())
 
 
-def listed():
+def listed(product):
     """The laws of the list, in its order."""
-    found = LIST.search(REMARK.sub("", listing.read(LAWS)))
+    found = LIST.search(REMARK.sub("", listing.read(product.law_list())))
     return [plain(law) for law in found.group(1).split("∷")] if found else []
 
 
-def families(laws):
-    """The names of these laws without events, in their order, each once."""
-    return list(dict.fromkeys(law.split()[0] for law in laws))
-
-
-def refutations():
+def refutations(product):
     """The refutations in the order of files and lines, and the theorems that speak of Breaks in another form."""
+    form = re.compile(rf"(?:\((\w+) : {product.over}\) → )?Breaks(?:As)? {TERM} {TERM}")
     found, odd = [], []
-    for path in sorted(glob.glob(f"{PROOFS}/*.antt")):
+    for path in sorted(glob.glob(f"{product.proofs()}/*.antt")):
         for theorem in THEOREM.finditer(REMARK.sub("", listing.read(path))):
             name, said = theorem.group(1), " ".join(theorem.group(2).split())
-            form = FORM.fullmatch(said)
-            if form:
-                found.append(Refutation(plain(form.group(3)), plain(form.group(2)), name, path, form.group(1) or ""))
+            if right := form.fullmatch(said):
+                found.append(Refutation(plain(right.group(3)), plain(right.group(2)), name, path, right.group(1) or ""))
             else:
                 odd.append(f"{path}: {name} is of none of the three forms: {said}")
     return found, odd
 
 
-def unlisted(laws, found):
-    """Refutations of what is no law of the list."""
-    known = set(laws)
-    for one in families(laws):
-        known |= {f"{one} {refuted.event}" for refuted in found if refuted.event and any(law.startswith(f"{one} ") for law in laws)}
-    return [f"{one.path}: {one.name} is of {one.law}, which is not in the list of {LAWS}" for one in found if one.law not in known]
+class Laws:
+    """The laws of a product with their refutations."""
 
+    def __init__(self, product):
+        self.product = product
+        self.laws = listed(product)
+        self.families = list(dict.fromkeys(law.split()[0] for law in self.laws))
+        self.found, self.odd = refutations(product)
 
-def too_few(laws, found):
-    """Laws with fewer wrong bridges than each must have."""
-    wrong = []
-    for law in families(laws):
-        bridges = {one.bridge for one in found if one.family() == law}
-        if len(bridges) < LEAST:
-            wrong.append(f"{LAWS}: {law} is broken by {len(bridges)} wrong bridges, not by {LEAST}")
-    return wrong
+    def made(self, one):
+        """The wrong one of a refutation without the event or direction that it is made for."""
+        over = {word for law in self.laws for word in law.split()[1:]} | {one.each}
+        return " ".join(word for word in one.wrong.split() if word not in over)
 
+    def unlisted(self):
+        """Refutations of what is no law of the list."""
+        known = set(self.laws)
+        for family in self.families:
+            known |= {f"{family} {one.each}" for one in self.found if one.each and any(law.startswith(f"{family} ") for law in self.laws)}
+        strange = [one for one in self.found if one.law not in known]
+        return [f"{one.path}: {one.name} is of {one.law}, which is not in the list of {self.product.law_list()}" for one in strange]
 
-def unread(found):
-    """Files of refutations that the crate does not bring in, so that the prover does not see them."""
-    brought = re.findall(r"^pub mod (\w+)", listing.read(f"{PROOFS}/Lib.antt"), re.M)
-    names = sorted({one.path for one in found})
-    return [f"{path}: {PROOFS}/Lib.antt does not bring it in" for path in names if os.path.splitext(os.path.basename(path))[0] not in brought]
+    def too_few(self):
+        """Laws with fewer wrong ones than each must have."""
+        faults = [] if self.laws else [f"{self.product.law_list()}: no list of laws"]
+        for law in self.families:
+            count = len({self.made(one) for one in self.found if one.family() == law})
+            if count < LEAST:
+                faults.append(f"{self.product.law_list()}: {law} is broken by {count} wrong {self.product.many}, not by {LEAST}")
+        return faults
 
+    def unread(self):
+        """Files of refutations that the crate does not bring in, so that the prover does not see them."""
+        lib = f"{self.product.proofs()}/Lib.antt"
+        brought = re.findall(r"^pub mod (\w+)", listing.read(lib), re.M)
+        names = sorted({one.path for one in self.found})
+        return [f"{path}: {lib} does not bring it in" for path in names if os.path.splitext(os.path.basename(path))[0] not in brought]
 
-def own_meaning(laws):
-    """Files of the crate in which Breaks or a law's name means something of their own."""
-    home = {law: "Rattle.laws.specs." for law in families(laws)}
-    home |= {name: "Rattle.wrong.specs.Broken" for name in ("Breaks", "BreaksAs")}
-    wrong = []
-    for path in sorted(glob.glob(f"{PROOFS}/*.antt") + glob.glob(f"{SPECS}/*.antt")):
-        text = REMARK.sub("", listing.read(path))
-        for module, names in USE.findall(text):
-            for name in (one.strip() for one in names.split(",")):
-                old, _, new = name.partition(" as ")
-                if new in home or not module.startswith(home.get(old, "")):
-                    wrong.append(f"{path}: {name} is taken from {module}")
-        if path != f"{SPECS}/Broken.antt":
-            wrong += [f"{path}: it declares {name}" for name in DECLARED.findall(text) if name in home]
-    return wrong
+    def own_meaning(self):
+        """Files of the crate in which Breaks or a law's name means something of their own."""
+        product, faults = self.product, []
+        home = {law: f"Rattle.{product.laws}.specs." for law in self.families}
+        home |= {name: f"Rattle.{product.wrong}.specs.{product.broken}" for name in ("Breaks", "BreaksAs")}
+        for path in sorted(glob.glob(f"{product.proofs()}/*.antt") + glob.glob(f"{product.specs()}/*.antt")):
+            text = REMARK.sub("", listing.read(path))
+            for module, names in USE.findall(text):
+                for name in (one.strip() for one in names.split(",")):
+                    old, _, new = name.partition(" as ")
+                    if new in home or not module.startswith(home.get(old, "")):
+                        faults.append(f"{path}: {name} is taken from {module}")
+            if path != f"{product.specs()}/{product.broken}.antt":
+                faults += [f"{path}: it declares {name}" for name in DECLARED.findall(text) if name in home]
+        return faults
 
+    def undefined(self):
+        """Refutations of what is defined nowhere in the specs."""
+        known, specs = law_pages.described(self.product), self.product.specs()
+        strange = [one for one in self.found if one.wrong.split()[0] not in known]
+        return [f"{one.path}: {one.name} is of {one.wrong}, which no file of {specs} defines" for one in strange]
 
-def undefined(found):
-    """Refutations of what is defined nowhere in the specs."""
-    known = law_pages.described()
-    return [f"{one.path}: {one.name} is of {one.bridge}, which no file of {SPECS} defines" for one in found if one.bridge.split()[0] not in known]
+    def numbers(self):
+        """How many laws, wrong ones and refutations there are."""
+        name, many = self.product.name, self.product.many
+        wrong = len({self.made(one) for one in self.found})
+        return {f"laws of a {name}": len(self.families), f"wrong {many}": wrong, f"refutations of {many}": len(self.found)}
 
+    def wrong_numbers(self):
+        """Numbers that docs/CHECKS.md does not have."""
+        said = listing.read(CHECKS)
+        lines = [f"- {what.capitalize()}: {count}." for what, count in self.numbers().items()]
+        return [f"{CHECKS}: it does not say '{line}'" for line in lines if line not in said]
 
-def numbers(laws, found):
-    """How many laws, wrong bridges and refutations there are."""
-    return {"laws": len(families(laws)), "wrong bridges": len({one.bridge for one in found}), "refutations": len(found)}
-
-
-def wrong_numbers(laws, found):
-    """Numbers that docs/CHECKS.md does not have."""
-    said = listing.read(CHECKS)
-    lines = [f"- {what.capitalize()}: {count}." for what, count in numbers(laws, found).items()]
-    return [f"{CHECKS}: it does not say '{line}'" for line in lines if line not in said]
+    def faults(self):
+        """Every fault of the laws, their refutations, their pages and their numbers."""
+        wrong = self.odd + self.too_few() + self.unlisted() + self.unread() + self.undefined() + self.own_meaning()
+        return wrong + law_pages.faults(self.product, self.families, self.found) + self.wrong_numbers()
 
 
 def main():
     """Prints the lists, or every fault and the numbers; 1 if there is a fault."""
-    laws = listed()
-    found, wrong = refutations()
+    books = [Laws(product) for product in PRODUCTS]
     if "--lists" in sys.argv:
-        print(law_pages.lists(families(laws), found), end="")
+        print("".join(law_pages.lists(book.product, book.families, book.found) for book in books), end="")
         return 0
-    wrong += [] if laws else [f"{LAWS}: no list of laws"]
-    wrong += unlisted(laws, found) + too_few(laws, found) + unread(found) + undefined(found) + own_meaning(laws)
-    wrong += law_pages.faults(families(laws), found) + wrong_numbers(laws, found)
+    wrong = [fault for book in books for fault in book.faults()]
     print("".join(f"{fault}\n" for fault in wrong), end="")
-    print(", ".join(f"{count} {what}" for what, count in {**numbers(laws, found), "faults": len(wrong)}.items()))
+    for book in books:
+        print(", ".join(f"{count} {what}" for what, count in book.numbers().items()))
+    print(f"{len(wrong)} faults")
     return 1 if wrong else 0
 
 
