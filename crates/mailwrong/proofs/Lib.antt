@@ -1,0 +1,3 @@
+pub mod MailComputing
+pub mod MailSmall
+pub mod SpoiltWays

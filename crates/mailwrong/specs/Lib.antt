@@ -1,0 +1,4 @@
+pub mod Spoiling
+pub mod MailTrials
+pub mod BrokenMail
+pub mod SpoiltWays

@@ -1,0 +1,62 @@
+-- The worlds that wrong mailboxes are tried in, by what differs from the start, and the calls that are made in them.
+use Prim.Native.Nat.{ℕ}
+use mathlib.Core.Bool.{Bool, true, false}
+use mathlib.Core.List.{List, [], _∷_}
+use Rattle.frame.specs.Frame.{made}
+use Rattle.role.specs.declared.Role.{Role}
+use Rattle.store.specs.declared.Ring.{Ring}
+use Rattle.mailstate.specs.declared.State.{State}
+use Rattle.mailstate.specs.Sizes.{startState}
+use Rattle.mailstate.specs.State.{withHold}
+use Rattle.mailbox.specs.Calls.{Call, on, loopFrame, busByte, World, world}
+use Rattle.maillaws.specs.Sights.{Direction, toBus, toLoop}
+use Rattle.mailwrong.specs.Spoiling.{having, withRing, withLoopRole, withBusRole}
+
+-- a store of so many places that holds n cells, the oldest at place p
+abbrev pub ring : ℕ → ℕ → ℕ → Ring
+ring cap p n = record { cap = cap; oldest = p; len = n }
+
+-- two cells each way: "1" and "7" with the end mark, "2" and "5" with it
+abbrev pub cellsFor : Direction → List ℕ
+cellsFor toBus = 49 ∷ 311 ∷ []
+cellsFor toLoop = 50 ∷ 309 ∷ []
+
+-- the start at the bus address 5, with its state changed
+abbrev pub started : (State → State) → World
+started change = world (change (startState 5 2 2)) (cellsFor toBus) (cellsFor toLoop)
+
+-- n of the two wait in the way, from place p on
+abbrev pub waitingAt : Direction → ℕ → ℕ → World → World
+waitingAt d p n w = withRing d (ring 2 p n) w
+
+abbrev pub waiting : Direction → ℕ → World → World
+waiting d n w = waitingAt d 0 n w
+
+-- ---- roles, at the loop address 3 and the bus address 5
+
+abbrev pub roleAt : ℕ → ℕ → Bool → Role
+roleAt a phase listener = record { address = a; phase = phase; listener = listener }
+
+-- listener on the loop, and on the bus: whoever leaves in the way
+abbrev pub leaver : Direction → World
+leaver toBus = started (λ s. withLoopRole (roleAt 3 0 true) s)
+leaver toLoop = started (λ s. withBusRole (roleAt 5 0 true) s)
+
+-- addressed talker on the bus, and on the loop: whoever fetches from the way
+abbrev pub fetcher : Direction → World
+fetcher toBus = started (λ s. withBusRole (roleAt 5 1 false) s)
+fetcher toLoop = started (λ s. withLoopRole (roleAt 3 1 false) s)
+
+-- a listener on the loop whose frame f is held back
+abbrev pub holdingBack : ℕ → World
+holdingBack f = having (λ s. withHold s (record { enabled = true; held = true; frame = f })) (waiting toBus 1 (leaver toBus))
+
+-- ---- calls
+
+abbrev pub takes : ℕ → ℕ → Call
+takes k d = on (loopFrame (made k d))
+
+-- the byte is left in the way, and the next is fetched from it
+abbrev pub leaves : Direction → ℕ → Call
+leaves toBus b = takes 0 b
+leaves toLoop b = on (busByte b false)
