@@ -8,7 +8,7 @@ use Rattle.store.specs.declared.Ring.{Ring}
 use Rattle.mailstate.specs.declared.State.{State}
 use Rattle.mailstate.specs.Sizes.{startState}
 use Rattle.mailstate.specs.State.{withHold}
-use Rattle.mailbox.specs.Calls.{Call, on, loopFrame, busByte, World, world}
+use Rattle.mailbox.specs.Calls.{Call, on, loopFrame, busByte, busFetch, World, world}
 use Rattle.maillaws.specs.Sights.{Direction, toBus, toLoop}
 use Rattle.mailwrong.specs.Spoiling.{having, withRing, withLoopRole, withBusRole}
 
@@ -16,21 +16,18 @@ use Rattle.mailwrong.specs.Spoiling.{having, withRing, withLoopRole, wit
 abbrev pub ring : ℕ → ℕ → ℕ → Ring
 ring cap p n = record { cap = cap; oldest = p; len = n }
 
--- two cells each way: "1" and "7" with the end mark, "2" and "5" with it
+-- two cells each way: "1" with the end mark and "7", "2" with it and "5"
 abbrev pub cellsFor : Direction → List ℕ
-cellsFor toBus = 49 ∷ 311 ∷ []
-cellsFor toLoop = 50 ∷ 309 ∷ []
+cellsFor toBus = 305 ∷ 55 ∷ []
+cellsFor toLoop = 306 ∷ 53 ∷ []
 
 -- the start at the bus address 5, with its state changed
 abbrev pub started : (State → State) → World
 started change = world (change (startState 5 2 2)) (cellsFor toBus) (cellsFor toLoop)
 
--- n of the two wait in the way, from place p on
-abbrev pub waitingAt : Direction → ℕ → ℕ → World → World
-waitingAt d p n w = withRing d (ring 2 p n) w
-
+-- the first n of the two wait in the way
 abbrev pub waiting : Direction → ℕ → World → World
-waiting d n w = waitingAt d 0 n w
+waiting d n w = withRing d (ring 2 0 n) w
 
 -- ---- roles, at the loop address 3 and the bus address 5
 
@@ -56,7 +53,11 @@ holdingBack f = having (λ s. withHold s (record { enabled = true; held = true; 
 abbrev pub takes : ℕ → ℕ → Call
 takes k d = on (loopFrame (made k d))
 
--- the byte is left in the way, and the next is fetched from it
+-- the byte is left in the way, and the oldest is asked for
 abbrev pub leaves : Direction → ℕ → Call
 leaves toBus b = takes 0 b
 leaves toLoop b = on (busByte b false)
+
+abbrev pub asks : Direction → Call
+asks toBus = on busFetch
+asks toLoop = takes 5 96

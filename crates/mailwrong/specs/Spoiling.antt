@@ -63,8 +63,8 @@ abbrev pub refusing : ℕ → Call → World → Did
 refusing n c w = only (refused n) w
 
 -- never gives the refusal n: does what the call asks for
-abbrev pub heedless : ℕ → Call → World → Did
-heedless n = instead (λ c w. eqb (firstRefusal (checks c w)) n) notRefused
+abbrev pub overlooks : ℕ → Call → World → Did
+overlooks n = instead (λ c w. eqb (firstRefusal (checks c w)) n) notRefused
 
 -- ---- what is changed
 

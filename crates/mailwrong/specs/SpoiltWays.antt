@@ -59,7 +59,7 @@ abbrev put : Direction → ℕ → World → World
 put d c w = withRing d (putRing (ringOf d w)) (withCells d (putBytes (storeOf d w) (ringOf d w) c) w)
 
 -- not ready for data has come round while a frame is held back; a command comes then
-abbrev releases : World → Call → Bool
+abbrev pub releases : World → Call → Bool
 releases w = onFrame (λ f. w .state .hold .held && eqb f (made 5 66)) false
 
 abbrev cutsOff : World → Call → Bool
@@ -75,11 +75,12 @@ takesHeldBack = leaving (λ c w v. cond (cutsOff w c) (withoutNewest toBus v) v)
 
 -- ---- what is fetched
 
-abbrev takesFrom : Direction → Sight
+-- something is fetched from the way
+abbrev pub takesFrom : Direction → Sight
 takesFrom d c w a = any (fetched d c w a)
 
 -- the end mark is taken off
-abbrev unmarked : Said → Said
+abbrev pub unmarked : Said → Said
 unmarked (cell n) = cell (n % 256)
 unmarked (frame k d) = frame (k % 2) d
 unmarked done = done
@@ -101,13 +102,13 @@ givesAgain d = leaving (λ c w v. cond (takesFrom d c w (step c w .said)) (withR
 abbrev newestOf : Ring → Ring
 newestOf r = record { cap = r .cap; oldest = wrap (r .cap) (r .oldest + (r .len - 1)); len = 1 }
 
--- what the world before gave, put into what a fetch of another ring did
-abbrev fetchedFrom : Direction → Ring → Ring → Call → World → Did
-fetchedFrom d taken kept c w =
-    let other = step c (withRing d taken w) in
-    record { said = other .said; world = withNews d (newsOf d (step c w .world)) (withRing d kept (other .world)) }
-
 -- hands over the newest of the way d first
 abbrev pub newestFirst : Direction → Call → World → Did
 newestFirst d =
-    insteadAt (takesFrom d) (λ c w. fetchedFrom d (newestOf (ringOf d w)) (holding (ringOf d w .len - 1) (ringOf d w)) c w)
+    insteadAt (takesFrom d)
+    (λ c w.
+    let other = step c (withRing d (newestOf (ringOf d w)) w) in
+    record {
+      said = other .said;
+      world = withNews d (newsOf d (step c w .world)) (withRing d (holding (ringOf d w .len - 1) (ringOf d w)) (other .world));
+    })
