@@ -1,3 +1,5 @@
 pub mod MailComputing
 pub mod MailSmall
 pub mod SpoiltWays
+pub mod SpoiltGiving
+pub mod SpoiltClears

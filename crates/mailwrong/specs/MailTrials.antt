@@ -5,12 +5,13 @@ use mathlib.Core.List.{List, [], _∷_}
 use Rattle.frame.specs.Frame.{made}
 use Rattle.role.specs.declared.Role.{Role}
 use Rattle.store.specs.declared.Ring.{Ring}
+use Rattle.news.specs.News.{come}
 use Rattle.mailstate.specs.declared.State.{State}
 use Rattle.mailstate.specs.Sizes.{startState}
-use Rattle.mailstate.specs.State.{withHold}
-use Rattle.mailbox.specs.Calls.{Call, on, loopFrame, busByte, busFetch, World, world}
+use Rattle.mailstate.specs.State.{withTalker, withHold, withBus}
+use Rattle.mailbox.specs.Calls.{Call, on, loopFrame, busCommand, busByte, busFetch, World, world}
 use Rattle.maillaws.specs.Sights.{Direction, toBus, toLoop}
-use Rattle.mailwrong.specs.Spoiling.{having, withRing, withLoopRole, withBusRole}
+use Rattle.mailwrong.specs.Spoiling.{having, withRing, withNews, withLoopRole, withBusRole}
 
 -- a store of so many places that holds n cells, the oldest at place p
 abbrev pub ring : ℕ → ℕ → ℕ → Ring
@@ -29,6 +30,13 @@ started change = world (change (startState 5 2 2)) (cellsFor toBus) (cellsFor to
 abbrev pub waiting : Direction → ℕ → World → World
 waiting d n w = withRing d (ring 2 0 n) w
 
+-- both cells wait in both ways; and service is requested for both
+abbrev pub full : World
+full = waiting toBus 2 (waiting toLoop 2 (started (λ s. s)))
+
+abbrev pub requested : World
+requested = withNews toBus come (withNews toLoop come full)
+
 -- ---- roles, at the loop address 3 and the bus address 5
 
 abbrev pub roleAt : ℕ → ℕ → Bool → Role
@@ -43,6 +51,19 @@ leaver toLoop = started (λ s. withBusRole (roleAt 5 0 true) s)
 abbrev pub fetcher : Direction → World
 fetcher toBus = started (λ s. withBusRole (roleAt 5 1 false) s)
 fetcher toLoop = started (λ s. withLoopRole (roleAt 3 1 false) s)
+
+-- active with data: the first cell has gone as 2,50, and the second waits
+abbrev pub oneSent : World
+oneSent =
+    having (λ s. withTalker s (record { role = roleAt 3 2 false; under = record { frame = made 2 50; finishing = false } }))
+    (withRing toLoop (ring 2 1 1) (started (λ s. s)))
+
+-- addressed talker on the bus in serial poll mode, whose status byte was read or not
+abbrev pub serialTalker : Bool → World
+serialTalker read =
+    having
+    (λ s. withBus s (record { role = roleAt 5 1 false; serial = true; read = read; configuring = false; polled = false; line = 0 }))
+    (started (λ s. s))
 
 -- a listener on the loop whose frame f is held back
 abbrev pub holdingBack : ℕ → World
@@ -61,3 +82,11 @@ leaves toLoop b = on (busByte b false)
 abbrev pub asks : Direction → Call
 asks toBus = on busFetch
 asks toLoop = takes 5 96
+
+-- a command on the bus, and the device clear that clears the way
+abbrev pub commands : ℕ → Call
+commands n = on (busCommand n)
+
+abbrev pub clears : Direction → Call
+clears toBus = takes 4 20
+clears toLoop = commands 20
