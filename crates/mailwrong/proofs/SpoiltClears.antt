@@ -10,11 +10,12 @@ use Rattle.mailbox.specs.Calls.{create, reset, busClear, on}
 use Rattle.maillaws.specs.Sights.{toBus, toLoop}
 use Rattle.maillaws.specs.WaysKept.{WayKept, WaySince}
 use Rattle.maillaws.specs.WaysCleared.{ClearsWay, OtherStays}
+use Rattle.refuting.proofs.Apart.{lists-differ}
+use Rattle.refuting.proofs.StandsIn.{holds, no-round}
 use Rattle.mailwrong.specs.MailTrials.{cellsFor, waiting, full, requested, takes, commands, clears}
 use Rattle.mailwrong.specs.SpoiltClears.{clearLeaves, restartLeaves, clearLeavesRequest, clearsBoth, clearHushes, interfaceClearEmpties, clearsForOthers}
 use Rattle.mailwrong.specs.BrokenMail.{Breaks}
 use Rattle.mailwrong.proofs.MailComputing.{computes}
-use Rattle.mailwrong.proofs.MailSmall.{holds, no-round, lists-differ}
 
 -- ---- what should be cleared: a device clear, where both ways are full
 

@@ -6,12 +6,13 @@ use Rattle.frame.specs.Frame.{made}
 use Rattle.maillaws.specs.Sights.{toBus, toLoop}
 use Rattle.maillaws.specs.WaysKept.{WayKept}
 use Rattle.maillaws.specs.Giving.{LoopGiven, BusGiven}
+use Rattle.refuting.proofs.Apart.{lists-differ, answers-differ}
+use Rattle.refuting.proofs.StandsIn.{holds, no-round}
 use Rattle.mailwrong.specs.MailTrials.{cellsFor, started, waiting, fetcher, oneSent, serialTalker, takes, asks}
 use Rattle.mailwrong.specs.SpoiltWays.{dropsMark, newestFirst}
 use Rattle.mailwrong.specs.SpoiltGiving.{fetchesNothing, endsAtMark, givesOwn, dataInSerialPoll, statusOften, givesUnasked}
 use Rattle.mailwrong.specs.BrokenMail.{Breaks}
 use Rattle.mailwrong.proofs.MailComputing.{computes}
-use Rattle.mailwrong.proofs.MailSmall.{holds, no-round, lists-differ, answers-differ}
 
 -- ---- on the loop: both cells wait, and data is asked for
 

@@ -6,11 +6,12 @@ use mathlib.Core.List.{[], _∷_}
 use Rattle.frame.specs.Frame.{made}
 use Rattle.maillaws.specs.Sights.{toBus, toLoop}
 use Rattle.maillaws.specs.WaysKept.{WayKept}
+use Rattle.refuting.proofs.Apart.{lists-differ}
+use Rattle.refuting.proofs.StandsIn.{holds, no-round}
 use Rattle.mailwrong.specs.MailTrials.{cellsFor, waiting, leaver, fetcher, holdingBack, takes, leaves, asks}
 use Rattle.mailwrong.specs.SpoiltWays.{replacesNewest, losesPoint, storesHeldTwice, takesHeldBack, dropsMark, givesAgain, newestFirst}
 use Rattle.mailwrong.specs.BrokenMail.{Breaks}
 use Rattle.mailwrong.proofs.MailComputing.{computes}
-use Rattle.mailwrong.proofs.MailSmall.{holds, no-round, lists-differ}
 
 -- ---- what is left
 

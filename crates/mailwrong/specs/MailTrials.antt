@@ -4,18 +4,14 @@ use mathlib.Core.Bool.{Bool, true, false}
 use mathlib.Core.List.{List, [], _∷_}
 use Rattle.frame.specs.Frame.{made}
 use Rattle.role.specs.declared.Role.{Role}
-use Rattle.store.specs.declared.Ring.{Ring}
 use Rattle.news.specs.News.{come}
 use Rattle.mailstate.specs.declared.State.{State}
 use Rattle.mailstate.specs.Sizes.{startState}
 use Rattle.mailstate.specs.State.{withTalker, withHold, withBus}
 use Rattle.mailbox.specs.Calls.{Call, on, loopFrame, busCommand, busByte, busFetch, World, world}
 use Rattle.maillaws.specs.Sights.{Direction, toBus, toLoop}
+use Rattle.refuting.specs.SmallRings.{ring}
 use Rattle.mailwrong.specs.Spoiling.{having, withRing, withNews, withLoopRole, withBusRole}
-
--- a store of so many places that holds n cells, the oldest at place p
-abbrev pub ring : ℕ → ℕ → ℕ → Ring
-ring cap p n = record { cap = cap; oldest = p; len = n }
 
 -- two cells each way: "1" with the end mark and "7", "2" with it and "5"
 abbrev pub cellsFor : Direction → List ℕ

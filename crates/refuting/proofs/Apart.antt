@@ -1,21 +1,15 @@
--- What the runs of wrong mailboxes need of lists and stores. Assumes nothing.
-use Prim.Native.Nat.{ℕ, _+_}
+-- Numbers, lists and answers that differ, by a test. Assumes nothing.
+use Prim.Native.Nat.{ℕ}
 use mathlib.Core.Path.{_≡_, refl, sym, ap, _∙_}
 use mathlib.Core.Bool.{Bool, true, false, _&&_, false≢true}
 use mathlib.Core.List.{List, [], _∷_}
-use lib.Dec.{eqb, leb, ltb}
-use lib.ListN.{length, take, drop}
-use borrow.Author.Tests.{ltb-true, leb-true, eq-eqb}
-use Rattle.store.specs.Ring.{held, wrap}
-use Rattle.store.proofs.Laws.{held-unbroken, wrap-low}
+use lib.Dec.{eqb}
+use borrow.Author.Tests.{eqb-true, eq-eqb}
+use Rattle.branches.proofs.Branches.{and-left, and-right}
 use Rattle.answers.specs.Answers.{Said, done, none, byte, frame, refused, part, cell, lines}
-use Rattle.mailwrong.specs.MailTrials.{ring}
 
-pub holds : (s : List ℕ) (p n : ℕ) → leb (p + n) (length s) ≡ true → held s (ring (length s) p n) ≡ take n (drop p s)
-holds s p n e = held-unbroken s (ring (length s) p n) (leb-true (p + n) (length s) e)
-
-pub no-round : (cap p : ℕ) → ltb p cap ≡ true → wrap cap p ≡ p
-no-round cap p e = wrap-low cap p (ltb-true p cap e)
+pub numbers-differ : (a b : ℕ) → eqb a b ≡ false → a ≡ b → ⊥
+numbers-differ a b e p = false≢true (sym e ∙ eq-eqb a b p)
 
 abbrev pub alike : List ℕ → List ℕ → Bool
 alike [] [] = true
@@ -27,9 +21,17 @@ alike-self : (a : List ℕ) → alike a a ≡ true
 alike-self [] = refl
 alike-self (x ∷ xs) = rw (eq-eqb x x refl) (alike-self xs)
 
+pub alike-same : (a b : List ℕ) → alike a b ≡ true → a ≡ b
+alike-same [] [] e = refl
+alike-same [] (b ∷ bs) e = absurd (false≢true e)
+alike-same (a ∷ l) [] e = absurd (false≢true e)
+alike-same (a ∷ l) (b ∷ bs) e =
+    λ i. eqb-true a b (and-left (eqb a b) (alike l bs) e) i ∷ alike-same l bs (and-right (eqb a b) (alike l bs) e) i
+
 pub lists-differ : (a b : List ℕ) → alike a b ≡ false → a ≡ b → ⊥
 lists-differ a b e p = false≢true (sym e ∙ ap (alike a) (sym p) ∙ alike-self a)
 
+-- an answer as a list of numbers
 abbrev pub spelled : Said → List ℕ
 spelled done = 0 ∷ []
 spelled none = 1 ∷ []
