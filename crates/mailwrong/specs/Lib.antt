@@ -1,5 +1,6 @@
 pub mod Spoiling
 pub mod MailTrials
+pub mod MailTurns
 pub mod BrokenMail
 pub mod SpoiltWays
 pub mod SpoiltGiving

@@ -4,6 +4,7 @@ use mathlib.Core.Bool.{Bool, true, false}
 use mathlib.Core.List.{List, [], _∷_}
 use Rattle.frame.specs.Frame.{made}
 use Rattle.role.specs.declared.Role.{Role}
+use Rattle.news.specs.declared.News.{News}
 use Rattle.news.specs.News.{come}
 use Rattle.mailstate.specs.declared.State.{State}
 use Rattle.mailstate.specs.Sizes.{startState}
@@ -11,7 +12,7 @@ use Rattle.mailstate.specs.State.{withTalker, withHold, withBus}
 use Rattle.mailbox.specs.Calls.{Call, on, loopFrame, busCommand, busByte, busFetch, World, world}
 use Rattle.maillaws.specs.Sights.{Direction, toBus, toLoop}
 use Rattle.refuting.specs.SmallRings.{ring}
-use Rattle.mailwrong.specs.Spoiling.{having, withRing, withNews, withLoopRole, withBusRole}
+use Rattle.mailwrong.specs.Spoiling.{having, withRing, withNews, withCells, withLoopRole, withBusRole}
 
 -- two cells each way: "1" with the end mark and "7", "2" with it and "5"
 abbrev pub cellsFor : Direction → List ℕ
@@ -54,12 +55,29 @@ oneSent =
     having (λ s. withTalker s (record { role = roleAt 3 2 false; under = record { frame = made 2 50; finishing = false } }))
     (withRing toLoop (ring 2 1 1) (started (λ s. s)))
 
+-- what is told of a way: whether service is requested, whether something came, and whether it came since status was sent
+abbrev pub news : Bool → Bool → Bool → News
+news request available again = record { request = request; available = available; again = again }
+
+-- a listener on the bus and a talker on the loop, in this phase and with this frame under way, that is told this of the way to the loop
+abbrev pub reader : ℕ → ℕ → News → World
+reader phase f n =
+    having (λ s. withTalker s (record { role = roleAt 3 phase false; under = record { frame = f; finishing = false } })) (withNews toLoop n (leaver toLoop))
+
+-- the same, with "9" in the way to the loop
+abbrev pub nineCame : ℕ → ℕ → News → World
+nineCame phase f n = withCells toLoop (57 ∷ 53 ∷ []) (waiting toLoop 1 (reader phase f n))
+
 -- addressed talker on the bus in serial poll mode, whose status byte was read or not
 abbrev pub serialTalker : Bool → World
 serialTalker read =
     having
     (λ s. withBus s (record { role = roleAt 5 1 false; serial = true; read = read; configuring = false; polled = false; line = 0 }))
     (started (λ s. s))
+
+-- a listener on the loop that says when it is not ready, and a talker on the bus
+abbrev pub watchful : World
+watchful = having (λ s. withBusRole (roleAt 5 1 false) (withHold s (record { enabled = true; held = false; frame = 0 }))) (leaver toBus)
 
 -- a listener on the loop whose frame f is held back
 abbrev pub holdingBack : ℕ → World
