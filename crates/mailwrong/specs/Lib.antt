@@ -1,0 +1,15 @@
+pub mod Spoiling
+pub mod MailTrials
+pub mod MailTurns
+pub mod BrokenMail
+pub mod SpoiltWays
+pub mod SpoiltGiving
+pub mod SpoiltClears
+pub mod SpoiltNews
+pub mod SpoiltRequests
+pub mod SpoiltHolding
+pub mod SpoiltRoles
+pub mod SpoiltBus
+pub mod SpoiltReplies
+pub mod SpoiltRefusals
+pub mod SpoiltStores
