@@ -1,4 +1,3 @@
--- `Copied` and `Same` serve the proofs of the functions, `Laws` are the laws of the block.
-pub mod Copied
-pub mod Same
+-- `Written` serves the proofs of the functions, `Laws` are the laws of the block.
+pub mod Written
 pub mod Laws

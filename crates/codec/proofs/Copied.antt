@@ -1,14 +1,12 @@
 -- Two lists copied over a list one behind the other are all that is left of it, if it is as long as both. Assumes nothing.
 use Prim.Native.Nat.{ℕ, _+_, _-_}
-use mathlib.Core.Path.{_≡_, sym, ap, _∙_}
+use mathlib.Core.Path.{_≡_, ap, _∙_}
 use mathlib.Core.List.{List, [], _++_, append-nil}
 use native.Mathlib.Omega.{arith}
 use lib.ListN.{length, take, drop, length-append, length-drop, drop-of-length-le}
 use lib.Seq.{take-all, take-length, take-at, drop-at}
-use Rattle.state.specs.declared.State.{State}
-use Rattle.block.specs.Packed.{blockLen, packed, packedHead, packedTail}
 
-both-copied : (n : ℕ) (h t b b₁ ys : List ℕ) → length h ≡ n → length b ≡ n + length t → b₁ ≡ take (length h) h ++ drop (length h) b →
+pub both-copied : (n : ℕ) (h t b b₁ ys : List ℕ) → length h ≡ n → length b ≡ n + length t → b₁ ≡ take (length h) h ++ drop (length h) b →
     ys ≡ take (length t) t ++ drop (length t) (take (length b₁ - n) (drop n b₁)) → take n b₁ ++ (ys ++ drop (length b₁ - n) (drop n b₁)) ≡ h ++ t
 both-copied n h t b b₁ ys lh lb p q =
     let first : b₁ ≡ h ++ drop n b = p ∙ (λ j. take-length h j ++ drop (lh j) b) in
@@ -20,10 +18,3 @@ both-copied n h t b b₁ ys lh lb p q =
     let none : drop (length t) (drop n b) ≡ [] = drop-of-length-le (drop n b) {i = length t} (omega arith) in
     let there : ys ≡ t = q ∙ rw (take-length t, room, back, all, none, append-nil) in
     rw (front, there, back, room, none, append-nil)
-
--- a state's bytes, whose two parts are copied so
-pub packed-copied : (s : State) (h t b b₁ ys : List ℕ) → h ≡ packedHead s → t ≡ packedTail s → length b ≡ blockLen → b₁ ≡ take (length h) h ++ drop (length h) b →
-    ys ≡ take (length t) t ++ drop (length t) (take (length b₁ - 27) (drop 27 b₁)) → take 27 b₁ ++ (ys ++ drop (length b₁ - 27) (drop 27 b₁)) ≡ packed s
-unfolding packed
-packed-copied s h t b b₁ ys eh et lb p q =
-    both-copied 27 h t b b₁ ys (ap length eh) (lb ∙ ap (λ (n : ℕ). 27 + n) (sym (ap length et))) p q ∙ (λ j. eh j ++ et j)
