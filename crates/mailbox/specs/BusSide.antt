@@ -14,7 +14,7 @@ use Rattle.bus.specs.declared.Fetch.the-variants.{Silent, Status, Data}
 use Rattle.bus.specs.Bus.{clears, commanded, interfaceCleared, fetchOf, pollBits}
 use Rattle.mailstate.specs.declared.State.{State}
 use Rattle.mailstate.specs.declared.Outcome.{Outcome}
-use Rattle.mailstate.specs.declared.Answer.the-variants as answer
+use Rattle.answers.specs.declared.Answer.the-variants as answer
 use Rattle.mailstate.specs.State.{withToBus, withToLoop, withBus}
 
 abbrev pub doneWith : State → Outcome

@@ -5,8 +5,8 @@ ghost use Rattle.store.specs.Ring.{Fit};
 ghost use Rattle.mailbox.specs.BusSide as bus-side;
 ghost use Rattle.mailbox.specs.Calls.{Promised, unmade, world, did, handed, refusedWith};
 ghost use Rattle.mailbox.specs.Calls.{on, create, reset, loopFrame, busCommand, busByte, busFetch, busClear, busLines, show};
+use answers::Answer;
 use bus::Fetch;
-use mailstate::Answer;
 use mailstate::Outcome;
 use mailstate::State;
 

@@ -23,7 +23,7 @@ use Rattle.news.specs.News as news
 use Rattle.way.specs.Way.{emptyWay, leftIn, told}
 use Rattle.mailstate.specs.declared.State.{State}
 use Rattle.mailstate.specs.declared.Outcome.{Outcome}
-use Rattle.mailstate.specs.declared.Answer.the-variants.{Frame}
+use Rattle.answers.specs.declared.Answer.the-variants.{Frame}
 use Rattle.mailstate.specs.State.{withToBus, withToLoop, withTalker, withHold, withResponse, noHold}
 use Rattle.mailloop.specs.Sends.{serviced, ended, sendWaiting, sendId, sendAccessory, sendStatus, sendNext}
 

@@ -5,7 +5,7 @@ ghost use Prim.Native.Nat.{_<_};
 ghost use Rattle.talker.specs.Returning.{returnOf};
 ghost use Rattle.mailstate.specs.State.{noHold};
 ghost use Rattle.mailloop.specs.Messages.{busy, passed, responseAfter, command, released, identities, ready, identify, judged, Kept, Framed};
-use mailstate::Answer;
+use answers::Answer;
 use mailstate::Hold;
 use mailstate::Outcome;
 use mailstate::State;
