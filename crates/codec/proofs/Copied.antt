@@ -3,8 +3,10 @@ use Prim.Native.Nat.{ℕ, _+_, _-_}
 use mathlib.Core.Path.{_≡_, ap, _∙_}
 use mathlib.Core.List.{List, [], _++_, append-nil}
 use native.Mathlib.Omega.{arith}
-use lib.ListN.{length, take, drop, length-append, length-drop, drop-of-length-le}
+use lib.ListN.{length, take, drop, length-append, length-drop, drop-of-length-le, take-append-drop}
 use lib.Seq.{take-all, take-length, take-at, drop-at}
+use Rattle.codec.specs.Codec.{Codec}
+use Rattle.codec.specs.Blocks.{packed}
 
 pub both-copied : (n : ℕ) (h t b b₁ ys : List ℕ) → length h ≡ n → length b ≡ n + length t → b₁ ≡ take (length h) h ++ drop (length h) b →
     ys ≡ take (length t) t ++ drop (length t) (take (length b₁ - n) (drop n b₁)) → take n b₁ ++ (ys ++ drop (length b₁ - n) (drop n b₁)) ≡ h ++ t
@@ -18,3 +20,9 @@ both-copied n h t b b₁ ys lh lb p q =
     let none : drop (length t) (drop n b) ≡ [] = drop-of-length-le (drop n b) {i = length t} (omega arith) in
     let there : ys ≡ t = q ∙ rw (take-length t, room, back, all, none, append-nil) in
     rw (front, there, back, room, none, append-nil)
+
+-- a state's bytes in two parts, the second behind the first, are its block
+pub packed-both : {S : Type 0} (layout : Codec S) (n : ℕ) (s : S) (h t b : List ℕ) → h ≡ take n (layout .put s) → t ≡ drop n (layout .put s) →
+    b ≡ h ++ t → b ≡ packed layout s
+unfolding packed
+packed-both layout n s h t b p q e = e ∙ (λ i. p i ++ q i) ∙ take-append-drop n (layout .put s)

@@ -1,4 +1,5 @@
-use Rattle.block.proofs.Written.{packed-both}
+use Rattle.codec.proofs.Copied.{packed-both}
+use Rattle.block.specs.Packed.{layout}
 use borrow.Author.Needs.{needs}
 use Rattle.block.proofs.pack.Statement.{statement}
 use Rattle.block.proofs.pack.Tie as tie
@@ -13,4 +14,4 @@ pack-spec =
     (λ c. search needs)
     (λ c κs. search needs)
     (λ c. search needs)
-    (λ c. packed-both _ _ _ _ (c .before .before .before .before .before .before .before .packed-head .ensures) (c .before .before .before .before .before .before .packed-tail .ensures) (c .before .before .write-both .ensures)))
+    (λ c. packed-both layout 27 _ _ _ _ (c .before .before .before .before .before .before .before .packed-head .ensures) (c .before .before .before .before .before .before .packed-tail .ensures) (c .before .before .write-both .ensures)))
