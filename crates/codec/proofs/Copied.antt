@@ -1,14 +1,14 @@
 -- Two lists copied over a list one behind the other are all that is left of it, if it is as long as both. Assumes nothing.
 use Prim.Native.Nat.{ℕ, _+_, _-_}
-use mathlib.Core.Path.{_≡_, sym, ap, _∙_}
+use mathlib.Core.Path.{_≡_, ap, _∙_}
 use mathlib.Core.List.{List, [], _++_, append-nil}
 use native.Mathlib.Omega.{arith}
-use lib.ListN.{length, take, drop, length-append, length-drop, drop-of-length-le}
+use lib.ListN.{length, take, drop, length-append, length-drop, drop-of-length-le, take-append-drop}
 use lib.Seq.{take-all, take-length, take-at, drop-at}
-use Rattle.state.specs.declared.State.{State}
-use Rattle.block.specs.Packed.{blockLen, packed, packedHead, packedTail}
+use Rattle.codec.specs.Codec.{Codec}
+use Rattle.codec.specs.Blocks.{packed}
 
-both-copied : (n : ℕ) (h t b b₁ ys : List ℕ) → length h ≡ n → length b ≡ n + length t → b₁ ≡ take (length h) h ++ drop (length h) b →
+pub both-copied : (n : ℕ) (h t b b₁ ys : List ℕ) → length h ≡ n → length b ≡ n + length t → b₁ ≡ take (length h) h ++ drop (length h) b →
     ys ≡ take (length t) t ++ drop (length t) (take (length b₁ - n) (drop n b₁)) → take n b₁ ++ (ys ++ drop (length b₁ - n) (drop n b₁)) ≡ h ++ t
 both-copied n h t b b₁ ys lh lb p q =
     let first : b₁ ≡ h ++ drop n b = p ∙ (λ j. take-length h j ++ drop (lh j) b) in
@@ -21,9 +21,8 @@ both-copied n h t b b₁ ys lh lb p q =
     let there : ys ≡ t = q ∙ rw (take-length t, room, back, all, none, append-nil) in
     rw (front, there, back, room, none, append-nil)
 
--- a state's bytes, whose two parts are copied so
-pub packed-copied : (s : State) (h t b b₁ ys : List ℕ) → h ≡ packedHead s → t ≡ packedTail s → length b ≡ blockLen → b₁ ≡ take (length h) h ++ drop (length h) b →
-    ys ≡ take (length t) t ++ drop (length t) (take (length b₁ - 27) (drop 27 b₁)) → take 27 b₁ ++ (ys ++ drop (length b₁ - 27) (drop 27 b₁)) ≡ packed s
+-- a state's bytes in two parts, the second behind the first, are its block
+pub packed-both : {S : Type 0} (layout : Codec S) (n : ℕ) (s : S) (h t b : List ℕ) → h ≡ take n (layout .put s) → t ≡ drop n (layout .put s) →
+    b ≡ h ++ t → b ≡ packed layout s
 unfolding packed
-packed-copied s h t b b₁ ys eh et lb p q =
-    both-copied 27 h t b b₁ ys (ap length eh) (lb ∙ ap (λ (n : ℕ). 27 + n) (sym (ap length et))) p q ∙ (λ j. eh j ++ et j)
+packed-both layout n s h t b p q e = e ∙ (λ i. p i ++ q i) ∙ take-append-drop n (layout .put s)

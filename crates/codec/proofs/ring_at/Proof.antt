@@ -1,6 +1,6 @@
 use borrow.Author.Needs.{needs}
-use Rattle.block.proofs.reading.ring_at.Statement.{statement}
-use Rattle.block.proofs.reading.ring_at.Tie as tie
+use Rattle.codec.proofs.ring_at.Statement.{statement}
+use Rattle.codec.proofs.ring_at.Tie as tie
 
 pub ring-at-spec : {M : Type 1} → statement M
 ring-at-spec =

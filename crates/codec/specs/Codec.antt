@@ -11,8 +11,8 @@ use mir.Val.{boolByte}
 use borrow.Author.Tests.{eqb-true, eq-eqb}
 use Rattle.branches.proofs.Branches.{and-left, and-right}
 use Rattle.store.specs.Bytes.{Bytes}
-use Rattle.block.specs.Standing.{At, at-one, one-at, at-first, at-second, at-both, at-four, four-at, bytes-both, bytes-one, bytes-four}
-use Rattle.block.specs.Standing.{flag-kept, flag-read, flag-right, flag-byte}
+use Rattle.codec.specs.Standing.{At, at-one, one-at, at-first, at-second, at-both, at-four, four-at, bytes-both, bytes-one, bytes-four}
+use Rattle.codec.specs.Standing.{flag-kept, flag-read, flag-right, flag-byte}
 
 pub record Codec (X : Type 0) : Type 1 where
   -- how many bytes a value has, which they are, and which value bytes from a place are read as
