@@ -109,6 +109,20 @@ static void not_ready(void) {
     DOES(frame(4, 33), FRAME(4, 33));
 }
 
+/* While a frame is held back, the next one that leaves one place free is passed: there is no second 5,66. */
+static void held_once(void) {
+    begin(2, 2);
+    on_loop(LISTEN_ON_LOOP);
+    on_loop(15);
+    GIVES(frame(0, 65), FRAME(5, 66));
+    on_bus(TALK_ON_BUS);
+    GIVES(fetch(), BYTE(65));
+    DUE_HELD(TO_BUS, 1, 1), DUE_NEWS(TO_BUS, 1), cell_to_bus(1, 66);
+    DOES(frame(0, 66), FRAME(0, 66));
+    DUE(HOLDING, 0), DUE(HELD_FRAME, 0);
+    DOES(frame(5, 66), FRAME(0, 65));
+}
+
 /* A command forgets the held frame, never its byte. 15 enables anew where we are listener; every other command ends it. */
 static void not_ready_ends(void) {
     for (uint32_t d = 0; d < 256; d++) {
@@ -198,6 +212,7 @@ int main(void) {
     roles();
     listening();
     not_ready();
+    held_once();
     not_ready_ends();
     clears();
     interface_clear();

@@ -142,6 +142,18 @@ static void status_again(void) {
     GIVES(frame(5, 97), FRAME(1, 65));
 }
 
+/* A status byte that did not show bit 0 does not end it, in no state: here the block is set to one that calls never reach. */
+static void status_not_shown(void) {
+    begin(4, 5);
+    bus_leaves("2");
+    block[RAFTERSHIM_MAILBOX_AT_TO_LOOP_AGAIN] = 0;
+    block[RAFTERSHIM_MAILBOX_AT_LOOP_TALKER] = RAFTERSHIM_TALKER_STATUS;
+    block[RAFTERSHIM_MAILBOX_AT_UNDER_WAY] = 64;
+    keep();
+    DUE_SENDING(1, 0);
+    DOES(frame(0, 64), FRAME(5, 64));
+}
+
 /* Send Device ID, Send Accessory ID: with the service bit while service is requested; nothing waiting is touched */
 static void ids(void) {
     static const uint8_t id[] = "HP82169A\r\n";
@@ -160,6 +172,17 @@ static void ids(void) {
     DOES(frame(5, 99), FRAME(1, 67));
     DUE_SENDING(1, 0);
     DOES(frame(0, 67), FRAME(5, 64));
+    DUE_SENDING(3, 65), DUE(TO_LOOP_REQUEST, 0), DUE(TO_LOOP_AGAIN, 0);
+    DOES(frame(5, 97), FRAME(1, 65));
+    DUE_SENDING(1, 0), DUE(TO_LOOP_AVAILABLE, 0);
+    DOES(frame(0, 65), FRAME(5, 64));
+}
+
+/* An ID is cut short by damage and by 5,66; what waits is sent after it as if nothing had been. */
+static void ids_cut(void) {
+    begin(4, 5);
+    bus_leaves("2");
+    on_loop(TALK_ON_LOOP);
     GIVES(frame(5, 98), FRAME(1, 72));
     GIVES(frame(5, 66), FRAME(5, 66));
     DUE_SENDING(1, 0), DUE(FINISHING, 0);
@@ -192,7 +215,9 @@ int main(void) {
     status();
     status_lost();
     status_again();
+    status_not_shown();
     ids();
+    ids_cut();
     other_ready();
     return ended("the manual");
 }

@@ -97,6 +97,13 @@ def together(room, target):
     room.finds(check, "the headers are not one for each crate", ("include/late.h", "uint64_t raftershim_late(void);\n"))
 
 
+def called(room):
+    """Sees each C test find functions that answer 0, the other tests being empty."""
+    tests = [f"tests/c/{name}" for name in sorted(os.listdir(room.at("tests/c"))) if re.fullmatch(r"calls\.c|mailbox.*\.c", name)]
+    for test in tests:
+        room.finds(CALLS, "differ", *((other, "int main(void) { return 0; }\n") for other in tests if other != test))
+
+
 def run():
     """Plants every fault; how many."""
     with Room("tests/c", "include", "archives") as room:
@@ -108,5 +115,5 @@ def run():
         room.write(f"target/staticlib/lib{LAST}.a", "another")
         room.finds([*CONTENTS, X86], "it is not the kit's")
         made(room, OWN)
-        room.finds(CALLS, "differ")
+        called(room)
         return room.count
