@@ -2,4 +2,5 @@ pub mod Composed
 pub mod FitLaws
 pub mod OrderLaws
 pub mod CommandLaws
+pub mod Clears
 pub mod ReadyLaws
