@@ -31,17 +31,16 @@ fn main() -> Result<(), Refusal> {
 fn leave(mailbox: &mut Small, byte: u8, eoi: bool, heard: &mut String) -> Result<(), Refusal> {
     loop {
         match mailbox.bus_byte(byte, eoi) {
-            Ok(BusByte::Kept) => return Ok(()),
-            Ok(_) => {
-                return Ok(println!(
-                    "the mailbox is not listener: nobody keeps the byte"
-                ))
-            }
             Err(Refusal::BUSY) => {
                 println!("busy at {}, so the loop fetches first", char::from(byte));
                 fetch(mailbox, heard)?;
             }
-            Err(refusal) => return Err(refusal),
+            left => {
+                if left? != BusByte::Kept {
+                    println!("the mailbox is not listener, so nobody keeps the byte");
+                }
+                return Ok(());
+            }
         }
     }
 }
