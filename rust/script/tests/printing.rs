@@ -128,5 +128,5 @@ fn every_script_of_the_folder() {
         round_trip(&script);
         scripts += 1;
     }
-    assert!(scripts > 5, "only {scripts} scripts");
+    assert!(scripts > 12, "only {scripts} scripts");
 }
