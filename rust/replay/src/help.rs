@@ -43,8 +43,8 @@ show bus, or show loop: say the longest unbroken run of bytes that wait there, f
 
 A script that does not start with create or mailbox gets a bridge with stores of 64 bytes and margin 8.
 A store can have at most 1000000 places here. The bridge or the mailbox judges all other values.
-A create or mailbox that is refused as expected leaves what the script made before it, if that is of the same kind.
-After any other refused create or mailbox no line is played until the next.
+A create or mailbox that is refused as expected leaves what the script made before it.
+If that is of the other kind, no line is played until the next create or mailbox, and so it is after any other that is refused.
 A comment starts with # and goes to the end of the line. Empty lines are passed over.
 A line has at most 4096 bytes.
 

@@ -6,7 +6,7 @@ use crate::on_mailbox::{self, Mailbox};
 use crate::say::{self, Said};
 use crate::stop::Stop;
 use raftershim::{Answer, BadSize, Refusal};
-use script::{Call, Expected, MailboxCall, Product, Step, Steps, DEFAULT_MARGIN, DEFAULT_STORE};
+use script::{Call, Expected, MailboxCall, Step, Steps, DEFAULT_MARGIN, DEFAULT_STORE};
 use std::io::{self, BufRead, Write};
 
 /// Plays a whole script. What is said goes to `out`, the counts last.
@@ -155,8 +155,8 @@ impl Player {
     }
 
     /// Puts what was made in the place of what was there. If it is refused, what was there stays if
-    /// the script made it, it is of the same kind, and the script expects the refusal. Else the
-    /// script wanted something else than there is, and plays nowhere until it makes something.
+    /// the script made it and expects the refusal. Else the script wanted something else than there
+    /// is, and plays nowhere until it makes something.
     fn create(&mut self, line: u64, created: Result<Place, BadSize>, step: &Step) -> Said {
         let told = std::mem::replace(&mut self.told, true);
         self.made = line;
@@ -169,19 +169,11 @@ impl Player {
                 let said = Said::refused(Refusal::from(bad), &bad);
                 let expected = step.expected.as_ref();
                 let met = expected.map_or(false, |expected| said.meeting(expected).is_some());
-                if !(told && met && self.is_on(step.call.product())) {
+                if !(told && met) {
                     self.place = Place::Nowhere;
                 }
                 said
             }
-        }
-    }
-
-    /// Whether the script plays on this product.
-    fn is_on(&self, product: Product) -> bool {
-        match product {
-            Product::Bridge => matches!(self.place, Place::Bridge(_)),
-            Product::Mailbox => matches!(self.place, Place::Mailbox(_)),
         }
     }
 

@@ -131,13 +131,17 @@ fn nothing_is_played_after_a_refused_mailbox() {
 }
 
 #[test]
-fn a_refusal_does_not_bring_the_other_product_back() {
+fn a_refusal_leaves_the_other_product_where_no_line_plays_on_it() {
     // The lines after it speak of a mailbox, and a bridge is none.
     let script = "create 4 3 1\nmailbox 0 4 7 => refusal 1\nreset\n";
     let last = "1 line as expected, 0 differ, 1 line not played, first in line 3";
     assert_eq!(ends(script), end(1, last));
     let script = "mailbox 4 4 7\ncreate 3 3 1 => refusal 1\nreset\n";
     assert_eq!(ends(script), end(1, last));
+    // It is still there when the lines speak of it again.
+    let script = "create 4 3 1\nline 7\nmailbox 0 4 7 => refusal 1\ncreate 3 3 1 => refusal 1\n\
+                  show receive => 1 byte: 7\n";
+    assert_eq!(ends(script), end(0, "3 lines as expected, 0 differ"));
     // The bridge that a script gets without a create is not told of, nor is it played on.
     let script = "mailbox 0 4 7 => refusal 1\nfetch\n";
     let last = "1 line as expected, 0 differ, 1 line not played, first in line 2";
