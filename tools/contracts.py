@@ -9,6 +9,7 @@ Usage: python3 tools/contracts.py [LOG]
 - No crate declares an axiom.
 - The layer that carries frames opens no definition of a store, and brings in of it only its declared types, its promises, the definitions
   that its contracts and promises name, and the module that passes the promises' proofs on. No crate below it passes on anything of a store.
+  A store with specs has its promises in specs/Promises.antt; one without specs defines nothing, so there is nothing of it to bring in.
 LOG is what `rt ci` printed. With it, only the crates of `ASSUMED` may rest on axioms, and only on those named there.
 """
 import glob
@@ -104,7 +105,9 @@ def declared(paths):
 
 
 def promised(store):
-    """The definitions that a store's contracts and promises name."""
+    """The definitions that a store's contracts and promises name; none where it has no specs."""
+    if not listing.texts(store, ("specs",)):
+        return set()
     said = re.sub(r"^\s*use [^\n]*|--[^\n]*", "", listing.read(f"crates/{store}/specs/Promises.antt"), flags=re.M)
     for path in listing.texts(store, ("src",)):
         for function in listing.functions(path):
@@ -138,7 +141,7 @@ def frames_apart():
     named, wrong = dict(listing.layers()[0]), []
     frames = named.get("frames", [])
     for store in named.get("store", []):
-        if not os.path.exists(f"crates/{store}/specs/Promises.antt"):
+        if listing.texts(store, ("specs",)) and not os.path.exists(f"crates/{store}/specs/Promises.antt"):
             wrong.append(f"crates/{store}: a store without specs/Promises.antt")
             continue
         allowed = promised(store)

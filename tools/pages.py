@@ -1,8 +1,8 @@
 """The form of documents that are read by ear: headings in order, short lines, a page of contents, entries that lack nothing, spoken signs.
 
 The promises are pages of docs/promises, and docs/PROMISES.md is their page of contents. An entry is a section of such a page: a heading
-with a place and a few words, and under it what states the sentence, what proves it and what runs it. On a page of laws an entry has the
-wrong bridges in the place of what runs it.
+with a place and a few words, and under it what states the sentence, what proves it and what runs it. On a page of laws, of any product, an
+entry has the wrong ones in the place of what runs it.
 """
 import glob
 import os
@@ -10,12 +10,13 @@ import re
 import unicodedata
 
 import listing
+from products import PRODUCTS
 
 CONTENTS = "docs/PROMISES.md"
 FOLDER = "docs/promises"
-LAWS = f"{FOLDER}/laws-"
+LAWS = tuple(f"{product.pages}-" for product in PRODUCTS)
 SIGNS = f"{FOLDER}/signs.md"
-PLAIN = (f"{FOLDER}/laws.md", SIGNS)
+PLAIN = (*(f"{product.pages}.md" for product in PRODUCTS), SIGNS)
 LABELS = ("Stated by", "Proved by", "Run by")
 LAW_LABELS = ("Stated by", "Proved by", "Broken by")
 LONGEST = 300

@@ -32,9 +32,8 @@ class Product(NamedTuple):
         return f"crates/{self.wrong}/proofs"
 
 
+WAYS = {"toBus": "to the bus", "toLoop": "to the loop"}
 PRODUCTS = (
     Product("bridge", "bridges", "laws", "wrong", "Broken", "Event", {}, "docs/promises/laws"),
-    Product(
-        "mailbox", "mailboxes", "maillaws", "mailwrong", "BrokenMail", "Direction", {"toBus": "to the bus", "toLoop": "to the loop"}, "docs/promises/mailbox-laws"
-    ),
+    Product("mailbox", "mailboxes", "maillaws", "mailwrong", "BrokenMail", "Direction", WAYS, "docs/promises/mailbox-laws"),
 )

@@ -51,13 +51,13 @@ def every_function(room):
 
 def layers(room):
     """Crates without a layer, in two, in a wrong one; a new product."""
-    new = [("crates/mailbox/src/lib.rt", "pub fn fetch(x: u8) -> u8\n    requires { ⌜ x < 8 ⌝ }\n    ensures { λ r. ⌜ r ≡ x ⌝ }\n{\n    x\n}\n")]
-    line = ("crates.txt", "bridge: ", "mailbox: branches\nbridge: ")
-    room.finds(TOOL, "mailbox stands in 0 layers", line, *new)
-    room.finds(TOOL, "mailbox has no line of its own", *new)
+    new = [("crates/courier/src/lib.rt", "pub fn fetch(x: u8) -> u8\n    requires { ⌜ x < 8 ⌝ }\n    ensures { λ r. ⌜ r ≡ x ⌝ }\n{\n    x\n}\n")]
+    line = ("crates.txt", "bridge: ", "courier: branches\nbridge: ")
+    room.finds(TOOL, "courier stands in 0 layers", line, *new)
+    room.finds(TOOL, "courier has no line of its own", *new)
     room.finds(TOOL, "laws has no line of its own, or no folder", ("crates.txt", "\nlaws:", "\n# laws:"))
-    text = room.text("crates.txt").replace("\nbridge: ", "\nmailbox: branches\nbridge: ").replace("# layer uses: ", "# layer uses: mailbox ")
-    room.finds(TOOL, "mailbox/src/lib.rt: fetch has a requires", ("crates.txt", text.replace("# products: ", "# products: mailbox ")), *new)
+    text = room.text("crates.txt").replace("\nbridge: ", "\ncourier: branches\nbridge: ").replace("# layer uses: ", "# layer uses: courier ")
+    room.finds(TOOL, "courier/src/lib.rt: fetch has a requires", ("crates.txt", text.replace("# products: ", "# products: courier ")), *new)
     room.finds(TOOL, "role stands in 2 layers", ("crates.txt", "# layer store: ", "# layer store: role "))
     room.finds(TOOL, "the layers are", ("crates.txt", "# layer store: ", "# layer stores: "))
     room.finds(TOOL, "no products", ("crates.txt", "# products: ", "# product: "))
@@ -91,7 +91,8 @@ def stores(room):
     brought = "use Rattle.store.proofs.Promises.{"
     room.finds(TOOL, "Rattle.store.proofs.Laws is no promise of store", (CHAIN, brought, "use Rattle.store.proofs.Laws.{"))
     room.finds(TOOL, "Rattle.store.specs.Ring.Basis is no promise", (CHAIN, brought, "use Rattle.store.specs.Ring.Basis.{held-at}\n" + brought))
-    room.finds(TOOL, "no contract of store names wrap", (CHAIN, "use Rattle.store.specs.Ring.{", "use Rattle.store.specs.Ring.{wrap, "))
+    hidden = ("crates/store/specs/Ring.antt", "\n-- all places", "\npub hidden : ℕ\nhidden = 7\n\n-- all places")
+    room.finds(TOOL, "no contract of store names hidden", hidden, (CHAIN, "use Rattle.store.specs.Ring.{", "use Rattle.store.specs.Ring.{hidden, "))
     room.finds(TOOL, "Rattle.store is named outside", (CHAIN, brought, "use Rattle.store.proofs.Laws as laws\n" + brought))
     room.finds(TOOL, "Rattle.store is named outside", (CHAIN, "\n\n", "\n\nx = Rattle.store.proofs.Laws.held-at\n\n"))
     room.finds(TOOL, "dropRing of store is opened", (CHAIN, "unfolding sendHeld", "unfolding sendHeld dropRing"))
@@ -99,9 +100,17 @@ def stores(room):
     room.finds(TOOL, "dropRing of store is opened", (CHAIN, "unfolding sendHeld", "unfolding store.specs.Ring.dropRing"))
     passed = "use Rattle.store.proofs.Laws.{"
     room.finds(TOOL, "is passed on", ("crates/state/proofs/Fits.antt", passed, "pub " + passed))
+    room.finds(TOOL, "crates/store: a store without specs/Promises.antt", ("crates/store/specs/Promises.antt", None))
 
 
-    room.finds(TOOL, "a store without specs/Promises.antt", ("crates/store/specs/Promises.antt", None))
+def plain_stores(room):
+    """A store without specs of its own: it needs no promises, and nothing of it is brought in or passed on; with one definition it needs them."""
+    room.finds(TOOL, "crates/cells: a store without specs/Promises.antt", ("crates/cells/specs/Extra.antt", "abbrev pub extra : ℕ\nextra = 7\n"))
+    talk, way, first = "crates/mailloop/src/talk.rt", "crates/way/src/lib.rt", "ghost use "
+    proof = "ghost use Rattle.cells.proofs.put.Proof.{proof};\n"
+    room.finds(TOOL, "Rattle.cells.proofs.put.Proof is no promise of cells", (talk, first, proof + first))
+    room.finds(TOOL, "no contract of cells names extra", (talk, first, "ghost use Rattle.cells.specs.Ring.{extra};\n" + first))
+    room.finds(TOOL, "Rattle.cells.proofs.put.Proof.{proof}; is passed on", (way, first, "pub " + proof + first))
 
 
 def logs(room):
@@ -126,6 +135,6 @@ def run():
     parts = glob.glob("crates/*/src", root_dir=ROOT) + [f"crates/{name}/specs" for name in ("store", "sending", "role")]
     with Room("crates.txt", "tools", *parts, *(f"crates/{name}/proofs" for name in ("store", "sending", "state"))) as room:
         room.passes(TOOL, "0 faults")
-        for part in (contracts, every_function, layers, names, stores, logs):
+        for part in (contracts, every_function, layers, names, stores, plain_stores, logs):
             part(room)
         return room.count

@@ -5,7 +5,8 @@ TOOL = ["python3", "tools/documents.py"]
 NOTE = "docs/NOTE.md"
 PROMISES = "docs/PROMISES.md"
 PAGE = "docs/promises/one.md"
-LAWS = "docs/promises/laws-all.md"
+LAWS = ("docs/promises/laws-all.md", "docs/promises/mailbox-laws-all.md")
+PLAIN = ("docs/promises/laws.md", "docs/promises/mailbox-laws.md")
 SIGNS = "docs/promises/signs.md"
 ENTRY = """# One
 
@@ -51,7 +52,15 @@ Broken by, in `crates/one/src/lib.rt`:
 
 - `naysayer`: says no. Proof: `naysayer-falls`.
 """
-CONTENTS = "# Contents\n\n- [One](promises/one.md): 2 entries.\n- [Laws](promises/laws-all.md): 1 entry.\n- [Signs](promises/signs.md): how to read.\n"
+CONTENTS = """# Contents
+
+- [One](promises/one.md): 2 entries.
+- [Laws](promises/laws-all.md): 1 entry.
+- [Laws](promises/mailbox-laws-all.md): 1 entry.
+- [What laws are](promises/laws.md): what a law is.
+- [What laws are](promises/mailbox-laws.md): what a law is.
+- [Signs](promises/signs.md): how to read.
+"""
 
 
 def build(room):
@@ -68,7 +77,10 @@ def build(room):
     room.write(NOTE, "# Note\n\nSee `crates/one/src/lib.rt`.\n")
     room.write(PROMISES, CONTENTS)
     room.write(PAGE, ENTRY)
-    room.write(LAWS, LAW)
+    for path in LAWS:
+        room.write(path, LAW)
+    for path in PLAIN:
+        room.write(path, "# What laws are\n\n## What a law is\n\nA statement.\n")
     room.write(SIGNS, "# Signs\n\n## Plain\n\n| Sign | Name | Read |\n|---|---|---|\n| `ℕ` | double-struck capital N | numbers |\n")
     room.write("docs/CHECKS.md", f"# Checks\n\n{room.run(TOOL + ['--sizes'])[1]}")
 
@@ -88,11 +100,12 @@ def names(room):
     for path in ("README.md", "CONTRIBUTING.md", "CHANGELOG.md"):
         room.finds(TOOL, f"{path}:3: no file docs/NOTE.md", (NOTE, None))
     room.finds(TOOL, "docs/deep/NOTE.md:1: no file docs/GONE.md", ("docs/deep/NOTE.md", "See `docs/GONE.md`.\n"))
-    room.finds(TOOL, "docs/PROMISES.md:6: no eight in", (PROMISES, CONTENTS + "`crates/one/specs/Lib.antt`: `eight`\n"))
+    room.finds(TOOL, "docs/PROMISES.md:9: no eight in", (PROMISES, CONTENTS + "`crates/one/specs/Lib.antt`: `eight`\n"))
     for line, name in ((7, "seven"), (7, "known"), (11, "first"), (15, "calls"), (16, "runs"), (17, "holds")):
         for other in ("gone", "comment", "helps"):
             room.finds(TOOL, f"{PAGE}:{line}: no {other} in", (PAGE, f"`{name}`", f"`{other}`"))
-    room.finds(TOOL, f"{LAWS}:7: no eight in", (LAWS, "`seven`", "`eight`"))
+    for path in LAWS:
+        room.finds(TOOL, f"{path}:7: no eight in", (path, "`seven`", "`eight`"))
 
 
 def headings(room):
@@ -106,7 +119,7 @@ def headings(room):
 
 def lines(room):
     """Lines that are too long to listen to."""
-    for path in (PROMISES, PAGE, LAWS, "CONTRIBUTING.md"):
+    for path in (PROMISES, PAGE, *LAWS, *PLAIN, "CONTRIBUTING.md"):
         room.finds(TOOL, "a line of 301 characters, above 300", (path, room.text(path) + "x" * 301 + "\n"))
 
 
@@ -120,6 +133,9 @@ def contents(room):
     room.finds(TOOL, f"{PAGE} has 2 entries, and not none", (PROMISES, ": 2 entries", ""))
     room.finds(TOOL, f"{PAGE} has 1 entries, and not 2", (PAGE, "## Second", "Second"))
     room.finds(TOOL, "docs/promises/signs.md has no entries, and not 1", (PROMISES, "how to read", "1 entry"))
+    for path in PLAIN:
+        linked = f"({path[len('docs/'):]}): "
+        room.finds(TOOL, f"{path} has no entries, and not 1", (PROMISES, linked + "what a law is", linked + "1 entry"))
     room.finds(TOOL, "docs/promises/new.md stands in it 0 times", ("docs/promises/new.md", ENTRY))
 
 
@@ -135,8 +151,9 @@ def entries(room):
     room.finds(TOOL, "has Proved by, Stated by, Run by", (PAGE, ENTRY.replace("Stated", "Xed").replace("Proved", "Stated").replace("Xed", "Proved")))
     room.finds(TOOL, f"{PAGE}:11: the item begins with no file", (PAGE, "- `crates/one/src/lib.rt`: `first`", "- the function `first`"))
     room.finds(TOOL, f"{PAGE}:11: the item begins with no file", (PAGE, "- `crates/one/src/lib.rt`: `first`", "- `first`"))
-    room.finds(TOOL, "and not Stated by, Proved by, Broken by", (LAWS, "Broken by, in", "Run by, in"))
-    room.finds(TOOL, "nothing, or two things, after 'Broken by'", (LAWS, "- `naysayer`: says no. Proof: `naysayer-falls`.\n", ""))
+    for path in LAWS:
+        room.finds(TOOL, f"{path}:3: '`First`: it is so' has Stated by, Proved by, Run by, and not Stated", (path, "Broken by, in", "Run by, in"))
+        room.finds(TOOL, f"{path}:13: nothing, or two things, after 'Broken by'", (path, "- `naysayer`: says no. Proof: `naysayer-falls`.\n", ""))
 
 
 def signs(room):
