@@ -20,3 +20,5 @@ pub mod Fitted
 pub mod Replied
 -- `HeldBack` has the laws of not ready for data.
 pub mod HeldBack
+-- `RequestWaits` says that a request shows only while something waits.
+pub mod RequestWaits
