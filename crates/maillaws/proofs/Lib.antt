@@ -22,3 +22,7 @@ pub mod Replied
 pub mod HeldBack
 -- `RequestWaits` says that a request shows only while something waits.
 pub mod RequestWaits
+-- `StatusSent` is of the status byte on the loop.
+pub mod StatusSent
+-- `NewsKept` and `NewsRuns` are of the news.
+pub mod NewsKept
