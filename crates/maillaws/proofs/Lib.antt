@@ -20,3 +20,9 @@ pub mod Fitted
 pub mod Replied
 -- `HeldBack` has the laws of not ready for data.
 pub mod HeldBack
+-- `RequestWaits` says that a request shows only while something waits.
+pub mod RequestWaits
+-- `StatusSent` is of the status byte on the loop.
+pub mod StatusSent
+-- `NewsKept` and `NewsRuns` are of the news.
+pub mod NewsKept

@@ -30,7 +30,7 @@ any-length (x ∷ l) = sym (ap not (ne-eqb (length (x ∷ l)) 0 (λ e. omega ari
 pub any-waits : (s : List ℕ) (r : Ring) → Fit s r → any (map counted (held s r)) ≡ not (eqb (r .len) 0)
 any-waits s r F = any-length (held s r) ∙ ap (λ (n : ℕ). not (eqb n 0)) (held-length s r F)
 
-none-waits : (s : List ℕ) (r : Ring) → Fit s r → map counted (held s r) ≡ [] → r .len ≡ 0
+pub none-waits : (s : List ℕ) (r : Ring) → Fit s r → map counted (held s r) ≡ [] → r .len ≡ 0
 none-waits s r F e = go (eqb (r .len) 0) refl
   where
     go : (t : Bool) → eqb (r .len) 0 ≡ t → r .len ≡ 0
