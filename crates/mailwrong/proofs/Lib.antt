@@ -5,3 +5,8 @@ pub mod SpoiltClears
 pub mod SpoiltNews
 pub mod SpoiltRequests
 pub mod SpoiltHolding
+pub mod SpoiltRoles
+pub mod SpoiltBus
+pub mod SpoiltReplies
+pub mod SpoiltRefusals
+pub mod SpoiltStores
