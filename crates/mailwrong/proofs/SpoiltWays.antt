@@ -4,12 +4,13 @@ use native.Mathlib.Omega.{arith}
 use mathlib.Core.Path.{refl}
 use mathlib.Core.List.{[], _∷_}
 use Rattle.frame.specs.Frame.{made}
+use Rattle.store.proofs.Laws.{wrap-high}
 use Rattle.maillaws.specs.Sights.{toBus, toLoop}
 use Rattle.maillaws.specs.WaysKept.{WayKept}
 use Rattle.refuting.proofs.Apart.{lists-differ}
 use Rattle.refuting.proofs.StandsIn.{holds, no-round}
-use Rattle.mailwrong.specs.MailTrials.{cellsFor, waiting, leaver, fetcher, holdingBack, takes, leaves, asks}
-use Rattle.mailwrong.specs.SpoiltWays.{replacesNewest, losesPoint, storesHeldTwice, takesHeldBack, dropsMark, givesAgain, newestFirst}
+use Rattle.mailwrong.specs.MailTrials.{cellsFor, fresh, waiting, leaver, fetcher, oneSent, holdingBack, takes, leaves, asks}
+use Rattle.mailwrong.specs.SpoiltWays.{replacesNewest, losesPoint, keepsForOthers, keepsDamaged, storesHeldTwice, takesHeldBack, dropsMark, givesAgain, newestFirst}
 use Rattle.mailwrong.specs.BrokenMail.{Breaks}
 use Rattle.mailwrong.proofs.MailComputing.{computes}
 
@@ -41,6 +42,19 @@ unfolding computes
 loses-point-to-loop-falls law =
     lists-differ _ _ refl
     (rw (holds (cellsFor toLoop) 0 1 refl) at (law (leaves toLoop 46 ∷ []) (waiting toLoop 1 (leaver toLoop)) tt (omega arith, tt) refl))
+
+-- "9" comes to the empty way of a mailbox that is not listener
+pub keeps-for-others-to-bus-falls : Breaks (keepsForOthers toBus) (WayKept toBus)
+unfolding computes
+keeps-for-others-to-bus-falls law =
+    lists-differ _ _ refl
+    (rw (no-round 2 0 refl, holds (57 ∷ 55 ∷ []) 0 1 refl, holds (cellsFor toBus) 0 0 refl) at (law (leaves toBus 57 ∷ []) fresh tt (tt, tt) refl))
+
+pub keeps-for-others-to-loop-falls : Breaks (keepsForOthers toLoop) (WayKept toLoop)
+unfolding computes
+keeps-for-others-to-loop-falls law =
+    lists-differ _ _ refl
+    (rw (no-round 2 0 refl, holds (57 ∷ 53 ∷ []) 0 1 refl, holds (cellsFor toLoop) 0 0 refl) at (law (leaves toLoop 57 ∷ []) fresh tt (omega arith, tt) refl))
 
 -- 2,49 is held back and released, and "1" waits twice
 pub stores-held-twice-falls : Breaks storesHeldTwice (WayKept toBus)
@@ -99,3 +113,11 @@ newest-first-to-loop-falls law =
     lists-differ _ _ refl
     (rw (holds (cellsFor toLoop) 0 2 refl, no-round 2 1 refl, holds (cellsFor toLoop) 1 1 refl, holds (cellsFor toLoop) 0 1 refl)
     at (law (asks toLoop ∷ []) (waiting toLoop 2 (fetcher toLoop)) tt (tt, tt) refl))
+
+-- 2,50 comes back as 2,51, and "2" waits once more
+pub keeps-damaged-falls : Breaks keepsDamaged (WayKept toLoop)
+unfolding computes
+keeps-damaged-falls law =
+    lists-differ _ _ refl
+    (rw (wrap-high 2 2 (omega arith), holds (cellsFor toLoop) 0 2 refl, holds (cellsFor toLoop) 1 1 refl)
+    at (law (takes 2 51 ∷ []) oneSent tt (tt, tt) refl))

@@ -1,15 +1,16 @@
 -- Mailboxes that lose, repeat, mix or damage what is left in a way.
 use Prim.Native.Nat.{ℕ, _+_, _-_, _%_}
-use mathlib.Core.Bool.{Bool, true, false, cond, _&&_, not}
+use mathlib.Core.Bool.{Bool, true, false, cond, _&&_, _||_, not}
 use mathlib.Core.List.{List, [], _∷_}
 use lib.Dec.{eqb}
-use Rattle.frame.specs.Frame.{controlOf, made}
+use Rattle.frame.specs.Frame.{controlOf, made, isData, sameApart}
 use Rattle.store.specs.declared.Ring.{Ring}
 use Rattle.store.specs.Ring.{wrap, putRing, putBytes}
 use Rattle.answers.specs.Answers.{Said, done, none, byte, frame, refused, part, cell, lines}
 use Rattle.mailloop.specs.Messages.{cellOf}
 use Rattle.mailbox.specs.Calls.{Call, World, world, Did, checks, step}
-use Rattle.maillaws.specs.Sights.{Direction, toBus, toLoop, storeOf, ringOf, newsOf, any, onFrame, onBusByte, left, fetched}
+use Rattle.maillaws.specs.Sights.{Direction, toBus, toLoop, storeOf, ringOf, newsOf, any, onFrame, onBusByte}
+use Rattle.maillaws.specs.Sights.{loopListens, loopActive, busListens, cellFor, fromWay, left, fetched}
 use Rattle.mailwrong.specs.Spoiling.{Sight, insteadAt, leaving, answering, withRing, withNews, withCells}
 
 -- ---- what is left
@@ -58,6 +59,19 @@ losesPoint d = leaving (λ c w v. cond (isPoint (left d c w (step c w .said))) w
 abbrev put : Direction → ℕ → World → World
 put d c w = withRing d (putRing (ringOf d w)) (withCells d (putBytes (storeOf d w) (ringOf d w) c) w)
 
+-- a byte comes that is not for us: the cell that it would be
+abbrev forOthers : Direction → Call → World → List ℕ
+forOthers toBus c w = onFrame (λ f. cond (isData f && not (loopListens w || loopActive w)) (cellOf f ∷ []) []) [] c
+forOthers toLoop c w = onBusByte (λ b mark. cond (busListens w) [] (cellFor b mark ∷ [])) [] c
+
+abbrev putAll : Direction → List ℕ → World → World
+putAll d [] w = w
+putAll d (c ∷ cs) w = put d c w
+
+-- keeps in the way d what is for another listener
+abbrev pub keepsForOthers : Direction → Call → World → Did
+keepsForOthers d = leaving (λ c w v. putAll d (forOthers d c w) v)
+
 -- not ready for data has come round while a frame is held back; a command comes then
 abbrev pub releases : World → Call → Bool
 releases w = onFrame (λ f. w .state .hold .held && eqb f (made 5 66)) false
@@ -97,6 +111,18 @@ dropsMark d = answering (λ c w a. cond (takesFrom d c w a) (unmarked a) a)
 -- hands over what waits in the way d and lets it wait on, so that it comes again
 abbrev pub givesAgain : Direction → Call → World → Did
 givesAgain d = leaving (λ c w v. cond (takesFrom d c w (step c w .said)) (withRing d (ringOf d w) v) v)
+
+-- our data frame comes back changed
+abbrev damaged : World → Call → Bool
+damaged w = onFrame (λ f. (isData f && not (sameApart f (w .state .talker .under .frame))) && (eqb (w .state .talker .role .phase) 2 && fromWay w)) false
+
+-- one cell more, before the oldest
+abbrev putBack : Ring → Ring
+putBack r = record { cap = r .cap; oldest = wrap (r .cap) (r .oldest + (r .cap - 1)); len = r .len + 1 }
+
+-- lets a byte wait once more whose frame came back damaged
+abbrev pub keepsDamaged : Call → World → Did
+keepsDamaged = leaving (λ c w v. cond (damaged w c) (withRing toLoop (putBack (ringOf toLoop v)) v) v)
 
 -- only the newest cell
 abbrev newestOf : Ring → Ring
