@@ -1,5 +1,6 @@
 pub mod MailComputing
 pub mod SpoiltWays
+pub mod SpoiltFetches
 pub mod SpoiltGiving
 pub mod SpoiltClears
 pub mod SpoiltNews

@@ -4,10 +4,10 @@ use mathlib.Core.Bool.{Bool, true, false≢true, true≢false}
 use lib.Dec.{eqb}
 use Rattle.bus.specs.declared.Bus.{Bus}
 use Rattle.mailbox.specs.Calls.{busClear, on}
-use Rattle.maillaws.specs.Sights.{toBus, toLoop}
+use Rattle.maillaws.specs.Sights.{toBus}
 use Rattle.maillaws.specs.StateFits.{KeepsFit}
 use Rattle.maillaws.specs.BusRole.{BusRoleGoes}
-use Rattle.mailwrong.specs.MailTrials.{fresh, leaver, fetcher, serialTalker, commands, asks}
+use Rattle.mailwrong.specs.MailTrials.{fresh, fetcher, serialTalker, commands, asks}
 use Rattle.mailwrong.specs.SpoiltBus.{losesBusAddress, staysAtClear, talksOn, listensWhileTalking, polledOn, forgetsReading, configuredUnasked}
 use Rattle.mailwrong.specs.BrokenMail.{Breaks}
 use Rattle.mailwrong.proofs.MailComputing.{computes}

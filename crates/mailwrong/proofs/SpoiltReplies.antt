@@ -4,7 +4,7 @@ use mathlib.Core.Bool.{false≢true}
 use mathlib.Core.List.{[], _∷_}
 use Rattle.frame.specs.Frame.{made}
 use Rattle.mailbox.specs.Calls.{busLines, show, on}
-use Rattle.maillaws.specs.Sights.{toBus, toLoop}
+use Rattle.maillaws.specs.Sights.{toBus}
 use Rattle.maillaws.specs.Replies.{AnswersSo, OneFrameOut, NarrowAnswers}
 use Rattle.refuting.proofs.StandsIn.{holds}
 use Rattle.mailwrong.specs.Spoiling.{withCells}

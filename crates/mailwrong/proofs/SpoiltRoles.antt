@@ -4,7 +4,7 @@ use mathlib.Core.Bool.{Bool, false≢true, true≢false}
 use lib.Dec.{eqb}
 use Rattle.role.specs.declared.Role.{Role}
 use Rattle.role.specs.Role.{isActive, isUnassigned}
-use Rattle.maillaws.specs.Sights.{toBus, toLoop}
+use Rattle.maillaws.specs.Sights.{toBus}
 use Rattle.maillaws.specs.StateFits.{KeepsFit}
 use Rattle.maillaws.specs.LoopRole.{LoopRoleGoes}
 use Rattle.mailwrong.specs.MailTrials.{fresh, assigned, leaver, oneSent, takes}

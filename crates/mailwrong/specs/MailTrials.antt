@@ -12,7 +12,7 @@ use Rattle.mailstate.specs.State.{withTalker, withHold, withBus}
 use Rattle.mailbox.specs.Calls.{Call, on, loopFrame, busCommand, busByte, busFetch, World, world}
 use Rattle.maillaws.specs.Sights.{Direction, toBus, toLoop}
 use Rattle.refuting.specs.SmallRings.{ring}
-use Rattle.mailwrong.specs.Spoiling.{having, withRing, withNews, withCells, withLoopRole, withBusRole}
+use Rattle.mailwrong.specs.Spoiling.{having, withRing, withNews, withCells, withLoopRole, onBus, asRole}
 
 -- two cells each way: "1" with the end mark and "7", "2" with it and "5"
 abbrev pub cellsFor : Direction → List ℕ
@@ -35,11 +35,11 @@ roleAt a phase listener = record { address = a; phase = phase; listener = listen
 -- listener on the loop, and on the bus: whoever leaves in the way
 abbrev pub leaver : Direction → World
 leaver toBus = started (λ s. withLoopRole (roleAt 3 0 true) s)
-leaver toLoop = started (λ s. withBusRole (roleAt 5 0 true) s)
+leaver toLoop = started (λ s. onBus (asRole (roleAt 5 0 true)) s)
 
 -- addressed talker on the bus, and on the loop: whoever fetches from the way
 abbrev pub fetcher : Direction → World
-fetcher toBus = started (λ s. withBusRole (roleAt 5 1 false) s)
+fetcher toBus = started (λ s. onBus (asRole (roleAt 5 1 false)) s)
 fetcher toLoop = started (λ s. withLoopRole (roleAt 3 1 false) s)
 
 -- the start, neither talker nor listener, with no address on the loop; and with the address 3
@@ -88,7 +88,7 @@ serialTalker read =
 
 -- a listener on the loop that says when it is not ready, and a talker on the bus
 abbrev pub watchful : World
-watchful = having (λ s. withBusRole (roleAt 5 1 false) (withHold s (record { enabled = true; held = false; frame = 0 }))) (leaver toBus)
+watchful = having (λ s. onBus (asRole (roleAt 5 1 false)) (withHold s (record { enabled = true; held = false; frame = 0 }))) (leaver toBus)
 
 -- a listener on the loop whose frame f is held back
 abbrev pub holdingBack : ℕ → World
