@@ -26,3 +26,4 @@ pub mod RequestWaits
 pub mod StatusSent
 -- `NewsKept` and `NewsRuns` are of the news.
 pub mod NewsKept
+pub mod NewsRuns
