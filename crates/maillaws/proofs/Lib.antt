@@ -27,3 +27,4 @@ pub mod StatusSent
 -- `NewsKept` and `NewsRuns` are of the news.
 pub mod NewsKept
 pub mod NewsRuns
+pub mod NewsEnds

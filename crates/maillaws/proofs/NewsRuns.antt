@@ -142,10 +142,10 @@ starts (on (busByte b mark)) w e =
 -- ---- the status byte that is asked for
 
 -- a list of one that a test gives
-same-first : (x y : ℕ) → _≡_ {A = List ℕ} (x ∷ []) (y ∷ []) → x ≡ y
+pub same-first : (x y : ℕ) → _≡_ {A = List ℕ} (x ∷ []) (y ∷ []) → x ≡ y
 same-first x y e = cc
 
-only : (t : Bool) (l : List ℕ) (g : ℕ) → cond t l [] ≡ g ∷ [] → (t ≡ true) × (l ≡ g ∷ [])
+pub only : (t : Bool) (l : List ℕ) (g : ℕ) → cond t l [] ≡ g ∷ [] → (t ≡ true) × (l ≡ g ∷ [])
 only true l g e = (refl, e)
 only false l g e = absurd (false≢true (ap any e))
 
