@@ -8,3 +8,5 @@ pub mod Small
 pub mod FitParts
 pub mod FrameFits
 pub mod Fitted
+-- `LoopRoles` has the law of the role on the loop.
+pub mod LoopRoles
