@@ -8,5 +8,6 @@ pub mod Small
 pub mod FitParts
 pub mod FrameFits
 pub mod Fitted
--- `LoopRoles` has the law of the role on the loop.
+-- `LoopRoles` has the law of the role on the loop, and `BusRoles` that of the side of the bus.
 pub mod LoopRoles
+pub mod BusRoles
