@@ -11,9 +11,9 @@ use Rattle.branches.proofs.Branches.{by-cond, cond-true, cond-false, and-left, 
 use Rattle.machine.specs.Machine.{Obeys, seen}
 use Rattle.frame.specs.Frame.{made, isData, withService, sameApart}
 use Rattle.answers.specs.declared.Answer.the-variants.{Frame}
-use Rattle.answers.specs.Refusals.{firstRefusal}
 use Rattle.answers.specs.Answers.{said, none, frame}
 use Rattle.role.specs.ReadyFrames.{readyOf}
+use Rattle.talker.specs.declared.Talker.{Talker}
 use Rattle.talker.specs.Returning.{returnOf}
 use Rattle.store.specs.declared.Ring.{Ring}
 use Rattle.store.specs.Ring.{Fit, held, dropRing}
@@ -30,9 +30,10 @@ use Rattle.mailstate.proofs.Fits.{tobus-fits, toloop-fits}
 use Rattle.mailloop.specs.Sends.{marked, frameOf, serviced, ended, sends, sendWaiting, sendNext}
 use Rattle.mailloop.specs.Messages.{readied, ready, judged, dataTaken, frameTaken}
 use Rattle.mailbox.specs.BusSide as bus-side
-use Rattle.mailbox.specs.Calls.{loopFrame, busFetch, Call, on, World, Did, checks, outcome, tobusAfter, toloopAfter, notRefused, step}
+use Rattle.mailbox.specs.Calls.{loopFrame, busFetch, Call, on, World, Did, outcome, tobusAfter, toloopAfter, notRefused, step}
 use Rattle.maillaws.specs.Mailboxes.{mailbox}
 use Rattle.maillaws.specs.Sights.{toLoop, counted, waits, taken, dataCell, cellSaid, loopActive, loopAddressed, fromWay, fetched}
+use Rattle.maillaws.specs.StateFits.{Fits}
 use Rattle.maillaws.specs.Giving.{firstOf, restOf, asksLoop, GivesFirst, LoopGiven, BusRight, BusGiven}
 use Rattle.maillaws.proofs.Refusal.{by-refusal, fitting}
 
@@ -83,7 +84,8 @@ module _ (s : State) (c : ℕ) where
   sent-cell =
       by-cond (λ (k : ℕ). Seen (serviced s (made k (c % 256)))) (marked c) 2 0
       (λ e. let m = eqb-true (c / 256 % 2) 1 e in
-      by-cond Seen (s .toloop .news .request) _ _ (λ _. seen-end _ (omega arith) (omega arith) (omega arith)) (λ _. seen-end _ (omega arith) (omega arith) (omega arith)))
+      by-cond Seen (s .toloop .news .request) _ _ (λ _. seen-end _ (omega arith) (omega arith) (omega arith))
+      (λ _. seen-end _ (omega arith) (omega arith) (omega arith)))
       (λ e. let m = eqb-false (c / 256 % 2) 1 e in
       by-cond Seen (s .toloop .news .request) _ _ (λ _. seen-plain _ (omega arith) (omega arith)) (λ _. seen-plain _ (omega arith) (omega arith)))
 
@@ -99,58 +101,66 @@ module _ (s : State) (cells : List ℕ) where
 
 -- a frame that asks is answered by what waits, and is seen to ask
 module _ (w : World) (f : ℕ) where
+  abbrev t : Talker
+  t = w .state .talker
+
+  -- the two ways of asking
+  abbrev asksFirst : Bool
+  asksFirst = eqb f (made 5 96) && loopAddressed w
+
+  abbrev asksNext : Bool
+  asksNext = (isData f && sameApart f (t .under .frame)) && ((eqb (t .role .phase) 2 && not (t .under .finishing)) && fromWay w)
+
   record Asked : Type 0 where
     sends : frameTaken (w .state) (w .toloop) f ≡ sendWaiting (w .state) (w .toloop)
     seen : (eqb f (made 5 96) || (isData f && (loopActive w && fromWay w))) ≡ true
 
-  by-send-data : (eqb f (made 5 96) && loopAddressed w) ≡ true → Asked
+  first-asked : asksFirst ≡ true → Asked
   unfolding frameTaken ready readied readyOf
-  by-send-data h =
+  first-asked h =
       let a = and-right (eqb f (made 5 96)) _ h in
       record { sends = rw (eqb-true f (made 5 96) (and-left _ _ h), a); seen = rw (and-left (eqb f (made 5 96)) _ h) }
 
-  by-return : ((isData f && sameApart f (w .state .talker .under .frame))
-      && ((eqb (w .state .talker .role .phase) 2 && not (w .state .talker .under .finishing)) && fromWay w)) ≡ true → Asked
+  next-asked : asksNext ≡ true → Asked
   unfolding frameTaken dataTaken returnOf judged sendNext
-  by-return h =
-      let x = and-eq-true-iff (isData f && sameApart f (w .state .talker .under .frame)) _ .0 h in
+  next-asked h =
+      let x = and-eq-true-iff (isData f && sameApart f (t .under .frame)) _ .0 h in
       let y = and-eq-true-iff (isData f) _ .0 (x .0) in
-      let z = and-eq-true-iff (eqb (w .state .talker .role .phase) 2 && not (w .state .talker .under .finishing)) _ .0 (x .1) in
-      let u = and-eq-true-iff (eqb (w .state .talker .role .phase) 2) _ .0 (z .0) in
-      let two = eqb-true (w .state .talker .role .phase) 2 (u .0) in
-      let active = le-leb 2 (w .state .talker .role .phase) (omega arith) in
+      let z = and-eq-true-iff (eqb (t .role .phase) 2 && not (t .under .finishing)) _ .0 (x .1) in
+      let u = and-eq-true-iff (eqb (t .role .phase) 2) _ .0 (z .0) in
+      let two = eqb-true (t .role .phase) 2 (u .0) in
+      let active = le-leb 2 (t .role .phase) (omega arith) in
       record {
-        sends = rw (y .0, active, y .1, ne-eqb (w .state .talker .role .phase) 3 (λ e. omega arith), not-true (w .state .talker .under .finishing) (u .1), z .1);
+        sends = rw (y .0, active, y .1, ne-eqb (t .role .phase) 3 (λ e. omega arith), not-true (t .under .finishing) (u .1), z .1);
         seen = rw (y .0, active, z .1, or-true);
       }
 
   asked : asksLoop w f ≡ true → Asked
-  asked h = go (eqb f (made 5 96) && loopAddressed w) refl h
+  asked h = go asksFirst refl h
     where
-      go : (t : Bool) → (eqb f (made 5 96) && loopAddressed w) ≡ t →
-          (t || ((isData f && sameApart f (w .state .talker .under .frame))
-          && ((eqb (w .state .talker .role .phase) 2 && not (w .state .talker .under .finishing)) && fromWay w))) ≡ true → Asked
-      go true e _ = by-send-data e
-      go false _ e = by-return e
+      go : (b : Bool) → asksFirst ≡ b → (b || asksNext) ≡ true → Asked
+      go true e _ = first-asked e
+      go false _ e = next-asked e
 
   abbrev LoopRight : Did → Type 0
   LoopRight d =
       GivesFirst toLoop (record { call = on (loopFrame f); before = w; answer = d .said; after = d .world })
       × (waits toLoop w ≡ [] → d .said ≡ frame 5 64)
 
-  loop-done : firstRefusal (checks (on (loopFrame f)) w) ≡ 0 → asksLoop w f ≡ true → LoopRight (notRefused (on (loopFrame f)) w)
+  loop-done : Fits w → asksLoop w f ≡ true → LoopRight (notRefused (on (loopFrame f)) w)
   unfolding notRefused outcome toloopAfter fetched
-  loop-done e h =
+  loop-done F h =
       let a = asked h in
-      let g = subst (LoopGives (w .state) (w .toloop)) (sym (a .sends)) (waiting-given (w .state) (w .toloop) (toloop-fits (w .state) (w .tobus) (w .toloop) (fitting (loopFrame f) w e .0))) in
-      (record { first = cond-true _ _ _ (a .seen) ∙ g .first; rest = g .rest }, g .ends)
+      let g = waiting-given (w .state) (w .toloop) (toloop-fits (w .state) (w .tobus) (w .toloop) F) in
+      let x = subst (LoopGives (w .state) (w .toloop)) (sym (a .sends)) g in
+      (record { first = cond-true _ _ _ (a .seen) ∙ x .first; rest = x .rest }, x .ends)
 
 pub loop-given : Obeys (mailbox step) LoopGiven
 loop-given c w _ f q =
     subst (λ (x : Call). taken (step x w .said) ≡ true → asksLoop w f ≡ true →
     GivesFirst toLoop (seen (mailbox step) x w) × (waits toLoop w ≡ [] → step x w .said ≡ frame 5 64)) (sym q)
     (by-refusal (λ (d : Did). taken (d .said) ≡ true → asksLoop w f ≡ true → LoopRight w f d) (on (loopFrame f)) w
-    (λ e _ h. loop-done w f e h) (λ _ h. absurd (false≢true h)))
+    (λ e _. loop-done w f (fitting (loopFrame f) w e .0)) (λ _ h. absurd (false≢true h)))
 
 -- ---- the bus
 
@@ -188,14 +198,14 @@ module _ (w : World) where
   abbrev RightFetch : Did → Type 0
   RightFetch d = BusRight (record { call = on busFetch; before = w; answer = d .said; after = d .world })
 
-  bus-done : firstRefusal (checks (on busFetch) w) ≡ 0 → RightFetch (notRefused (on busFetch) w)
+  bus-done : Fits w → RightFetch (notRefused (on busFetch) w)
   unfolding notRefused outcome tobusAfter fetched bus-side.busFetch bus-side.given bus-side.statusGiven newsByte said
-  bus-done e =
+  bus-done F =
       record {
         waiting = λ t n.
             let k : fetchOf (w .state .bus) ≡ Data = rw (fetch-talks (w .state .bus) t, n) in
             let g = subst (λ (x : Fetch). BusGives (w .state) (w .tobus) (bus-side.given (w .state) (w .tobus) x)) (sym k)
-            (data-given (w .state) (w .tobus) (tobus-fits (w .state) (w .tobus) (w .toloop) (fitting busFetch w e .0))) in
+            (data-given (w .state) (w .tobus) (tobus-fits (w .state) (w .tobus) (w .toloop) F)) in
             (record { first = cond-false _ _ _ n ∙ g .first; rest = g .rest }, g .ends);
         status = λ t n r. rw (fetch-talks (w .state .bus) t, n, r);
         once = λ t n r. rw (fetch-talks (w .state .bus) t, n, r);
@@ -206,4 +216,4 @@ module _ (w : World) where
 pub bus-given : Obeys (mailbox step) BusGiven
 bus-given c w _ q =
     subst (λ (x : Call). taken (step x w .said) ≡ true → BusRight (seen (mailbox step) x w)) (sym q)
-    (by-refusal (λ (d : Did). taken (d .said) ≡ true → RightFetch w d) (on busFetch) w (λ e _. bus-done w e) (λ _ h. absurd (false≢true h)))
+    (by-refusal (λ (d : Did). taken (d .said) ≡ true → RightFetch w d) (on busFetch) w (λ e _. bus-done w (fitting busFetch w e .0)) (λ _ h. absurd (false≢true h)))
