@@ -216,4 +216,5 @@ module _ (w : World) where
 pub bus-given : Obeys (mailbox step) BusGiven
 bus-given c w _ q =
     subst (λ (x : Call). taken (step x w .said) ≡ true → BusRight (seen (mailbox step) x w)) (sym q)
-    (by-refusal (λ (d : Did). taken (d .said) ≡ true → RightFetch w d) (on busFetch) w (λ e _. bus-done w (fitting busFetch w e .0)) (λ _ h. absurd (false≢true h)))
+    (by-refusal (λ (d : Did). taken (d .said) ≡ true → RightFetch w d) (on busFetch) w
+    (λ e _. bus-done w (fitting busFetch w e .0)) (λ _ h. absurd (false≢true h)))

@@ -117,6 +117,7 @@ module _ (r : Role) (d : ℕ) (b : Bool) where
       high : (n : ℕ) → (d ≡ n → ⊥) → asks n ≡ false
       high n h = λ i. ne-eqb d n h i && eqb (r .phase) 1
 
+  -- and 66, whether it releases a frame, makes the one under way the last, or passes
   ready-66 : eqb d 66 ≡ true → readied r d b ≡ r
   unfolding readied
   ready-66 e = let x = eqb-true d 66 e in rw (x, and-false)
