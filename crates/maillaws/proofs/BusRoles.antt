@@ -31,6 +31,7 @@ use Rattle.maillaws.specs.Mailboxes.{mailbox}
 use Rattle.maillaws.specs.Sights.{taken, restarts}
 use Rattle.maillaws.specs.BusRole.{commandedBus, clearedBus, fetchedBus, afterCall, BusRoleGoes}
 use Rattle.maillaws.proofs.Refusal.{by-refusal, command-fitting}
+use Rattle.maillaws.proofs.FrameTests.{either-same}
 use Rattle.maillaws.proofs.FitParts.{BusFits, parts}
 use Rattle.maillaws.proofs.FrameWays.{Way, way}
 use Rattle.maillaws.proofs.FrameWays.{isNext, isNextId, isBack, isLast, isDamaged, isHeld, isHeard, isPassed, isCleared, isObeyed}
@@ -187,7 +188,7 @@ done-goes (on reset) w e q = absurd (true≢false q)
 done-goes (on (loopFrame f)) w e q =
     let o = frameTaken (w .state) (w .toloop) f in
     bus-way (w .state) (w .toloop) f o (way (w .state) (w .toloop) f)
-    ∙ by-cond (λ (b : Bus). w .state .bus ≡ b) (taken (said (o .answer))) _ _ (λ _. refl) (λ _. refl)
+    ∙ sym (either-same (taken (said (o .answer))) (w .state .bus))
 done-goes (on (busCommand c)) w e q =
     let x = command-fitting c w e in
     commanded-right (w .state .bus) c (parts (w .tobus) (w .toloop) (w .state) (x .0) .bus) (ltb-false 127 c (x .1))

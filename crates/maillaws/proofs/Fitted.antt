@@ -157,7 +157,8 @@ create-fits a w e =
     let u = and-eq-true-iff (leb 1 (length (w .tobus))) _ .0 (y .1) in
     let v = and-eq-true-iff (leb 1 (length (w .toloop))) _ .0 (x .1) in
     tested (w .tobus) (w .toloop) _
-    (start-parts a (w .tobus) (w .toloop) (leb-true a 30 (y .0)) (leb-true 1 _ (u .0)) (leb-true _ 32768 (u .1)) (leb-true 1 _ (v .0)) (leb-true _ 32768 (v .1)))
+    (start-parts a (w .tobus) (w .toloop) (leb-true a 30 (y .0)) (leb-true 1 _ (u .0)) (leb-true _ 32768 (u .1))
+    (leb-true 1 _ (v .0)) (leb-true _ 32768 (v .1)))
   where
     obeyed : (t : Bool) → _≡_ {A = ℕ} (cond (not t) 1 0) 0 → t ≡ true
     obeyed true h = refl

@@ -19,7 +19,8 @@ use Rattle.mailstate.specs.declared.Outcome.{Outcome}
 use Rattle.mailstate.specs.State.{withTalker}
 use Rattle.mailloop.specs.Sends.{ended, sends, sendWaiting, sendId, sendAccessory, sendStatus}
 use Rattle.mailloop.specs.Messages.{responseAfter, released, identify, kept}
-use Rattle.maillaws.proofs.FitParts.{Parts, more-fits, fewer-fits, empty-fits, with-tobus, with-toloop, with-talker, with-source, with-hold, with-response}
+use Rattle.maillaws.proofs.FitParts.{Parts, more-fits, fewer-fits, empty-fits}
+use Rattle.maillaws.proofs.FitParts.{with-tobus, with-toloop, with-talker, with-source, with-hold, with-response}
 use Rattle.maillaws.proofs.Small.{news-small, id-small, frame-small}
 use Rattle.maillaws.proofs.FrameWays.{Returning, commandedIn, Way, isNext, isNextId, isBack, isLast, isDamaged, isHeld, isHeard, isPassed}
 use Rattle.maillaws.proofs.FrameWays.{isCleared, isObeyed, isReleased, isAssigned, isSendAsked, isTold, isFinishing, isIdAsked}

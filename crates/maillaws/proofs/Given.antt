@@ -1,16 +1,15 @@
 -- What a side is given when it asks: the oldest that waits for it. Assumes nothing.
-use Prim.Native.Nat.{ℕ, _+_, _/_, _%_, _≤_, _<_}
+use Prim.Native.Nat.{ℕ, _<_}
 use native.Mathlib.Omega.{arith}
 use mathlib.Core.Path.{_≡_, refl, sym, ap, subst, _∙_}
 use mathlib.Core.Bool.{Bool, true, false, cond, _&&_, _||_, not, and-eq-true-iff, or-true, true≢false, false≢true}
 use mathlib.Core.List.{List, [], _∷_, map}
 use lib.Dec.{eqb, leb}
 use lib.ListN.{length, getD, drop}
-use borrow.Author.Tests.{eqb-true, eqb-false, eq-eqb, ne-eqb, le-leb, lt-leb, leb-true, leb-false, lt-ltb, not-true}
+use borrow.Author.Tests.{eqb-true, eqb-false, eq-eqb, ne-eqb, le-leb, leb-true, leb-false, not-true}
 use Rattle.branches.proofs.Branches.{by-cond, cond-true, cond-false, and-left, and-right}
 use Rattle.machine.specs.Machine.{Obeys, seen}
-use Rattle.frame.specs.Frame.{made, isData, withService, sameApart}
-use Rattle.answers.specs.declared.Answer.the-variants.{Frame}
+use Rattle.frame.specs.Frame.{made, isData, sameApart}
 use Rattle.answers.specs.Answers.{said, none, frame}
 use Rattle.role.specs.ReadyFrames.{readyOf}
 use Rattle.talker.specs.declared.Talker.{Talker}
@@ -27,7 +26,7 @@ use Rattle.bus.specs.Bus.{fetchOf}
 use Rattle.mailstate.specs.declared.State.{State}
 use Rattle.mailstate.specs.declared.Outcome.{Outcome}
 use Rattle.mailstate.proofs.Fits.{tobus-fits, toloop-fits}
-use Rattle.mailloop.specs.Sends.{marked, frameOf, serviced, ended, sends, sendWaiting, sendNext}
+use Rattle.mailloop.specs.Sends.{serviced, ended, sends, sendWaiting, sendNext}
 use Rattle.mailloop.specs.Messages.{readied, ready, judged, dataTaken, frameTaken}
 use Rattle.mailbox.specs.BusSide as bus-side
 use Rattle.mailbox.specs.Calls.{loopFrame, busFetch, Call, on, World, Did, outcome, tobusAfter, toloopAfter, notRefused, step}
@@ -36,6 +35,7 @@ use Rattle.maillaws.specs.Sights.{toLoop, counted, waits, taken, dataCel
 use Rattle.maillaws.specs.StateFits.{Fits}
 use Rattle.maillaws.specs.Giving.{firstOf, restOf, asksLoop, GivesFirst, LoopGiven, BusRight, BusGiven}
 use Rattle.maillaws.proofs.Refusal.{by-refusal, fitting}
+use Rattle.maillaws.proofs.FrameTests.{cell-carried}
 
 -- ---- the oldest of what waits
 
@@ -66,38 +66,15 @@ module _ (cells : List ℕ) (r : Ring) (f : Fit cells r) where
 
 -- ---- the loop
 
--- the cell of a frame that is sent
-module _ (s : State) (c : ℕ) where
-  abbrev Seen : ℕ → Type 0
-  Seen x = dataCell (said (Frame x)) ≡ counted c ∷ []
-
-  seen-end : (x : ℕ) → x / 256 < 4 → 2 ≤ x / 256 → x % 256 + 256 ≡ c % 512 → Seen x
-  unfolding said
-  seen-end x h k e = rw (lt-ltb (x / 256) 4 h, le-leb 2 (x / 256) k, e)
-
-  seen-plain : (x : ℕ) → x / 256 < 2 → x % 256 ≡ c % 512 → Seen x
-  unfolding said
-  seen-plain x h e = rw (lt-ltb (x / 256) 4 (omega arith), lt-leb 2 (x / 256) h, e)
-
-  sent-cell : Seen (serviced s (frameOf c))
-  unfolding serviced withService
-  sent-cell =
-      by-cond (λ (k : ℕ). Seen (serviced s (made k (c % 256)))) (marked c) 2 0
-      (λ e. let m = eqb-true (c / 256 % 2) 1 e in
-      by-cond Seen (s .toloop .news .request) _ _ (λ _. seen-end _ (omega arith) (omega arith) (omega arith))
-      (λ _. seen-end _ (omega arith) (omega arith) (omega arith)))
-      (λ e. let m = eqb-false (c / 256 % 2) 1 e in
-      by-cond Seen (s .toloop .news .request) _ _ (λ _. seen-plain _ (omega arith) (omega arith)) (λ _. seen-plain _ (omega arith) (omega arith)))
-
 module _ (s : State) (cells : List ℕ) where
   abbrev LoopGives : Outcome → Type 0
   LoopGives o = Gives (held cells (s .toloop .ring)) (dataCell (said (o .answer))) (held cells (o .state .toloop .ring)) (said (o .answer) ≡ frame 5 64)
 
   waiting-given : Fit cells (s .toloop .ring) → LoopGives (sendWaiting s cells)
-  unfolding sendWaiting sends ended said way.fetched
+  unfolding sendWaiting sends ended serviced said way.fetched
   waiting-given f =
       by-cond LoopGives (eqb (s .toloop .ring .len) 0) _ _ (λ e. none-given cells (s .toloop .ring) f _ e refl)
-      (λ e. some-given cells (s .toloop .ring) f _ _ e (sent-cell s (getD (held cells (s .toloop .ring)) 0 0)))
+      (λ e. some-given cells (s .toloop .ring) f _ _ e (cell-carried (s .toloop .news .request) (getD (held cells (s .toloop .ring)) 0 0) _ refl))
 
 -- a frame that asks is answered by what waits, and is seen to ask
 module _ (w : World) (f : ℕ) where

@@ -1,9 +1,10 @@
--- What is sent is bytes and data frames. Assumes nothing.
-use Prim.Native.Nat.{ℕ, zero, suc, _/_, _%_, _<_}
+-- What is sent is bytes and data frames, and the answer to a poll is a byte. Assumes nothing.
+use Prim.Native.Nat.{ℕ, zero, suc, _/_, _%_, _^_, _<_}
 use native.Mathlib.Omega.{arith}
-use mathlib.Core.Path.{_≡_, refl}
+use mathlib.Core.Path.{_≡_, refl, subst}
 use mathlib.Core.Bool.{Bool, true, _&&_}
 use mathlib.Core.List.{List, [], _∷_}
+use lib.Bits.{or-lt}
 use lib.Dec.{eqb, ltb}
 use lib.ListN.{getD}
 use borrow.Author.Tests.{ltb-true}
@@ -11,6 +12,9 @@ use Rattle.branches.proofs.Branches.{and-left, and-right, by-cond}
 use Rattle.frame.specs.Frame.{made}
 use Rattle.news.specs.declared.News.{News}
 use Rattle.news.specs.News.{newsByte}
+use Rattle.polls.specs.declared.Response.{Response}
+use Rattle.polls.specs.Polls.{answers, answerBits, joined}
+use Rattle.polls.proofs.Bits.{weight-small, joined-met}
 use Rattle.mailloop.specs.Sends.{frameOf, deviceId, idByte}
 
 pub news-small : (n : News) → newsByte n < 256
@@ -35,3 +39,11 @@ id-small n = at-small deviceId n refl
 
 pub frame-small : (c : ℕ) → frameOf c < 1024
 frame-small c = by-cond (λ (k : ℕ). made k (c % 256) < 1024) (eqb (c / 256 % 2) 1) 2 0 (λ _. omega arith) (λ _. omega arith)
+
+-- the bit of a line, and a byte joined with it
+pub bits-small : (p : Response) (requested : Bool) → p .line < 8 → answerBits p requested < 256
+unfolding answerBits
+bits-small p requested h = by-cond (λ (n : ℕ). n < 256) (answers p requested) (2 ^ p .line) 0 (λ _. weight-small (p .line) h) (λ _. omega arith)
+
+pub joined-small : (p : Response) (requested : Bool) (d : ℕ) → p .line < 8 → d < 256 → joined p requested d < 256
+joined-small p requested d h k = subst (λ (n : ℕ). n < 256) (joined-met p requested d) (or-lt 8 d (answerBits p requested) k (bits-small p requested h))
