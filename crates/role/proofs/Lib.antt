@@ -4,3 +4,4 @@ pub mod OrderLaws
 pub mod CommandLaws
 pub mod Clears
 pub mod ReadyLaws
+pub mod ByNumbers
