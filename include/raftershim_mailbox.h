@@ -145,6 +145,9 @@ uint64_t raftershim_mailbox_loop_frame(uint8_t *block, uint64_t block_len, uint1
 
 /*
  * Takes a command byte from the bus, which is one that comes with ATN. Neither store is written. Answers done.
+ * 32 and 64 plus our address make us listener and talker, another talk address and 95 end talker, 63 ends listener. 20, and 4 to a listener,
+ * clear the way to the loop. 24 and 25 begin and end serial poll mode. 5 to a listener, then 96 to 111 or 112 to 127, sets or ends the
+ * answer to a parallel poll, and 21 ends it too. Every other command does nothing.
  * Refusal 2: the block is not a state that fits the stores. Refusal 13: the command is above 127.
  */
 uint64_t raftershim_mailbox_bus_command(uint8_t *block, uint64_t block_len, const uint16_t *to_bus, uint64_t to_bus_len,

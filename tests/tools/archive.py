@@ -10,7 +10,7 @@ CALLS = ["sh", "tests/c/run.sh"]
 KEPT = "__attribute__((used)) static"
 OWN = f"{platform.machine()}-unknown-linux-gnu"
 X86 = "x86_64-unknown-linux-gnu"
-LAST = "zulu"
+MORE = "more"
 
 # What clang is told for each target; none needs a header or a library.
 TARGETS = {
@@ -42,23 +42,23 @@ FLOATS = {X86: (FLOAT, DOUBLE, LONG_DOUBLE), "aarch64-unknown-linux-gnu": (FLOAT
 
 
 def furnished(room):
-    """Puts a crate more into the list of the room, with a header of one function; most faults are planted in its object, the last."""
-    room.write("archives/crates", room.text("archives/crates") + f"{LAST} include/{LAST}.h\n")
-    room.write(f"include/{LAST}.h", f"uint64_t raftershim_{LAST}(void);\n")
+    """Puts a crate more before the others in the list of the room, with a header of one function; most faults are planted in its object."""
+    room.write("archives/crates", f"{MORE} include/{MORE}.h\n" + room.text("archives/crates"))
+    room.write(f"include/{MORE}.h", f"uint64_t raftershim_{MORE}(void);\n")
     room.run(["sh", "-c", ". archives/tools.sh; need clang clang; need llvm llvm-ar"])
 
 
 def made(room, target, more="", left_out="", objects="*.o"):
-    """Makes an archive with an object of each crate, of functions of the header's names that answer 0, but for one left out; the last has more code."""
-    folder, words = f"target/staticlib/{target}", f"{TARGETS[target]} -ffreestanding -O1"
-    os.makedirs(room.at(folder), exist_ok=True)
-    commands = [f"rm -f {folder}/*.a target/staticlib/*.a *.o"]
+    """Makes an archive with an object of each crate, of functions of the header's names that answer 0, but for one left out, and of more code."""
+    folder, commands = f"target/staticlib/{target}", []
     for crate, header in re.findall(r"^(\w+) (.*)$", room.text("archives/crates"), re.M):
         names = sorted(set(re.findall(r"^uint64_t (raftershim_\w+)\(", room.text(header), re.M)) - {left_out})
-        code = "".join(f"long {name}(void) {{ return 0; }}\n" for name in names)
-        room.write(f"{crate}.c", code + (more if crate == LAST else ""))
-        commands.append(f"clang {words} -c {crate}.c; llvm-ar rcs target/staticlib/lib{crate}.a {crate}.o")
-    status, printed = room.run(["sh", "-c", "\n".join(["set -e", *commands, f"llvm-ar rcs {folder}/libraftershim.a {objects}"])])
+        code = "".join(f"long {name}(void) {{ return 0; }}\n" for name in names) + (more if crate == MORE else "")
+        if room.text(f"{folder}/{crate}.c") != code:
+            room.write(f"{folder}/{crate}.c", code)
+            commands.append(f"clang {TARGETS[target]} -ffreestanding -O1 -c {crate}.c")
+        commands.append(f"rm -f ../lib{crate}.a; llvm-ar rcs ../lib{crate}.a {crate}.o")
+    status, printed = room.run(["sh", "-c", "\n".join([f"set -e; cd {folder}; rm -f *.a", *commands, f"llvm-ar rcs libraftershim.a {objects}"])])
     if status:
         raise Missed(f"no archive could be made:\n{printed}")
 
@@ -74,11 +74,11 @@ def planted(room, target):
     """Plants every fault of an object for a target."""
     check = [*CONTENTS, target]
     made(room, target)
-    room.passes(check, f"{target}, {LAST}.o: 1 functions")
+    room.passes(check, f"{target}, {MORE}.o: 1 functions")
     for more, said in faults(target):
         made(room, target, more)
         room.finds(check, said)
-    for left_out in ("raftershim_reset", f"raftershim_{LAST}"):
+    for left_out in ("raftershim_reset", f"raftershim_{MORE}"):
         made(room, target, left_out=left_out)
         room.finds(check, DIFFERS)
 
@@ -90,7 +90,7 @@ def together(room, target):
     room.passes(check, "asks for memcpy")
     made(room, target, KEPT + ' void x(void) { __asm__(".inst 0xffffffff"); }\n')
     room.finds(check, "has code that cannot be read")
-    for objects in (f"{LAST}.o", f"*.o {LAST}.c"):
+    for objects in (f"{MORE}.o", f"*.o {MORE}.c"):
         made(room, target, objects=objects)
         room.finds(check, "has not one object for each crate")
     made(room, target)
@@ -112,7 +112,7 @@ def run():
             planted(room, target)
         together(room, "aarch64-unknown-linux-gnu")
         made(room, X86)
-        room.write(f"target/staticlib/lib{LAST}.a", "another")
+        room.write(f"target/staticlib/lib{MORE}.a", "another")
         room.finds([*CONTENTS, X86], "it is not the kit's")
         made(room, OWN)
         called(room)

@@ -62,7 +62,7 @@ module _ (s : State) (m n : ℕ) (e : fits s m n ≡ true) where
   source-small : s .source ≤ 10
   source-small = leb-true (s .source) 10 (and-right (talker-fit.fitTest (s .talker)) (leb (s .source) 10) talking)
 
-  held-small : s .hold .frame < 1024
+  pub held-small : s .hold .frame < 1024
   held-small =
       ltb-true (s .hold .frame) 1024
       (and-right (talker-fit.fitTest (s .talker) && leb (s .source) 10) (ltb (s .hold .frame) 1024)

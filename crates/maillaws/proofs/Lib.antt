@@ -9,6 +9,10 @@ pub mod LoopMoves
 pub mod EveryMove
 pub mod Ways
 pub mod Requests
+-- `LoopRoles` has the law of the role on the loop, `BusRoles` that of the side of the bus, and `Given` what a side is given when it asks.
+pub mod LoopRoles
+pub mod BusRoles
+pub mod Given
 -- `Fetching` is the view of a fetch, `Small` says that what is sent is bytes and data frames, `FitParts` takes fitting apart, `FrameFits` is of
 -- loop frames; `Fitted` has the laws.
 pub mod Fetching
@@ -26,3 +30,5 @@ pub mod RequestWaits
 pub mod StatusSent
 -- `NewsKept` and `NewsRuns` are of the news.
 pub mod NewsKept
+pub mod NewsRuns
+pub mod NewsEnds

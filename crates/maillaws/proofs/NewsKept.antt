@@ -56,7 +56,7 @@ pub elsewhere : (l : List ℕ) (s : State) → eqb (s .talker .role .phase) 3 �
 elsewhere l s e f p = absurd (true≢false (sym p ∙ e))
 
 -- a status byte with news shows it
-by-news : (n : News) → n .available ≡ true → showsNews (newsByte n) ≡ true
+pub by-news : (n : News) → n .available ≡ true → showsNews (newsByte n) ≡ true
 unfolding newsByte
 by-news n a = go (n .request)
   where

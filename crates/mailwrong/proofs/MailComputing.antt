@@ -69,8 +69,12 @@ unfolding messages.heard messages.judged messages.dataTaken messages.frameTaken 
 data-open = tt
 
 unfoldable side-open : Unit {0}
-unfolding bus-side.busCommand bus-side.busClear bus-side.busByte bus-side.busCells bus-side.dataGiven bus-side.statusGiven bus-side.given bus-side.busFetch bus-side.busLines
+unfolding bus-side.busCommand bus-side.busClear bus-side.busByte bus-side.busCells bus-side.busLines
 side-open = tt
+
+unfoldable fetch-open : Unit {0}
+unfolding bus-side.dataGiven bus-side.statusGiven bus-side.given bus-side.busFetch
+fetch-open = tt
 
 -- the calls
 unfoldable calls-open : Unit {0}
@@ -87,7 +91,7 @@ unfolding loop-role.commanded loop-role.readied loop-role.returnedTo loop-role.b
 laws-open = tt
 
 unfoldable mailbox-open : Unit {0}
-unfolding roles-open talker-open parts-open bus-open state-open sends-open messages-open data-open side-open calls-open
+unfolding roles-open talker-open parts-open bus-open state-open sends-open messages-open data-open side-open fetch-open calls-open
 mailbox-open = tt
 
 unfoldable pub computes : Unit {0}

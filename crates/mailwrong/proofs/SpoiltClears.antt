@@ -1,5 +1,4 @@
 -- Mailboxes that clear what they should leave, or leave what they should clear, each refuted by one call. Assumes nothing.
-use native.Mathlib.Omega.{arith}
 use mathlib.Core.Path.{refl, ap}
 use mathlib.Core.Bool.{true≢false, false≢true}
 use mathlib.Core.List.{[], _∷_}
@@ -11,8 +10,8 @@ use Rattle.maillaws.specs.Sights.{toBus, toLoop}
 use Rattle.maillaws.specs.WaysKept.{WayKept, WaySince}
 use Rattle.maillaws.specs.WaysCleared.{ClearsWay, OtherStays}
 use Rattle.refuting.proofs.Apart.{lists-differ}
-use Rattle.refuting.proofs.StandsIn.{holds, no-round}
-use Rattle.mailwrong.specs.MailTrials.{cellsFor, waiting, full, requested, takes, commands, clears}
+use Rattle.refuting.proofs.StandsIn.{holds}
+use Rattle.mailwrong.specs.MailTrials.{cellsFor, full, requested, takes, commands, clears}
 use Rattle.mailwrong.specs.SpoiltClears.{clearLeaves, restartLeaves, clearLeavesRequest, clearsBoth, clearHushes, interfaceClearEmpties, clearsForOthers}
 use Rattle.mailwrong.specs.BrokenMail.{Breaks}
 use Rattle.mailwrong.proofs.MailComputing.{computes}

@@ -9,7 +9,7 @@ use Rattle.maillaws.specs.Giving.{LoopGiven, BusGiven}
 use Rattle.refuting.proofs.Apart.{lists-differ, answers-differ}
 use Rattle.refuting.proofs.StandsIn.{holds, no-round}
 use Rattle.mailwrong.specs.MailTrials.{cellsFor, started, waiting, fetcher, oneSent, serialTalker, takes, asks}
-use Rattle.mailwrong.specs.SpoiltWays.{dropsMark, newestFirst}
+use Rattle.mailwrong.specs.SpoiltFetches.{dropsMark, newestFirst}
 use Rattle.mailwrong.specs.SpoiltGiving.{fetchesNothing, endsAtMark, givesOwn, dataInSerialPoll, statusOften, givesUnasked}
 use Rattle.mailwrong.specs.BrokenMail.{Breaks}
 use Rattle.mailwrong.proofs.MailComputing.{computes}

@@ -49,12 +49,16 @@ holds-late-falls law =
 pub never-releases-falls : Breaks neverReleases Released
 unfolding computes
 never-releases-falls law =
-    answers-differ _ _ refl (rw (no-round 2 0 refl) at (law (takes 2 57) [] (takes 5 66) watchful tt tt tt (made 2 57) refl refl refl refl refl refl (rw (no-round 2 0 refl))))
+    answers-differ _ _ refl
+    (rw (no-round 2 0 refl)
+    at (law (takes 2 57) [] (takes 5 66) watchful tt tt tt (made 2 57) refl refl refl refl refl refl (rw (no-round 2 0 refl))))
 
 pub releases-unmarked-falls : Breaks releasesUnmarked Released
 unfolding computes
 releases-unmarked-falls law =
-    answers-differ _ _ refl (rw (no-round 2 0 refl) at (law (takes 2 57) [] (takes 5 66) watchful tt tt tt (made 2 57) refl refl refl refl refl refl (rw (no-round 2 0 refl))))
+    answers-differ _ _ refl
+    (rw (no-round 2 0 refl)
+    at (law (takes 2 57) [] (takes 5 66) watchful tt tt tt (made 2 57) refl refl refl refl refl refl (rw (no-round 2 0 refl))))
 
 -- 2,57 is held back, 0,58 comes and passes, and it is 0,58 that goes on
 pub releases-another-falls : Breaks releasesAnother Released

@@ -21,7 +21,8 @@ use Rattle.refuting.proofs.StandsIn.{holds, no-round}
 use Rattle.refuting.proofs.ByTurns.{in-between}
 use Rattle.mailwrong.specs.MailTrials.{cellsFor, news, reader, nineCame, takes, leaves}
 use Rattle.mailwrong.specs.MailTurns.{mail, answers}
-use Rattle.mailwrong.specs.SpoiltNews.{forgetsAtStatus, forgetsThoughNew, forgetsAtDamage, neverForgets, wantsBitBack, tellsLive, tellsNoRequest, tellsOtherWay}
+use Rattle.mailwrong.specs.SpoiltNews.{forgetsAtStatus, forgetsThoughNew, forgetsAtDamage, neverForgets, wantsBitBack}
+use Rattle.mailwrong.specs.SpoiltNews.{tellsLive, tellsNoRequest, tellsOtherWay}
 use Rattle.mailwrong.specs.BrokenMail.{Breaks}
 use Rattle.mailwrong.proofs.MailComputing.{computes}
 

@@ -1,6 +1,6 @@
 -- Mailboxes whose service requests begin or end wrongly, or show where there is none, each refuted by one call or two. Assumes nothing.
 use mathlib.Core.Path.{refl}
-use mathlib.Core.Bool.{true, false, false≢true, true≢false}
+use mathlib.Core.Bool.{false, false≢true, true≢false}
 use mathlib.Core.List.{[]}
 use Rattle.news.specs.News.{come}
 use Rattle.mailbox.specs.Calls.{on, busLines}

@@ -1,5 +1,4 @@
--- Mailboxes that lose, repeat, mix or damage what is left in a way, each refuted by one call. Assumes nothing.
-use Prim.Native.Nat.{ℕ}
+-- Mailboxes that do not keep what is left in a way, or keep what is not, each refuted by one call. Assumes nothing.
 use native.Mathlib.Omega.{arith}
 use mathlib.Core.Path.{refl}
 use mathlib.Core.List.{[], _∷_}
@@ -8,12 +7,10 @@ use Rattle.maillaws.specs.Sights.{toBus, toLoop}
 use Rattle.maillaws.specs.WaysKept.{WayKept}
 use Rattle.refuting.proofs.Apart.{lists-differ}
 use Rattle.refuting.proofs.StandsIn.{holds, no-round}
-use Rattle.mailwrong.specs.MailTrials.{cellsFor, waiting, leaver, fetcher, holdingBack, takes, leaves, asks}
-use Rattle.mailwrong.specs.SpoiltWays.{replacesNewest, losesPoint, storesHeldTwice, takesHeldBack, dropsMark, givesAgain, newestFirst}
+use Rattle.mailwrong.specs.MailTrials.{cellsFor, fresh, waiting, leaver, holdingBack, takes, leaves}
+use Rattle.mailwrong.specs.SpoiltWays.{replacesNewest, losesPoint, keepsForOthers, storesHeldTwice, takesHeldBack}
 use Rattle.mailwrong.specs.BrokenMail.{Breaks}
 use Rattle.mailwrong.proofs.MailComputing.{computes}
-
--- ---- what is left
 
 -- "9" comes to the full way, and the byte before it is gone
 pub replaces-newest-to-bus-falls : Breaks (replacesNewest toBus) (WayKept toBus)
@@ -42,6 +39,19 @@ loses-point-to-loop-falls law =
     lists-differ _ _ refl
     (rw (holds (cellsFor toLoop) 0 1 refl) at (law (leaves toLoop 46 ∷ []) (waiting toLoop 1 (leaver toLoop)) tt (omega arith, tt) refl))
 
+-- "9" comes to the empty way of a mailbox that is not listener
+pub keeps-for-others-to-bus-falls : Breaks (keepsForOthers toBus) (WayKept toBus)
+unfolding computes
+keeps-for-others-to-bus-falls law =
+    lists-differ _ _ refl
+    (rw (no-round 2 0 refl, holds (57 ∷ 55 ∷ []) 0 1 refl, holds (cellsFor toBus) 0 0 refl) at (law (leaves toBus 57 ∷ []) fresh tt (tt, tt) refl))
+
+pub keeps-for-others-to-loop-falls : Breaks (keepsForOthers toLoop) (WayKept toLoop)
+unfolding computes
+keeps-for-others-to-loop-falls law =
+    lists-differ _ _ refl
+    (rw (no-round 2 0 refl, holds (57 ∷ 53 ∷ []) 0 1 refl, holds (cellsFor toLoop) 0 0 refl) at (law (leaves toLoop 57 ∷ []) fresh tt (omega arith, tt) refl))
+
 -- 2,49 is held back and released, and "1" waits twice
 pub stores-held-twice-falls : Breaks storesHeldTwice (WayKept toBus)
 unfolding computes
@@ -56,46 +66,3 @@ unfolding computes
 takes-held-back-falls law =
     lists-differ _ _ refl
     (rw (holds (cellsFor toBus) 0 0 refl, holds (cellsFor toBus) 0 1 refl) at (law (takes 4 63 ∷ []) (holdingBack (made 2 49)) tt (tt, tt) refl))
-
--- ---- what is fetched
-
-pub drops-mark-to-bus-falls : Breaks (dropsMark toBus) (WayKept toBus)
-unfolding computes
-drops-mark-to-bus-falls law =
-    lists-differ _ _ refl
-    (rw (no-round 2 1 refl, holds (cellsFor toBus) 0 2 refl, holds (cellsFor toBus) 1 1 refl)
-    at (law (asks toBus ∷ []) (waiting toBus 2 (fetcher toBus)) tt (tt, tt) refl))
-
-pub drops-mark-to-loop-falls : Breaks (dropsMark toLoop) (WayKept toLoop)
-unfolding computes
-drops-mark-to-loop-falls law =
-    lists-differ _ _ refl
-    (rw (no-round 2 1 refl, holds (cellsFor toLoop) 0 2 refl, holds (cellsFor toLoop) 1 1 refl)
-    at (law (asks toLoop ∷ []) (waiting toLoop 2 (fetcher toLoop)) tt (tt, tt) refl))
-
--- the first is handed over, and both wait on
-pub gives-again-to-bus-falls : Breaks (givesAgain toBus) (WayKept toBus)
-unfolding computes
-gives-again-to-bus-falls law =
-    lists-differ _ _ refl (rw (holds (cellsFor toBus) 0 2 refl) at (law (asks toBus ∷ []) (waiting toBus 2 (fetcher toBus)) tt (tt, tt) refl))
-
-pub gives-again-to-loop-falls : Breaks (givesAgain toLoop) (WayKept toLoop)
-unfolding computes
-gives-again-to-loop-falls law =
-    lists-differ _ _ refl
-    (rw (holds (cellsFor toLoop) 0 2 refl, holds (cellsFor toLoop) 0 2 refl)
-    at (law (asks toLoop ∷ []) (waiting toLoop 2 (fetcher toLoop)) tt (tt, tt) refl))
-
-pub newest-first-to-bus-falls : Breaks (newestFirst toBus) (WayKept toBus)
-unfolding computes
-newest-first-to-bus-falls law =
-    lists-differ _ _ refl
-    (rw (no-round 2 1 refl, holds (cellsFor toBus) 1 1 refl, holds (cellsFor toBus) 0 1 refl, holds (cellsFor toBus) 0 2 refl)
-    at (law (asks toBus ∷ []) (waiting toBus 2 (fetcher toBus)) tt (tt, tt) refl))
-
-pub newest-first-to-loop-falls : Breaks (newestFirst toLoop) (WayKept toLoop)
-unfolding computes
-newest-first-to-loop-falls law =
-    lists-differ _ _ refl
-    (rw (holds (cellsFor toLoop) 0 2 refl, no-round 2 1 refl, holds (cellsFor toLoop) 1 1 refl, holds (cellsFor toLoop) 0 1 refl)
-    at (law (asks toLoop ∷ []) (waiting toLoop 2 (fetcher toLoop)) tt (tt, tt) refl))

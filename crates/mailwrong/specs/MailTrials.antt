@@ -12,7 +12,7 @@ use Rattle.mailstate.specs.State.{withTalker, withHold, withBus}
 use Rattle.mailbox.specs.Calls.{Call, on, loopFrame, busCommand, busByte, busFetch, World, world}
 use Rattle.maillaws.specs.Sights.{Direction, toBus, toLoop}
 use Rattle.refuting.specs.SmallRings.{ring}
-use Rattle.mailwrong.specs.Spoiling.{having, withRing, withNews, withCells, withLoopRole, withBusRole}
+use Rattle.mailwrong.specs.Spoiling.{having, withRing, withNews, withCells, withLoopRole, onBus, asRole}
 
 -- two cells each way: "1" with the end mark and "7", "2" with it and "5"
 abbrev pub cellsFor : Direction → List ℕ
@@ -27,13 +27,6 @@ started change = world (change (startState 5 2 2)) (cellsFor toBus) (cellsFor to
 abbrev pub waiting : Direction → ℕ → World → World
 waiting d n w = withRing d (ring 2 0 n) w
 
--- both cells wait in both ways; and service is requested for both
-abbrev pub full : World
-full = waiting toBus 2 (waiting toLoop 2 (started (λ s. s)))
-
-abbrev pub requested : World
-requested = withNews toBus come (withNews toLoop come full)
-
 -- ---- roles, at the loop address 3 and the bus address 5
 
 abbrev pub roleAt : ℕ → ℕ → Bool → Role
@@ -42,18 +35,36 @@ roleAt a phase listener = record { address = a; phase = phase; listener = listen
 -- listener on the loop, and on the bus: whoever leaves in the way
 abbrev pub leaver : Direction → World
 leaver toBus = started (λ s. withLoopRole (roleAt 3 0 true) s)
-leaver toLoop = started (λ s. withBusRole (roleAt 5 0 true) s)
+leaver toLoop = started (λ s. onBus (asRole (roleAt 5 0 true)) s)
 
 -- addressed talker on the bus, and on the loop: whoever fetches from the way
 abbrev pub fetcher : Direction → World
-fetcher toBus = started (λ s. withBusRole (roleAt 5 1 false) s)
+fetcher toBus = started (λ s. onBus (asRole (roleAt 5 1 false)) s)
 fetcher toLoop = started (λ s. withLoopRole (roleAt 3 1 false) s)
+
+-- the start, neither talker nor listener, with no address on the loop; and with the address 3
+abbrev pub fresh : World
+fresh = started (λ s. s)
+
+abbrev pub assigned : World
+assigned = started (λ s. withLoopRole (roleAt 3 0 false) s)
+
+-- both cells wait in both ways; and service is requested for both
+abbrev pub full : World
+full = waiting toBus 2 (waiting toLoop 2 fresh)
+
+abbrev pub requested : World
+requested = withNews toBus come (withNews toLoop come full)
+
+-- a third cell is lent for the way to the bus, which the state does not know of
+abbrev pub misfitting : World
+misfitting = withCells toBus (305 ∷ 55 ∷ 0 ∷ []) fresh
 
 -- active with data: the first cell has gone as 2,50, and the second waits
 abbrev pub oneSent : World
 oneSent =
     having (λ s. withTalker s (record { role = roleAt 3 2 false; under = record { frame = made 2 50; finishing = false } }))
-    (withRing toLoop (ring 2 1 1) (started (λ s. s)))
+    (withRing toLoop (ring 2 1 1) fresh)
 
 -- what is told of a way: whether service is requested, whether something came, and whether it came since status was sent
 abbrev pub news : Bool → Bool → Bool → News
@@ -73,11 +84,11 @@ abbrev pub serialTalker : Bool → World
 serialTalker read =
     having
     (λ s. withBus s (record { role = roleAt 5 1 false; serial = true; read = read; configuring = false; polled = false; line = 0 }))
-    (started (λ s. s))
+    fresh
 
 -- a listener on the loop that says when it is not ready, and a talker on the bus
 abbrev pub watchful : World
-watchful = having (λ s. withBusRole (roleAt 5 1 false) (withHold s (record { enabled = true; held = false; frame = 0 }))) (leaver toBus)
+watchful = having (λ s. onBus (asRole (roleAt 5 1 false)) (withHold s (record { enabled = true; held = false; frame = 0 }))) (leaver toBus)
 
 -- a listener on the loop whose frame f is held back
 abbrev pub holdingBack : ℕ → World

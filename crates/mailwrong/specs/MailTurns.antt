@@ -1,5 +1,4 @@
 -- Runs of a mailbox that are written out, call by call.
-use mathlib.Core.List.{List}
 use Rattle.answers.specs.Answers.{Said}
 use Rattle.mailbox.specs.Calls.{Call, World, Did}
 use Rattle.maillaws.specs.Mailboxes.{ByteCall}

@@ -1,6 +1,6 @@
 -- Ways to change one thing of our mailbox and leave the rest as it is.
 use Prim.Native.Nat.{ℕ}
-use mathlib.Core.Bool.{Bool, true, false, cond, _&&_}
+use mathlib.Core.Bool.{Bool, false, cond, _&&_}
 use mathlib.Core.List.{List}
 use lib.Dec.{eqb}
 use Rattle.frame.specs.Frame.{controlOf, dataOf}
@@ -10,7 +10,7 @@ use Rattle.news.specs.declared.News.{News}
 use Rattle.way.specs.declared.Way.{Way}
 use Rattle.bus.specs.declared.Bus.{Bus}
 use Rattle.answers.specs.Refusals.{firstRefusal}
-use Rattle.answers.specs.Answers.{Said, refused, isRefusal}
+use Rattle.answers.specs.Answers.{Said, done, none, byte, frame, refused, part, cell, lines, isRefusal}
 use Rattle.mailstate.specs.declared.State.{State}
 use Rattle.mailstate.specs.State.{withToBus, withToLoop, withTalker, withBus}
 use Rattle.mailbox.specs.Calls.{Call, World, world, Did, checks, notRefused, step}
@@ -88,19 +88,31 @@ withCells toLoop l w = world (w .state) (w .tobus) l
 abbrev pub withLoopRole : Role → State → State
 withLoopRole r s = withTalker s (record { role = r; under = s .talker .under })
 
-abbrev pub withBusRole : Role → State → State
-withBusRole r s =
-    withBus s
-    (record {
-      role = r;
-      serial = s .bus .serial;
-      read = s .bus .read;
-      configuring = s .bus .configuring;
-      polled = s .bus .polled;
-      line = s .bus .line;
-    })
+-- the side to the bus, with one part changed
+abbrev pub onBus : (Bus → Bus) → State → State
+onBus change s = withBus s (change (s .bus))
 
--- ---- calls
+abbrev pub asRole : Role → Bus → Bus
+asRole r b = record { role = r; serial = b .serial; read = b .read; configuring = b .configuring; polled = b .polled; line = b .line }
+
+abbrev pub withSerial : Bool → Bus → Bus
+withSerial x b = record { role = b .role; serial = x; read = b .read; configuring = b .configuring; polled = b .polled; line = b .line }
+
+abbrev pub withRead : Bool → Bus → Bus
+withRead x b = record { role = b .role; serial = b .serial; read = x; configuring = b .configuring; polled = b .polled; line = b .line }
+
+-- ---- calls and answers
 
 abbrev pub isCommand : ℕ → Call → Bool
 isCommand d = onFrame (λ f. eqb (controlOf f) 4 && eqb (dataOf f) d) false
+
+-- the lines, and any other answer
+abbrev pub ofLines : (ℕ → Said) → Said → Said
+ofLines change (lines n) = change n
+ofLines change done = done
+ofLines change none = none
+ofLines change (byte b) = byte b
+ofLines change (frame k d) = frame k d
+ofLines change (refused n) = refused n
+ofLines change (part xs) = part xs
+ofLines change (cell n) = cell n

@@ -1,22 +1,16 @@
 -- Mailboxes whose side to the bus goes wrong: its role and its polls.
 use Prim.Native.Nat.{ℕ, _+_, _%_}
-use mathlib.Core.Bool.{Bool, true, false, cond, _&&_, not}
+use mathlib.Core.Bool.{Bool, true, false, cond, _&&_}
 use lib.Dec.{eqb, leb, ltb}
-use Rattle.role.specs.declared.Role.{Role}
-use Rattle.role.specs.Role.{withAddress, withPhase, withListener}
+use Rattle.role.specs.Role.{withAddress, withPhase}
 use Rattle.bus.specs.declared.Bus.{Bus}
-use Rattle.mailstate.specs.State.{withBus}
 use Rattle.mailbox.specs.Calls.{busClear, Call, World, Did}
 use Rattle.maillaws.specs.Sights.{onBusCommand, onOne}
-use Rattle.mailwrong.specs.Spoiling.{leaving, having}
-use Rattle.mailwrong.specs.SpoiltGiving.{withSerial, withRead}
+use Rattle.mailwrong.specs.Spoiling.{leaving, having, onBus, asRole, withSerial, withRead}
 
 -- ours, with the side to the bus changed by the call and the side before and after it
 abbrev siding : (Call → Bus → Bus → Bus) → Call → World → Did
-siding change = leaving (λ c w v. having (λ s. withBus s (change c (w .state .bus) (s .bus))) v)
-
-abbrev withBusRole : Bus → Role → Bus
-withBusRole b r = record { role = r; serial = b .serial; read = b .read; configuring = b .configuring; polled = b .polled; line = b .line }
+siding change = leaving (λ c w v. having (onBus (change c (w .state .bus))) v)
 
 abbrev isBusCommand : ℕ → Call → Bool
 isBusCommand n = onBusCommand (λ c. eqb c n) false
@@ -25,20 +19,23 @@ isBusCommand n = onBusCommand (λ c. eqb c n) false
 
 -- is at the address 0 of the bus from an interface clear on
 abbrev pub losesBusAddress : Call → World → Did
-losesBusAddress = siding (λ c before after. onOne busClear (withBusRole after (withAddress (after .role) 0)) after c)
+losesBusAddress = siding (λ c before after. onOne busClear (asRole (withAddress (after .role) 0) after) after c)
 
 -- stays talker or listener at an interface clear of the bus
 abbrev pub staysAtClear : Call → World → Did
-staysAtClear = siding (λ c before after. onOne busClear (withBusRole after (before .role)) after c)
+staysAtClear = siding (λ c before after. onOne busClear (asRole (before .role) after) after c)
+
+abbrev talkingAs : Bus → Bus → Bus
+talkingAs before after = asRole (withPhase (after .role) (before .role .phase)) after
 
 -- goes on talking on the bus when the talk address of another comes
 abbrev pub talksOn : Call → World → Did
-talksOn = siding (λ c before after. onBusCommand (λ n. cond (leb 64 n && ltb n 96) (withBusRole after (withPhase (after .role) (before .role .phase))) after) after c)
+talksOn = siding (λ c before after. onBusCommand (λ n. cond (leb 64 n && ltb n 96) (talkingAs before after) after) after c)
 
 -- stays talker on the bus when its listen address comes
 abbrev pub listensWhileTalking : Call → World → Did
 listensWhileTalking =
-    siding (λ c before after. cond (isBusCommand (32 + before .role .address) c) (withBusRole after (withPhase (after .role) (before .role .phase))) after)
+    siding (λ c before after. cond (isBusCommand (32 + before .role .address) c) (talkingAs before after) after)
 
 -- ---- the polls
 

@@ -1,8 +1,6 @@
 -- Mailboxes that clear what they should leave, or leave what they should clear.
-use Prim.Native.Nat.{ℕ}
-use mathlib.Core.Bool.{Bool, true, false, cond, _&&_, _||_, not}
+use mathlib.Core.Bool.{Bool, true, false, _||_}
 use lib.Dec.{eqb}
-use Rattle.news.specs.declared.News.{News}
 use Rattle.news.specs.News.{noNews}
 use Rattle.way.specs.declared.Way.{Way}
 use Rattle.way.specs.Way.{emptyWay}

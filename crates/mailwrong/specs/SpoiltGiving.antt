@@ -1,16 +1,15 @@
 -- Mailboxes that give a side that asks something else than is due.
-use Prim.Native.Nat.{ℕ}
-use mathlib.Core.Bool.{Bool, true, false, cond, _&&_, not}
+use mathlib.Core.Bool.{Bool, false, _&&_, not}
 use Rattle.frame.specs.Frame.{isData, isEnd}
 use Rattle.role.specs.Role.{withPhase}
 use Rattle.bus.specs.declared.Bus.{Bus}
-use Rattle.mailstate.specs.State.{withBus}
 use Rattle.mailbox.specs.Calls.{busFetch, Call, World, world, Did, step}
-use Rattle.mailstate.specs.State.{withToBus, withToLoop}
+use Rattle.mailstate.specs.State.{withToBus, withToLoop, withBus}
 use Rattle.maillaws.specs.Sights.{Direction, toLoop, ringOf, onFrame, onOne, busTalks}
 use Rattle.maillaws.specs.Giving.{asksLoop}
-use Rattle.mailwrong.specs.Spoiling.{instead, insteadAt, having, withRing, withBusRole}
-use Rattle.mailwrong.specs.SpoiltWays.{holding, takesFrom}
+use Rattle.mailwrong.specs.Spoiling.{instead, insteadAt, having, withRing, onBus, asRole, withSerial, withRead}
+use Rattle.mailwrong.specs.SpoiltWays.{holding}
+use Rattle.mailwrong.specs.SpoiltFetches.{takesFrom}
 
 -- it does what it would do if nothing waited in the way, and what waits stays
 abbrev asEmpty : Direction → Call → World → Did
@@ -41,21 +40,11 @@ givesOwn =
 -- it does what it would do with another side to the bus, which then stays as it was
 abbrev asThough : (Bus → Bus) → Call → World → Did
 asThough change c w =
-    let other = step c (having (λ s. withBus s (change (s .bus))) w) in
+    let other = step c (having (onBus change) w) in
     record { said = other .said; world = having (λ s. withBus s (w .state .bus)) (other .world) }
 
 abbrev fetching : (World → Bool) → Call → World → Bool
 fetching test c w = onOne busFetch (test w) false c
-
-abbrev pub withSerial : Bool → Bus → Bus
-withSerial x b = record { role = b .role; serial = x; read = b .read; configuring = b .configuring; polled = b .polled; line = b .line }
-
-abbrev pub withRead : Bool → Bus → Bus
-withRead x b = record { role = b .role; serial = b .serial; read = x; configuring = b .configuring; polled = b .polled; line = b .line }
-
-abbrev asTalker : Bus → Bus
-asTalker b =
-    record { role = withPhase (b .role) 1; serial = b .serial; read = b .read; configuring = b .configuring; polled = b .polled; line = b .line }
 
 -- hands over data in serial poll mode
 abbrev pub dataInSerialPoll : Call → World → Did
@@ -67,4 +56,4 @@ statusOften = instead (fetching (λ w. w .state .bus .read)) (asThough (withRead
 
 -- hands over what waits though it is not talker
 abbrev pub givesUnasked : Call → World → Did
-givesUnasked = instead (fetching (λ w. not (busTalks w))) (asThough asTalker)
+givesUnasked = instead (fetching (λ w. not (busTalks w))) (asThough (λ b. asRole (withPhase (b .role) 1) b))

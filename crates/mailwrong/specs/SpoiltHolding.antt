@@ -2,14 +2,15 @@
 use Prim.Native.Nat.{ℕ, _+_}
 use mathlib.Core.Bool.{Bool, true, false, cond, _&&_, not}
 use lib.Dec.{eqb}
-use Rattle.frame.specs.Frame.{controlOf, dataOf, isData}
+use Rattle.frame.specs.Frame.{isData}
 use Rattle.answers.specs.Answers.{frame}
 use Rattle.mailstate.specs.declared.Hold.{Hold}
 use Rattle.mailstate.specs.State.{withHold}
 use Rattle.mailbox.specs.Calls.{Call, World, Did, step}
 use Rattle.maillaws.specs.Sights.{toBus, ringOf, onFrame, loopListens}
 use Rattle.mailwrong.specs.Spoiling.{instead, answering, having}
-use Rattle.mailwrong.specs.SpoiltWays.{unmarked, releases}
+use Rattle.mailwrong.specs.SpoiltWays.{releases}
+use Rattle.mailwrong.specs.SpoiltFetches.{unmarked}
 
 -- a data frame comes to a listener
 abbrev heard : World → Call → Bool

@@ -1,6 +1,6 @@
 -- Mailboxes that tell the loop wrongly what came, or forget it before it is told.
-use Prim.Native.Nat.{ℕ, _+_, _%_}
-use mathlib.Core.Bool.{Bool, true, false, cond, _&&_, _||_}
+use Prim.Native.Nat.{_+_, _%_}
+use mathlib.Core.Bool.{Bool, true, false, _&&_, _||_}
 use lib.Dec.{eqb}
 use Rattle.frame.specs.Frame.{dataOf, made, isData, hasService, sameApart}
 use Rattle.news.specs.declared.News.{News}

@@ -1,12 +1,12 @@
 -- Mailboxes that refuse what they should take, take what they should refuse, or change something by a refusal.
-use Prim.Native.Nat.{ℕ, _+_, _%_}
-use mathlib.Core.Bool.{Bool, true, false, cond, _&&_, not}
+use Prim.Native.Nat.{_+_, _%_}
+use mathlib.Core.Bool.{true, false, cond, _&&_}
 use lib.Dec.{eqb, ltb}
 use Rattle.frame.specs.Frame.{isData}
 use Rattle.store.specs.Ring.{dropRing}
-use Rattle.answers.specs.Answers.{refused, isRefusal}
+use Rattle.answers.specs.Answers.{refused}
 use Rattle.mailbox.specs.Calls.{busCommand, on, Call, World, Did, step}
-use Rattle.maillaws.specs.Sights.{Direction, toBus, toLoop, ringOf, any, onFrame, onBusByte, onBusCommand, left}
+use Rattle.maillaws.specs.Sights.{Direction, ringOf, any, onFrame, onBusByte, onBusCommand, left}
 use Rattle.mailwrong.specs.Spoiling.{instead, insteadAt, refusing, withRing}
 use Rattle.mailwrong.specs.SpoiltWays.{overflows}
 

@@ -1,16 +1,15 @@
 -- Mailboxes whose answers are of no kind that there is, or of too many bits.
-use Prim.Native.Nat.{ℕ, _+_}
+use Prim.Native.Nat.{_+_}
 use mathlib.Core.Bool.{Bool, true, false, cond, _&&_}
-use mathlib.Core.List.{List}
 use lib.Dec.{eqb, leb}
 use lib.ListN.{getD}
 use Rattle.frame.specs.Frame.{controlOf, isData}
 use Rattle.store.specs.Ring.{held}
-use Rattle.answers.specs.Answers.{Said, done, none, byte, frame, refused, part, cell, lines}
+use Rattle.answers.specs.Answers.{done, none, cell, lines}
 use Rattle.mailbox.specs.Calls.{busFetch, Call, create, show, on, World, Did, misfit}
 use Rattle.maillaws.specs.Sights.{toBus, ringOf, any, cellSaid, onFrame, onOne, loopActive}
-use Rattle.mailwrong.specs.Spoiling.{instead, answering, refusing}
-use Rattle.mailwrong.specs.SpoiltWays.{takesFrom}
+use Rattle.mailwrong.specs.Spoiling.{instead, answering, refusing, ofLines}
+use Rattle.mailwrong.specs.SpoiltFetches.{takesFrom}
 
 -- ---- kinds
 
@@ -41,17 +40,6 @@ takesReturnsOff = answering (λ c w a. onFrame (λ f. cond (isData f && loopActi
 abbrev pub givesHighBits : Call → World → Did
 givesHighBits = answering (λ c w a. cond (takesFrom toBus c w a) (cell (getD (held (w .tobus) (ringOf toBus w)) 0 0)) a)
 
--- the request is one bit higher
-abbrev raised : Said → Said
-raised (lines n) = cond (leb 256 n) (lines (n + 256)) (lines n)
-raised (frame k d) = frame k d
-raised done = done
-raised none = none
-raised (byte b) = byte b
-raised (refused n) = refused n
-raised (part xs) = part xs
-raised (cell n) = cell n
-
 -- shows a service request on the bus as 512 in the place of 256
 abbrev pub requestsAt512 : Call → World → Did
-requestsAt512 = answering (λ c w a. raised a)
+requestsAt512 = answering (λ c w a. ofLines (λ n. cond (leb 256 n) (lines (n + 256)) (lines n)) a)

@@ -1,15 +1,13 @@
 -- Mailboxes whose service requests begin or end wrongly, or show where there is none.
-use Prim.Native.Nat.{ℕ, _+_, _/_, _*_}
-use mathlib.Core.Bool.{Bool, true, false, cond, _||_}
-use mathlib.Core.List.{List}
-use lib.Dec.{leb, ltb}
-use Rattle.news.specs.declared.News.{News}
-use Rattle.answers.specs.Answers.{Said, done, none, byte, frame, refused, part, cell, lines}
+use Prim.Native.Nat.{_+_, _/_, _*_}
+use mathlib.Core.Bool.{Bool, true, cond, _||_}
+use lib.Dec.{leb}
+use Rattle.answers.specs.Answers.{Said, frame, lines}
 use Rattle.mailstate.specs.declared.State.{State}
 use Rattle.mailbox.specs.Calls.{Call, World, Did}
-use Rattle.maillaws.specs.Sights.{Direction, any, left, fetched, told}
+use Rattle.maillaws.specs.Sights.{Direction, ofFrameSaid, any, left, fetched, told}
 use Rattle.maillaws.specs.Requesting.{carriesService}
-use Rattle.mailwrong.specs.Spoiling.{Sight, afterSight, answering, withWay}
+use Rattle.mailwrong.specs.Spoiling.{afterSight, answering, withWay, ofLines}
 use Rattle.mailwrong.specs.SpoiltClears.{wayOf}
 
 -- whether service is requested
@@ -44,14 +42,8 @@ requestsEachByte d = afterSight (λ c w a. any (left d c w a)) (λ before after.
 
 -- the answer with a request in it
 abbrev requesting : Said → Said
-requesting (lines n) = cond (leb 256 n) (lines n) (lines (n + 256))
-requesting (frame k d) = cond (carriesService k) (frame (k / 2 * 2 + 1) d) (frame k d)
-requesting done = done
-requesting none = none
-requesting (byte b) = byte b
-requesting (refused n) = refused n
-requesting (part xs) = part xs
-requesting (cell n) = cell n
+requesting a =
+    ofFrameSaid (λ k d. cond (carriesService k) (frame (k / 2 * 2 + 1) d) (frame k d)) (ofLines (λ n. cond (leb 256 n) (lines n) (lines (n + 256))) a) a
 
 -- shows a service request on both sides, with nothing waiting
 abbrev pub showsAlways : Call → World → Did

@@ -1,12 +1,11 @@
 -- Mailboxes that treat the two stores, or the state that goes with them, wrongly.
-use Prim.Native.Nat.{ℕ, _+_}
-use mathlib.Core.Bool.{Bool, true, false, cond, _||_}
-use mathlib.Core.List.{List, [], _∷_, _++_}
+use Prim.Native.Nat.{_+_}
+use mathlib.Core.Bool.{Bool, true, false, cond}
+use mathlib.Core.List.{[], _∷_, _++_}
 use lib.ListN.{length}
-use Rattle.store.specs.declared.Ring.{Ring}
 use Rattle.store.specs.Ring.{emptyRing}
 use Rattle.mailbox.specs.Calls.{Call, create, show, on, World, Did, notRefused, step}
-use Rattle.maillaws.specs.Sights.{Direction, toBus, toLoop, storeOf, ringOf, clearsBy}
+use Rattle.maillaws.specs.Sights.{Direction, toLoop, storeOf, ringOf, clearsBy}
 use Rattle.mailwrong.specs.Spoiling.{insteadAt, leaving, withRing, withCells}
 use Rattle.mailwrong.specs.SpoiltWays.{overflows, holding}
 
@@ -26,7 +25,9 @@ clearsStoreAway d = leaving (λ c w v. cond (clearsBy d c w (step c w .said)) (w
 
 -- counts a byte for which the way d has no room
 abbrev pub countsOn : Direction → Call → World → Did
-countsOn d = insteadAt (overflows d) (λ c w. let v = notRefused c w in record { said = v .said; world = withRing d (holding (ringOf d w .len + 1) (ringOf d w)) (v .world) })
+countsOn d =
+    insteadAt (overflows d)
+    (λ c w. let v = notRefused c w in record { said = v .said; world = withRing d (holding (ringOf d w .len + 1) (ringOf d w)) (v .world) })
 
 abbrev isCreate : Call → Bool
 isCreate (create a) = true
