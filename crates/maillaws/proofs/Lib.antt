@@ -32,3 +32,5 @@ pub mod StatusSent
 pub mod NewsKept
 pub mod NewsRuns
 pub mod NewsEnds
+-- `Laws` has all of them in one theorem.
+pub mod Laws
