@@ -14,7 +14,7 @@ import pages
 
 CODE = re.compile(r"`([^`]+)`")
 DECLARING = ("crates", "rust", "include", "tests", "tools")
-PLACE = re.compile(r"(crates|rust|include|tests|tools|docs|scripts|\.ci)/")
+PLACE = re.compile(r"(crates|rust|include|tests|tools|docs|scripts|examples|archives|\.ci)/")
 
 
 def code_lines(pattern, comment):

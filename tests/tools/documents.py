@@ -95,7 +95,8 @@ def figures(room):
 
 def names(room):
     """Files that are not there, and names that a file does not declare."""
-    for path in ("crates/one/src/gone.rt", "rust/gone", "include/gone.h", "tests/gone", "tools/gone.py", "docs/GONE.md", "scripts/gone", ".ci/gone"):
+    code = ("crates/one/src/gone.rt", "rust/gone", "include/gone.h", "examples/gone.c")
+    for path in (*code, "tests/gone", "tools/gone.py", "archives/gone.sh", "docs/GONE.md", "scripts/gone", ".ci/gone"):
         room.finds(TOOL, f"docs/NOTE.md:3: no file {path}", (NOTE, f"# Note\n\nSee `{path}`.\n"))
     for path in ("README.md", "CONTRIBUTING.md", "CHANGELOG.md"):
         room.finds(TOOL, f"{path}:3: no file docs/NOTE.md", (NOTE, None))
