@@ -40,12 +40,11 @@ impl Call {
     }
 
     /// The calls on a state that a call of a script stands for: one for each line byte, and none
-    /// for what makes the state and for saying it.
+    /// for what makes the state, for saying it, and for the calls of a mailbox.
     pub fn all_of(call: &script::Call) -> Vec<Call> {
         vec![match *call {
-            script::Call::Create { .. } | script::Call::Restore(_) | script::Call::State => {
-                return Vec::new()
-            }
+            script::Call::Create { .. } | script::Call::Restore(_) => return Vec::new(),
+            script::Call::State | script::Call::Mailbox(_) => return Vec::new(),
             script::Call::Line(ref bytes) => {
                 return bytes.iter().copied().map(Call::Line).collect()
             }

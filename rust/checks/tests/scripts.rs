@@ -14,8 +14,11 @@ fn every_script_of_the_folder() {
         let path = file.expect("a file").path();
         let text = fs::read_to_string(&path).expect("a script");
         let script: Script = text.parse().expect("it has no mistake");
-        calls += play(BOTH, &script).unwrap_or_else(|told| panic!("{}: {told}", path.display()));
-        scripts += 1;
+        let played = play(BOTH, &script);
+        let played = played.unwrap_or_else(|told| panic!("{}: {told}", path.display()));
+        // A script of a mailbox has no call of the bridge.
+        scripts += usize::from(played > 0);
+        calls += played;
     }
     assert!(
         scripts > 5 && calls > 200,
