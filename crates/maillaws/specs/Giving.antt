@@ -10,7 +10,7 @@ use Rattle.frame.specs.Frame.{made, isData, sameApart}
 use Rattle.answers.specs.Answers.{Said, none, frame, cell}
 use Rattle.mailbox.specs.Calls.{loopFrame, busFetch, on, World}
 use Rattle.maillaws.specs.Mailboxes.{Law, Saw}
-use Rattle.maillaws.specs.Sights.{Direction, toBus, toLoop, newsOf, waits, taken, loopAddressed, fromWay, busTalks, left, fetched, clears, told}
+use Rattle.maillaws.specs.Sights.{Direction, toBus, toLoop, newsOf, waits, taken, loopAddressed, fromWay, busTalks, statusOf, fetched}
 
 -- the first of these, if any
 abbrev pub firstOf : List ℕ → List ℕ
@@ -46,7 +46,7 @@ pub record BusRight (s : Saw) : Type 0 where
   pub waiting : busTalks (s .before) ≡ true → s .before .state .bus .serial ≡ false → GivesFirst toBus s × (waits toBus (s .before) ≡ [] → s .answer ≡ none)
   -- HP-IB status byte: in a serial poll a talker gives bits 6 and 0, once, and no data is touched
   pub status : busTalks (s .before) ≡ true → s .before .state .bus .serial ≡ true → s .before .state .bus .read ≡ false →
-      s .answer ≡ cell (cond (newsOf toBus (s .before) .request) (cond (newsOf toBus (s .before) .available) 65 64) (cond (newsOf toBus (s .before) .available) 1 0))
+      s .answer ≡ cell (statusOf (newsOf toBus (s .before)))
   pub once : busTalks (s .before) ≡ true → s .before .state .bus .serial ≡ true → s .before .state .bus .read ≡ true → s .answer ≡ none
   pub kept : s .before .state .bus .serial ≡ true → waits toBus (s .after) ≡ waits toBus (s .before)
   -- and whoever is not talker gives nothing

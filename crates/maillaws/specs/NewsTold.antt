@@ -11,7 +11,7 @@ use Rattle.frame.specs.Frame.{controlOf, made, isData, sameApart}
 use Rattle.answers.specs.Answers.{Said}
 use Rattle.mailbox.specs.Calls.{Call, World, on, loopFrame}
 use Rattle.maillaws.specs.Mailboxes.{Law, Saw}
-use Rattle.maillaws.specs.Sights.{toLoop, newsOf, waits, taken, any, onFrame, loopAddressed, restarts, comes, told}
+use Rattle.maillaws.specs.Sights.{toLoop, newsOf, waits, taken, any, onFrame, loopAddressed, restarts, statusOf, comes, told}
 
 -- HP-IL status byte: bit 0, data available
 abbrev pub showsNews : ℕ → Bool
@@ -56,8 +56,7 @@ NewsEnds =
 -- Send status: an addressed talker that has nothing under way sends the byte of bits 6 and 0 as they were before the call, and the request
 -- ends with it
 pub record StatusRight (s : Saw) : Type 0 where
-  pub byte : of (told toLoop) s ≡ cond (newsOf toLoop (s .before) .request) (cond (newsOf toLoop (s .before) .available) 65 64)
-      (cond (newsOf toLoop (s .before) .available) 1 0) ∷ []
+  pub byte : of (told toLoop) s ≡ statusOf (newsOf toLoop (s .before)) ∷ []
   pub ends : newsOf toLoop (s .after) .request ≡ false
 
 abbrev pub StatusTold : Law

@@ -7,7 +7,8 @@ use lib.Dec.{eqb, ltb}
 use Rattle.machine.specs.Machine.{ofCalls}
 use Rattle.answers.specs.Refusals.{firstRefusal}
 use Rattle.answers.specs.Refusing.{Refuses}
-use Rattle.answers.specs.Answers.{Said, done, none, byte, frame, refused, part, cell, lines, doneOrRefused, cellOrRefused, linesOrRefused, frameOrRefused, isPart}
+use Rattle.answers.specs.Answers.{Said, done, none, byte, frame, refused, part, cell, lines}
+use Rattle.answers.specs.Answers.{doneOrRefused, cellOrRefused, linesOrRefused, frameOrRefused, isPart}
 use Rattle.mailbox.specs.Calls.{OnState, reset, loopFrame, busCommand, busByte, busFetch, busClear, busLines, Call, create, show, on, checks}
 use Rattle.maillaws.specs.Mailboxes.{Law}
 use Rattle.maillaws.specs.Sights.{taken, isFrame}

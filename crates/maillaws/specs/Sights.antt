@@ -8,7 +8,8 @@ use Rattle.store.specs.declared.Ring.{Ring}
 use Rattle.store.specs.Ring.{held}
 use Rattle.news.specs.declared.News.{News}
 use Rattle.answers.specs.Answers.{Said, done, none, byte, frame, refused, part, cell, lines, isRefusal}
-use Rattle.mailbox.specs.Calls.{OnState, reset, loopFrame, busCommand, busByte, busFetch, busClear, busLines, Call, create, show, on, onState, ofFrame, ofBusByte, World}
+use Rattle.mailbox.specs.Calls.{OnState, reset, loopFrame, busCommand, busByte, busFetch, busClear, busLines}
+use Rattle.mailbox.specs.Calls.{Call, create, show, on, onState, ofFrame, ofBusByte, World}
 
 -- ---- the two ways
 
@@ -184,6 +185,10 @@ abbrev pub clears : Direction → Call → World → Said → Bool
 clears d c w a = restarts c a || clearsBy d c w a
 
 -- ---- news
+
+-- the status byte: bit 6 says that service is requested, bit 0 that data is available
+abbrev pub statusOf : News → ℕ
+statusOf n = cond (n .request) (cond (n .available) 65 64) (cond (n .available) 1 0)
 
 -- something comes into an empty way
 abbrev pub comes : Direction → Call → World → Said → Bool

@@ -72,7 +72,8 @@ sendAccessory s = sends s s (made 0 67) 10
 unfoldable pub sendStatus : State → Outcome
 sendStatus s =
     record {
-      state = withTalker (withToLoop s (told (s .toloop) (sentStatus (s .toloop .news)))) (talking (s .talker) activeStatus (made 0 (newsByte (s .toloop .news))));
+      state = withTalker (withToLoop s (told (s .toloop) (sentStatus (s .toloop .news))))
+          (talking (s .talker) activeStatus (made 0 (newsByte (s .toloop .news))));
       answer = Frame (serviced s (made 0 (newsByte (s .toloop .news))));
     }
 
