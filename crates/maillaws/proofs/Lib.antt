@@ -32,5 +32,8 @@ pub mod StatusSent
 pub mod NewsKept
 pub mod NewsRuns
 pub mod NewsEnds
+-- `StartsGiven` is of create and reset, `ShowsGiven` of what a show returns.
+pub mod StartsGiven
+pub mod ShowsGiven
 -- `Laws` has all of them in one theorem.
 pub mod Laws

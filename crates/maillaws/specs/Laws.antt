@@ -12,6 +12,8 @@ use Rattle.maillaws.specs.Giving.{LoopGiven, BusGiven}
 use Rattle.maillaws.specs.NotReady.{HoldsBack, Released}
 use Rattle.maillaws.specs.LoopRole.{LoopRoleGoes}
 use Rattle.maillaws.specs.BusRole.{BusRoleGoes}
+use Rattle.maillaws.specs.MailStarts.{StartsSo, ResetGivesStart}
+use Rattle.maillaws.specs.MailShows.{ShowsSo}
 
 abbrev pub laws : List Law
 laws =
@@ -22,4 +24,5 @@ laws =
     ∷ NewsStays ∷ NewsEnds ∷ StatusTold
     ∷ RequestWaits toBus ∷ RequestWaits toLoop ∷ RequestGoes toBus ∷ RequestGoes toLoop
     ∷ LoopGiven ∷ BusGiven ∷ HoldsBack ∷ Released ∷ LoopRoleGoes ∷ BusRoleGoes
+    ∷ StartsSo ∷ ResetGivesStart ∷ ShowsSo
     ∷ []

@@ -12,5 +12,7 @@ pub mod Giving
 pub mod NotReady
 pub mod LoopRole
 pub mod BusRole
+pub mod MailStarts
+pub mod MailShows
 pub mod Laws
 pub mod Obeyed
