@@ -9,3 +9,4 @@ pub mod Answers
 pub mod Seen
 pub mod Refusals
 pub mod Fitting
+pub mod Stored

@@ -1,10 +1,10 @@
 -- The C functions do what the product does, and so obey every law that it obeys. Assumes nothing.
 use mathlib.Core.Path.{refl}
-use Rattle.machine.proofs.Opening.{carried}
+use Rattle.machine.proofs.Opening.{carried, all-carried}
 use Rattle.boundary.specs.Product.{Product, machineOf}
 use Rattle.boundary.specs.CCalls.{opened, heldIn}
 use Rattle.boundary.specs.CRuns.{cFunctions}
-use Rattle.boundary.specs.CLaws.{CIsTheProduct, LawsHoldInC}
+use Rattle.boundary.specs.CLaws.{CIsTheProduct, LawsHoldInC, AllHoldInC}
 use Rattle.boundary.specs.Formed.{Formed}
 use Rattle.boundary.specs.Kept.{Kept}
 use Rattle.boundary.proofs.Opened.{opened-typed, whole-kept, call-means}
@@ -25,3 +25,6 @@ module _ (P : Product) (F : Formed P) (K : Kept P) where
 
   pub laws-hold-in-c : LawsHoldInC P
   laws-hold-in-c = carried (cFunctions P) (machineOf P) c-is-the-product
+
+  pub all-hold-in-c : AllHoldInC P
+  all-hold-in-c = all-carried (cFunctions P) (machineOf P) c-is-the-product

@@ -5,10 +5,9 @@ use mathlib.Core.Bool.{true, false}
 use mathlib.Core.List.{List}
 use lib.ListN.{length, take, drop}
 use lib.Dec.{eqb}
-use Rattle.answers.specs.Answers.{isRefusal}
-use Rattle.machine.specs.Machine.{AllFair, finally, Law, Obeys}
+use Rattle.machine.specs.Machine.{AllFair, finally, Law, Obeys, ObeysAll}
 use Rattle.machine.specs.Opening.{Opens}
-use Rattle.answers.specs.Answers.{Said}
+use Rattle.answers.specs.Answers.{Said, isRefusal}
 use Rattle.boundary.specs.Product.{Product, Held, machineOf, shown}
 use Rattle.boundary.specs.CCalls.{Lent, CDid, cDid, refusedBy, storeOf, opened, fitting, shownWord, cStep, CPromised}
 use Rattle.boundary.specs.Numbers.{cAnswer}
@@ -103,3 +102,7 @@ module _ (P : Product) where
   -- so whatever law the product obeys, they obey
   abbrev pub LawsHoldInC : Type 1
   LawsHoldInC = (L : Law (P .World) (P .Call) Said) → Obeys (machineOf P) L → Obeys (cFunctions P) L
+
+  -- and all of a list of laws
+  abbrev pub AllHoldInC : Type 1
+  AllHoldInC = (Ls : List (Law (P .World) (P .Call) Said)) → ObeysAll (machineOf P) Ls → ObeysAll (cFunctions P) Ls
