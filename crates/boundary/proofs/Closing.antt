@@ -151,24 +151,21 @@ module _ (P : Product) (F : Formed P) where
     show-part n r h hn hr = rw (F .showed side, ← m, ← e, ne-eqb (length p) 0 h, part-word p, hr, hn)
 
   module _ (side : ℕ) (l : Held (P .State)) (p : List ℕ) (e : p ≡ shown P side l) where
-    abbrev sideOf : List ℕ
-    sideOf = cond (eqb side 0) (l .first) (l .second)
-
-    pub shown-part : (k : ℕ) → (length p ≡ 0 → ⊥) → k ≡ placeOf P side (l .state) → Shown sideOf p k
+    pub shown-part : (k : ℕ) → (length p ≡ 0 → ⊥) → k ≡ placeOf P side (l .state) → Shown (storeOf side l) p k
     unfolding shown
     shown-part k h hk = pick (fitsHeld P l) refl
       where
-        pick : (t : Bool) → fitsHeld P l ≡ t → Shown sideOf p k
+        pick : (t : Bool) → fitsHeld P l ≡ t → Shown (storeOf side l) p k
         pick false q = absurd (h (ap length e ∙ rw q))
         pick true q = one (eqb side 0) refl
           where
-            other : eqb side 0 ≡ false → (u : Bool) → eqb side 1 ≡ u → Shown sideOf p k
+            other : eqb side 0 ≡ false → (u : Bool) → eqb side 1 ≡ u → Shown (storeOf side l) p k
             other z true y = rw z (run-shown (l .second) (P .secondRing (l .state)) p k (F .second l q) (e ∙ rw (q, z, y)) (hk ∙ rw z))
             other z false y = absurd (h (ap length e ∙ rw (q, z, y)))
 
-            one : (u : Bool) → eqb side 0 ≡ u → Shown sideOf p k
+            one : (u : Bool) → eqb side 0 ≡ u → Shown (storeOf side l) p k
             one true z = rw z (run-shown (l .first) (P .firstRing (l .state)) p k (F .first l q) (e ∙ rw (q, z)) (hk ∙ rw z))
             one false z = other z (eqb side 1) refl
 
     pub show-small : (k : ℕ) → (length p ≡ 0 → ⊥) → k ≡ placeOf P side (l .state) → (k < 4294967296) × (length p < 4294967296)
-    show-small k h hk = let t : Shown sideOf p k = shown-part k h hk in (t .start, t .len)
+    show-small k h hk = let t : Shown (storeOf side l) p k = shown-part k h hk in (t .start, t .len)

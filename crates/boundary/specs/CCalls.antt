@@ -37,8 +37,8 @@ abbrev pub placeWord : ℕ → ℕ → ℕ
 placeWord start len = 4294967296 * start + len
 
 -- side 0 is the first store, side 1 the second
-abbrev pub storeOf : ℕ → Lent → List ℕ
-storeOf side l = cond (eqb side 0) (l .first) (l .second)
+abbrev pub storeOf : {State : Type 0} → ℕ → Held State → List ℕ
+storeOf side h = cond (eqb side 0) (h .first) (h .second)
 
 module _ (P : Product) where
   -- the state that a block means, and the world that lent buffers stand for

@@ -18,7 +18,8 @@ use Rattle.mailblock.specs.States.{meaning}
 use Rattle.mailbox.specs.BusSide as bus-side
 use Rattle.mailbox.specs.Calls.{OnState, busLines, create, show, on, world, Did, did, handed, outcome, tobusAfter, toloopAfter, notRefused, step, Promised, unmade}
 use Rattle.cmailbox.specs.Mailbox.{mailboxes}
-use Rattle.cmailbox.proofs.Forming.{by-refusal, formed}
+use Rattle.maillaws.proofs.Refusal.{by-refusal}
+use Rattle.cmailbox.proofs.Forming.{formed}
 
 -- ---- the calls on a state
 

@@ -1,4 +1,5 @@
--- `Accepted`, `Forming` and `Closing` serve the proofs of the functions.
-pub mod Accepted
+-- `Forming` and `Closing` serve the proofs of the functions, `Keeping` is what every call keeps, and `Laws` are the laws of the C functions.
 pub mod Forming
 pub mod Closing
+pub mod Keeping
+pub mod Laws

@@ -1,0 +1,76 @@
+-- The number of a C call tells its whole answer. Assumes nothing.
+use Prim.Native.Nat.{ℕ}
+use mathlib.Core.Path.{_≡_, refl, sym, ap, _∙_}
+use mathlib.Core.Bool.{Bool, true, false}
+use lib.ListN.{length}
+use lib.Dec.{eqb}
+use borrow.Author.Tests.{eqb-true}
+use Rattle.answers.specs.Answers.{part, isRefusal}
+use Rattle.answers.specs.Word.{word}
+use Rattle.codec.specs.Blocks.{isState, fittingBlock}
+use Rattle.boundary.specs.Product.{Product, Held, shown}
+use Rattle.boundary.specs.CCalls.{Lent, CDid, storeOf, heldIn, opened, fitting, cStep}
+use Rattle.boundary.specs.Numbers.{answerOf, partOf, answerBy, cAnswer}
+use Rattle.boundary.specs.CRuns.{wordBy, answerWord, Whole}
+use Rattle.boundary.specs.CLaws.{RefusalKeepsAll, AnswersTold}
+use Rattle.boundary.specs.Formed.{Formed}
+use Rattle.boundary.specs.Kept.{Kept, Tells}
+use Rattle.boundary.proofs.Laws.{by-call, show-step, shown-place, misfit-refused, wrong-block-refused, step-refusal-keeps}
+use Rattle.boundary.proofs.Opened.{typed-held, call-means}
+
+module _ (P : Product) (F : Formed P) where
+  -- what a call's number tells, by the call's kind
+  pub create-answer : (m : ℕ) (l : Lent) → cAnswer P (P .create m) l ≡ answerOf (P .given) (cStep P (P .create m) l .word)
+  unfolding cAnswer answerBy
+  create-answer m l = λ i. answerBy P (F .created m i) (cStep P (P .create m) l .word) l
+
+  pub show-answer : (side : ℕ) (l : Lent) → cAnswer P (P .show side) l ≡ partOf (cStep P (P .show side) l .word) (storeOf side (heldIn P l))
+  unfolding cAnswer answerBy
+  show-answer side l = λ i. answerBy P (F .showed side i) (cStep P (P .show side) l .word) l
+
+  pub on-answer : (c : P .OnState) (l : Lent) → cAnswer P (P .on c) l ≡ answerOf (P .given) (cStep P (P .on c) l .word)
+  unfolding cAnswer answerBy
+  on-answer c l = λ i. answerBy P (F .called c i) (cStep P (P .on c) l .word) l
+
+  shown-told : (side : ℕ) (l : Lent) → cAnswer P (P .show side) l ≡ P .said (P .show side) (opened P l)
+  unfolding partOf
+  shown-told side l =
+      show-answer side l
+      ∙ ap (λ (r : CDid). partOf (r .word) (storeOf side (heldIn P l))) (show-step P F side l)
+      ∙ ap part (sym (shown-place P F side (heldIn P l)))
+      ∙ sym (F .shows side (opened P l) ∙ ap (λ (h : Held (P .State)). part (shown P side h)) (F .back (heldIn P l)))
+
+  -- a block of another length is no fitting state
+  pub other-misfits : (l : Lent) → eqb (length (l .block)) (P .layout .len) ≡ false → fitting P l ≡ false
+  unfolding fittingBlock isState
+  other-misfits l e = rw e
+
+  -- with a block of another length every call leaves the buffers as they were
+  pub other-length : (c : P .Call) (l : Lent) → eqb (length (l .block)) (P .layout .len) ≡ false → cStep P c l .lent ≡ l
+  other-length c l e =
+      by-call P F (λ x. cStep P x l .lent ≡ l)
+      (λ m. ap (λ (r : CDid). r .lent) (wrong-block-refused P F m l e))
+      (λ side. ap (λ (r : CDid). r .lent) (show-step P F side l))
+      (λ x. ap (λ (r : CDid). r .lent) (misfit-refused P F x l (other-misfits l e)))
+      c
+
+  module _ (K : Kept P) where
+    pub answers-told : AnswersTold P
+    unfolding answerWord wordBy
+    answers-told c l h =
+        by-call P F (λ x. cAnswer P x l ≡ P .said x (opened P l))
+        (λ m. create-answer m l ∙ ap (answerOf (P .given)) (call-means P F K (P .create m) l h .word ∙ (λ i. wordBy P (F .created m i) (P .create m) (opened P l)))
+        ∙ K .told-create m (opened P l))
+        (λ side. shown-told side l)
+        (λ x. on-answer x l ∙ ap (answerOf (P .given)) (call-means P F K (P .on x) l h .word ∙ (λ i. wordBy P (F .called x i) (P .on x) (opened P l)))
+        ∙ K .told-on x (heldIn P l) (typed-held P F K l (h .lendable)))
+        c
+
+    pub refusal-keeps-all : RefusalKeepsAll P
+    refusal-keeps-all c l h e = pick (eqb (length (l .block)) (P .layout .len)) refl
+      where
+        pick : (t : Bool) → eqb (length (l .block)) (P .layout .len) ≡ t → cStep P c l .lent ≡ l
+        pick true q =
+            step-refusal-keeps P F c l
+            (ap isRefusal (sym (answers-told c l (record { size = eqb-true (length (l .block)) (P .layout .len) q; lendable = h }))) ∙ e)
+        pick false q = other-length c l q

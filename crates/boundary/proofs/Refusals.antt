@@ -1,0 +1,114 @@
+-- A C call refuses exactly when a check of the table is given. Assumes nothing.
+use Prim.Native.Nat.{ℕ}
+use native.Mathlib.Omega.{arith}
+use mathlib.Core.Path.{_≡_, refl, sym, ap, subst, _∙_}
+use mathlib.Core.Bool.{Bool, true, false, _||_, not}
+use mathlib.Core.List.{[], _∷_}
+use lib.ListN.{length}
+use lib.Dec.{eqb}
+use borrow.Author.Tests.{eqb-true}
+use Rattle.answers.specs.Refusals.{check, firstRefusal}
+use Rattle.answers.specs.Refusing.{Refuses}
+use Rattle.answers.specs.Answers.{Said, refused, isRefusal}
+use Rattle.answers.specs.Word.{word}
+use Rattle.boundary.specs.Product.{Product, Held, Kind, creating, showing, calling, checks}
+use Rattle.boundary.specs.CCalls.{Lent, CDid, refusedBy, heldIn, opened, cStep}
+use Rattle.boundary.specs.Numbers.{answerOf, partOf, cAnswer}
+use Rattle.boundary.specs.CRefusals.{cChecks, RefusedExactlyInC}
+use Rattle.boundary.specs.Formed.{Formed}
+use Rattle.boundary.specs.Kept.{Kept}
+use Rattle.boundary.proofs.Laws.{by-call, fits-in, show-step, misfit-refused, wrong-block-refused}
+use Rattle.boundary.proofs.Words.{refusal-told}
+use Rattle.boundary.proofs.Answers.{create-answer, show-answer, on-answer, other-misfits, answers-told, refusal-keeps-all}
+
+-- a call that is refused by the first of its checks
+refuses : (a : Said) (k : Lent) (n : ℕ) (l : Lent) → (n ≡ 0 → ⊥) → a ≡ refused n → k ≡ l → Refuses a k n l
+refuses a k n l z e h =
+    record {
+      when = λ m q. let r : refused n ≡ refused m = sym e ∙ q in cc;
+      given = λ q. e;
+      accepts = λ q. absurd (z q);
+      leaves = λ q. h;
+    }
+
+module _ (P : Product) (F : Formed P) where
+  -- ---- a block of the one length: the checks are those of the call
+
+  same-first : (k : Kind (P .OnState)) (l : Lent) → eqb (length (l .block)) (P .layout .len) ≡ true →
+      firstRefusal (checks P k (heldIn P l)) ≡ firstRefusal (cChecks P k l)
+  unfolding checks cChecks
+  same-first k l e = each k
+    where
+      either : (t : Bool) → firstRefusal (check 1 (not t) ∷ []) ≡ firstRefusal (check 1 (not t || false) ∷ [])
+      either true = refl
+      either false = refl
+
+      each : (k : Kind (P .OnState)) → firstRefusal (checks P k (heldIn P l)) ≡ firstRefusal (cChecks P k l)
+      each (creating m) =
+          let t : Bool = P .obeyed m (length (l .first)) (length (l .second)) in
+          either t ∙ ap (λ (b : Bool). firstRefusal (check 1 (not t || not b) ∷ [])) (sym e)
+      each (showing side) = refl
+      each (calling c) = rw (fits-in P F l)
+
+  -- ---- a block of another length: the first check is given
+
+  module _ (l : Lent) (e : eqb (length (l .block)) (P .layout .len) ≡ false) where
+    abbrev Right : P .Call → Type 0
+    Right c = Refuses (cAnswer P c l) (cStep P c l .lent) (firstRefusal (cChecks P (P .kind c) l)) l
+
+    -- the number of a refused call tells the refusal
+    abbrev Told : P .Call → ℕ → Type 0
+    Told c n = cAnswer P c l ≡ refused n
+
+    by-first : (c : P .Call) (n : ℕ) → firstRefusal (cChecks P (P .kind c) l) ≡ n → (n ≡ 0 → ⊥) → Told c n → cStep P c l .lent ≡ l → Right c
+    by-first c n q z t k =
+        subst (λ (x : ℕ). Refuses (cAnswer P c l) (cStep P c l .lent) x l) (sym q) (refuses (cAnswer P c l) (cStep P c l .lent) n l z t k)
+
+    create-right : (m : ℕ) → Right (P .create m)
+    unfolding cChecks
+    create-right m =
+        let r : cStep P (P .create m) l ≡ refusedBy 1 l = wrong-block-refused P F m l e in
+        by-first (P .create m) 1 ((λ i. firstRefusal (cChecks P (F .created m i) l)) ∙ given (P .obeyed m (length (l .first)) (length (l .second)))) (λ z. omega arith)
+        (create-answer P F m l ∙ ap (λ (x : CDid). answerOf (P .given) (x .word)) r ∙ refusal-told (P .given) 1 (omega arith))
+        (ap (λ (x : CDid). x .lent) r)
+      where
+        given : (t : Bool) → firstRefusal (check 1 (not t || not (eqb (length (l .block)) (P .layout .len))) ∷ []) ≡ 1
+        given true = rw e
+        given false = refl
+
+    show-right : (side : ℕ) → Right (P .show side)
+    unfolding cChecks partOf
+    show-right side =
+        let a = show-answer P F side l in
+        let n : firstRefusal (cChecks P (P .kind (P .show side)) l) ≡ 0 = λ i. firstRefusal (cChecks P (F .showed side i) l) in
+        record {
+          when = λ m q. let z = sym a ∙ q in n ∙ (cc);
+          given = λ z. absurd (z n);
+          accepts = λ z. ap isRefusal a;
+          leaves = λ q. ap (λ (r : CDid). r .lent) (show-step P F side l);
+        }
+
+    on-right : (c : P .OnState) → Right (P .on c)
+    unfolding cChecks
+    on-right c =
+        let r : cStep P (P .on c) l ≡ refusedBy 2 l = misfit-refused P F c l (other-misfits P F l e) in
+        by-first (P .on c) 2 ((λ i. firstRefusal (cChecks P (F .called c i) l)) ∙ rw (other-misfits P F l e)) (λ z. omega arith)
+        (on-answer P F c l ∙ ap (λ (x : CDid). answerOf (P .given) (x .word)) r ∙ refusal-told (P .given) 2 (omega arith))
+        (ap (λ (x : CDid). x .lent) r)
+
+  pub refused-exactly-in-c : Kept P → RefusedExactlyInC P
+  refused-exactly-in-c K c l h = pick (eqb (length (l .block)) (P .layout .len)) refl
+    where
+      pick : (t : Bool) → eqb (length (l .block)) (P .layout .len) ≡ t → Refuses (cAnswer P c l) (cStep P c l .lent) (firstRefusal (cChecks P (P .kind c) l)) l
+      pick false e = by-call P F (Right l e) (create-right l e) (show-right l e) (on-right l e) c
+      pick true e =
+          let a : cAnswer P c l ≡ P .said c (opened P l) = answers-told P F K c l (record { size = eqb-true (length (l .block)) (P .layout .len) e; lendable = h }) in
+          let n : firstRefusal (checks P (P .kind c) (P .apart (opened P l))) ≡ firstRefusal (cChecks P (P .kind c) l) =
+          ap (λ (x : Held (P .State)). firstRefusal (checks P (P .kind c) x)) (F .back (heldIn P l)) ∙ same-first (P .kind c) l e in
+          let r = F .refuses c (opened P l) in
+          record {
+            when = λ m q. sym n ∙ r .when m (sym a ∙ q);
+            given = λ z. a ∙ r .given (λ q. z (sym n ∙ q)) ∙ ap refused n;
+            accepts = λ z. ap isRefusal a ∙ r .accepts (n ∙ z);
+            leaves = refusal-keeps-all P F K c l h;
+          }

@@ -1,0 +1,65 @@
+-- What the number of an answer tells. Assumes nothing.
+use Prim.Native.Nat.{ℕ, _<_}
+use native.Mathlib.Omega.{arith}
+use mathlib.Core.Path.{_≡_, refl, ap, _∙_}
+use Rattle.frame.specs.Frame.{controlOf, dataOf, made}
+use Rattle.answers.specs.Answers.{Said, done, none, byte, frame, refused, part, cell, lines}
+use Rattle.answers.specs.Word.{word, kindOf, valueOf}
+use Rattle.boundary.specs.Numbers.{WordTells, ReservedZero, saidBy, answerOf}
+
+-- there are six kinds of answer
+few-kinds : (a : Said) → kindOf a < 6
+unfolding kindOf
+few-kinds done = omega arith
+few-kinds none = omega arith
+few-kinds (byte b) = omega arith
+few-kinds (frame c d) = omega arith
+few-kinds (refused n) = omega arith
+few-kinds (part xs) = omega arith
+few-kinds (cell n) = omega arith
+few-kinds (lines n) = omega arith
+
+pub word-tells : WordTells
+unfolding word
+word-tells a h = (omega (arith, few-kinds a), omega arith)
+
+pub reserved-zero : ReservedZero
+unfolding word
+reserved-zero a h = omega (arith, few-kinds a)
+
+-- an answer whose value has 16 bits is told by its number, if its kind and value tell it
+module _ (given : ℕ → Said) where
+  by-word : (a : Said) → valueOf a < 65536 → saidBy given (kindOf a) (valueOf a) ≡ a → answerOf given (word a) ≡ a
+  unfolding answerOf
+  by-word a h e = let w = word-tells a h in (λ i. saidBy given (w .0 i) (w .1 i)) ∙ e
+
+  pub done-told : answerOf given (word done) ≡ done
+  unfolding kindOf valueOf saidBy
+  done-told = by-word done (omega arith) refl
+
+  pub none-told : answerOf given (word none) ≡ none
+  unfolding kindOf valueOf saidBy
+  none-told = by-word none (omega arith) refl
+
+  pub refusal-told : (n : ℕ) → n < 65536 → answerOf given (word (refused n)) ≡ refused n
+  unfolding kindOf valueOf saidBy
+  refusal-told n h = by-word (refused n) h refl
+
+  pub lines-told : (n : ℕ) → n < 65536 → answerOf given (word (lines n)) ≡ lines n
+  unfolding kindOf valueOf saidBy
+  lines-told n h = by-word (lines n) h refl
+
+  pub frame-told : (k d : ℕ) → k < 256 → d < 256 → answerOf given (word (frame k d)) ≡ frame k d
+  unfolding kindOf valueOf saidBy
+  frame-told k d h j =
+      let high : controlOf (made k d) ≡ k = omega arith in
+      let low : dataOf (made k d) ≡ d = omega arith in
+      by-word (frame k d) (omega arith) (λ i. frame (high i) (low i))
+
+pub byte-told : (n : ℕ) → n < 65536 → answerOf byte (word (byte n)) ≡ byte n
+unfolding kindOf valueOf saidBy
+byte-told n h = by-word byte (byte n) h refl
+
+pub cell-told : (n : ℕ) → n < 65536 → answerOf cell (word (cell n)) ≡ cell n
+unfolding kindOf valueOf saidBy
+cell-told n h = by-word cell (cell n) h refl

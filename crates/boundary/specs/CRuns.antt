@@ -1,0 +1,61 @@
+-- Runs of C calls beside runs of the product's calls.
+use Prim.Native.Nat.{ℕ}
+use mathlib.Core.Path.{_≡_}
+use mathlib.Core.List.{List, [], _∷_}
+use lib.ListN.{length}
+use Rattle.machine.specs.Machine.{Machine}
+use Rattle.answers.specs.Answers.{Said}
+use Rattle.answers.specs.Word.{word}
+use Rattle.store.specs.Bytes.{Bytes}
+use Rattle.codec.specs.Blocks.{packed}
+use Rattle.boundary.specs.Product.{Product, Held, Kind, creating, showing, calling}
+use Rattle.boundary.specs.CCalls.{Lent, lent, opened, shownWord, cStep}
+use Rattle.boundary.specs.Numbers.{cAnswer}
+
+module _ (P : Product) where
+  -- the buffers that a state and its stores, and so a world, are lent in
+  abbrev pub packedHeld : Held (P .State) → Lent
+  packedHeld h = lent (packed (P .layout) (h .state)) (h .first) (h .second)
+
+  abbrev pub packedWorld : P .World → Lent
+  packedWorld w = packedHeld (P .apart w)
+
+  -- the number that a call is answered by in C
+  unfoldable pub wordBy : Kind (P .OnState) → P .Call → P .World → ℕ
+  wordBy (creating m) c w = word (P .said c w)
+  wordBy (showing side) c w = shownWord P side (P .apart w)
+  wordBy (calling x) c w = word (P .said c w)
+
+  unfoldable pub answerWord : P .Call → P .World → ℕ
+  answerWord c w = wordBy (P .kind c) c w
+
+  -- the numbers that the answers of a run of the product's calls are
+  unfoldable pub words : List (P .Call) → P .World → List ℕ
+  words [] w = []
+  words (c ∷ cs) w = answerWord c w ∷ words cs (P .after c w)
+
+  -- the numbers that the same run of C calls answers
+  unfoldable pub cWords : List (P .Call) → Lent → List ℕ
+  cWords [] l = []
+  cWords (c ∷ cs) l = cStep P c l .word ∷ cWords cs (cStep P c l .lent)
+
+  -- what the types of the code give of every world: numbers that fit their places, and stores of the right numbers
+  pub record Typed (w : P .World) : Type 0 where
+    pub state : P .layout .Ranged (P .apart w .state)
+    pub fine : P .Fine w
+
+  -- what the types of the C functions give of lent buffers: a block of bytes, and stores of the right numbers
+  pub record Lendable (l : Lent) : Type 0 where
+    pub block : Bytes (l .block)
+    pub first : P .Stored (l .first)
+    pub second : P .Stored (l .second)
+
+  -- and a lent block of the one length, a state or not
+  pub record Whole (l : Lent) : Type 0 where
+    pub size : length (l .block) ≡ P .layout .len
+    pub lendable : Lendable l
+
+  -- the C functions as a machine: the buffers stand for a world, and the number tells the answer; the types give a block of the one length, bytes
+  -- and right numbers
+  abbrev pub cFunctions : Machine (P .World) (P .Call) Said
+  cFunctions = record { Own = Lent; stands = opened P; answer = cAnswer P; after = λ c l. cStep P c l .lent; Fine = Whole; Fair = P .Fair }
