@@ -16,6 +16,7 @@ use Rattle.maillaws.proofs.LoopRoles.{loop-role-goes}
 use Rattle.maillaws.proofs.BusRoles.{bus-role-goes}
 use Rattle.maillaws.proofs.StartsGiven.{starts-so, reset-gives-start}
 use Rattle.maillaws.proofs.ShowsGiven.{shows-so}
+use Rattle.maillaws.proofs.NewsGoes.{news-goes}
 
 pub all-obeyed : MailboxObeysAll
 all-obeyed =
@@ -26,5 +27,5 @@ all-obeyed =
     also news-stays also news-ends also status-told
     also request-waits toBus also request-waits toLoop also request-goes toBus also request-goes toLoop
     also loop-given also bus-given also holds-back also released also loop-role-goes also bus-role-goes
-    also starts-so also reset-gives-start also shows-so
+    also starts-so also reset-gives-start also shows-so also news-goes toBus also news-goes toLoop
     also tt

@@ -35,5 +35,7 @@ pub mod NewsEnds
 -- `StartsGiven` is of create and reset, `ShowsGiven` of what a show returns.
 pub mod StartsGiven
 pub mod ShowsGiven
+-- `NewsGoes` is of the news of both ways.
+pub mod NewsGoes
 -- `Laws` has all of them in one theorem.
 pub mod Laws

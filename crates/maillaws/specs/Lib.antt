@@ -14,5 +14,6 @@ pub mod LoopRole
 pub mod BusRole
 pub mod MailStarts
 pub mod MailShows
+pub mod NewsGoing
 pub mod Laws
 pub mod Obeyed

@@ -13,3 +13,4 @@ pub mod SpoiltRefusals
 pub mod SpoiltStores
 pub mod SpoiltStarts
 pub mod SpoiltShows
+pub mod SpoiltAvailable

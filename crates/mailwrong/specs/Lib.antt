@@ -18,3 +18,4 @@ pub mod SpoiltRefusals
 pub mod SpoiltStores
 pub mod SpoiltStarts
 pub mod SpoiltShows
+pub mod SpoiltAvailable
