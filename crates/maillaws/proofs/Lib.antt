@@ -37,5 +37,9 @@ pub mod StartsGiven
 pub mod ShowsGiven
 -- `NewsGoes` is of the news of both ways.
 pub mod NewsGoes
+-- `HoldsGo` is of not ready and of the loop's response to polls.
+pub mod HoldsGo
+-- `PollsSeen` is of the lines of the bus and of the identify frame.
+pub mod PollsSeen
 -- `Laws` has all of them in one theorem.
 pub mod Laws

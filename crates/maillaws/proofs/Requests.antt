@@ -1,5 +1,5 @@
 -- When a request begins and ends, and that one shows only while something waits. Assumes nothing.
-use Prim.Native.Nat.{ℕ, _+_, _-_, _<_, _≤_}
+use Prim.Native.Nat.{ℕ, _-_}
 use native.Mathlib.Omega.{arith}
 use mathlib.Core.Path.{_≡_, refl, sym, ap, _∙_}
 use mathlib.Core.Bool.{Bool, true, false, cond, _&&_, not, false≢true, true≢false}
@@ -7,18 +7,17 @@ use mathlib.Core.List.{List, [], _∷_, map}
 use lib.Dec.{eqb}
 use lib.ListN.{length}
 use borrow.Author.Tests.{eqb-true, eqb-false, eq-eqb, ne-eqb, not-true, not-false}
-use Rattle.branches.proofs.Branches.{by-cond, and-left, and-right}
 use Rattle.machine.specs.Machine.{Obeys}
 use Rattle.store.specs.declared.Ring.{Ring}
-use Rattle.store.specs.Ring.{Fit, held, putRing, dropRing}
+use Rattle.store.specs.Ring.{Fit, held, dropRing}
 use Rattle.store.proofs.Laws.{held-length, drop-fit, drop-len}
 use Rattle.news.specs.declared.News.{News}
 use Rattle.news.specs.News.{noNews, come}
-use Rattle.mailbox.specs.Calls.{Call, World, step}
+use Rattle.mailbox.specs.Calls.{World, step}
 use Rattle.maillaws.specs.Mailboxes.{mailbox}
 use Rattle.maillaws.specs.Sights.{Direction, storeOf, ringOf, newsOf, waits, counted, any}
-use Rattle.maillaws.specs.Requesting.{RequestGoes, RequestRight}
-use Rattle.maillaws.proofs.Moves.{Sight, sight, Move, isStill, isPut, isFetched, isEmptied, isAsked, isReturned}
+use Rattle.maillaws.specs.Requesting.{RequestGoes}
+use Rattle.maillaws.proofs.Moves.{Sight, Move, isStill, isPut, isFetched, isEmptied, isAsked, isReturned}
 use Rattle.maillaws.proofs.EveryMove.{moved}
 
 -- ---- whether something waits, by the ring

@@ -15,6 +15,8 @@ use Rattle.maillaws.specs.BusRole.{BusRoleGoes}
 use Rattle.maillaws.specs.MailStarts.{StartsSo, ResetGivesStart}
 use Rattle.maillaws.specs.MailShows.{ShowsSo}
 use Rattle.maillaws.specs.NewsGoing.{NewsGo}
+use Rattle.maillaws.specs.PollsTold.{LinesTold, IdentifyTold, ResponseGoes}
+use Rattle.maillaws.specs.HoldGoing.{HoldGoes}
 
 abbrev pub laws : List Law
 laws =
@@ -26,4 +28,5 @@ laws =
     ∷ RequestWaits toBus ∷ RequestWaits toLoop ∷ RequestGoes toBus ∷ RequestGoes toLoop
     ∷ LoopGiven ∷ BusGiven ∷ HoldsBack ∷ Released ∷ LoopRoleGoes ∷ BusRoleGoes
     ∷ StartsSo ∷ ResetGivesStart ∷ ShowsSo ∷ NewsGo toBus ∷ NewsGo toLoop
+    ∷ LinesTold ∷ IdentifyTold ∷ ResponseGoes ∷ HoldGoes
     ∷ []

@@ -15,5 +15,7 @@ pub mod BusRole
 pub mod MailStarts
 pub mod MailShows
 pub mod NewsGoing
+pub mod PollsTold
+pub mod HoldGoing
 pub mod Laws
 pub mod Obeyed

@@ -1,14 +1,9 @@
 -- Mailboxes whose news goes wrong, each refuted by one call. Assumes nothing.
-use Prim.Native.Nat.{ℕ}
-use mathlib.Core.Path.{_≡_, refl}
-use mathlib.Core.Bool.{true, false, false≢true, true≢false}
-use mathlib.Core.List.{[], map}
-use Rattle.store.specs.Ring.{held}
-use Rattle.store.proofs.Laws.{held-empty}
+use mathlib.Core.Path.{refl}
+use mathlib.Core.Bool.{false, false≢true, true≢false}
 use Rattle.news.specs.News.{come}
-use Rattle.maillaws.specs.Sights.{Direction, toBus, toLoop, counted, any}
+use Rattle.maillaws.specs.Sights.{toBus, toLoop}
 use Rattle.maillaws.specs.NewsGoing.{NewsGo}
-use Rattle.refuting.specs.SmallRings.{ring}
 use Rattle.refuting.proofs.StandsIn.{holds, no-round}
 use Rattle.mailwrong.specs.Spoiling.{withNews}
 use Rattle.mailwrong.specs.MailTrials.{cellsFor, fresh, leaver, fetcher, serialTalker, waiting, leaves, asks, commands}

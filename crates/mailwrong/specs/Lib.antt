@@ -19,3 +19,5 @@ pub mod SpoiltStores
 pub mod SpoiltStarts
 pub mod SpoiltShows
 pub mod SpoiltAvailable
+pub mod SpoiltPolls
+pub mod SpoiltEnabling
