@@ -41,5 +41,7 @@ pub mod NewsGoes
 pub mod HoldsGo
 -- `PollsSeen` is of the lines of the bus and of the identify frame.
 pub mod PollsSeen
+-- `CellPlaces` is of the places of the cells.
+pub mod CellPlaces
 -- `Laws` has all of them in one theorem.
 pub mod Laws

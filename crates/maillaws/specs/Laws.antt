@@ -17,6 +17,7 @@ use Rattle.maillaws.specs.MailShows.{ShowsSo}
 use Rattle.maillaws.specs.NewsGoing.{NewsGo}
 use Rattle.maillaws.specs.PollsTold.{LinesTold, IdentifyTold, ResponseGoes}
 use Rattle.maillaws.specs.HoldGoing.{HoldGoes}
+use Rattle.maillaws.specs.MailPlaces.{PlacesGo}
 
 abbrev pub laws : List Law
 laws =
@@ -28,5 +29,5 @@ laws =
     ∷ RequestWaits toBus ∷ RequestWaits toLoop ∷ RequestGoes toBus ∷ RequestGoes toLoop
     ∷ LoopGiven ∷ BusGiven ∷ HoldsBack ∷ Released ∷ LoopRoleGoes ∷ BusRoleGoes
     ∷ StartsSo ∷ ResetGivesStart ∷ ShowsSo ∷ NewsGo toBus ∷ NewsGo toLoop
-    ∷ LinesTold ∷ IdentifyTold ∷ ResponseGoes ∷ HoldGoes
+    ∷ LinesTold ∷ IdentifyTold ∷ ResponseGoes ∷ HoldGoes ∷ PlacesGo toBus ∷ PlacesGo toLoop
     ∷ []

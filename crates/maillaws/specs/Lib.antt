@@ -17,5 +17,6 @@ pub mod MailShows
 pub mod NewsGoing
 pub mod PollsTold
 pub mod HoldGoing
+pub mod MailPlaces
 pub mod Laws
 pub mod Obeyed
