@@ -1,13 +1,11 @@
 -- What create and reset give. Assumes nothing.
 use Prim.Native.Nat.{ℕ}
 use mathlib.Core.Path.{_≡_, refl, sym, ap, subst, _∙_}
-use mathlib.Core.Bool.{Bool, true, false, _&&_, and-false, false≢true}
+use mathlib.Core.Bool.{true, false, and-false, false≢true}
 use mathlib.Core.List.{List, [], _∷_, cons≢nil}
 use lib.Dec.{eqb}
 use lib.ListN.{length}
 use Rattle.machine.specs.Machine.{Obeys, course, finally}
-use Rattle.store.specs.Ring.{emptyRing}
-use Rattle.talker.specs.Talker.{startTalker}
 use Rattle.way.specs.Way.{emptyWay}
 use Rattle.answers.specs.Answers.{said, refused}
 use Rattle.mailstate.specs.Sizes.{startState}

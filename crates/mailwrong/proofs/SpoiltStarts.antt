@@ -1,6 +1,6 @@
 -- Mailboxes that start wrongly, each refuted by a create or a reset. Assumes nothing.
 use mathlib.Core.Path.{refl, ap}
-use mathlib.Core.Bool.{Bool, true, false, false≢true, true≢false}
+use mathlib.Core.Bool.{false≢true, true≢false}
 use mathlib.Core.List.{[]}
 use lib.Dec.{eqb}
 use Rattle.role.specs.declared.Role.{Role}

@@ -1,8 +1,7 @@
 -- Mailboxes that start wrongly.
-use mathlib.Core.Bool.{Bool, true, false, _&&_}
+use mathlib.Core.Bool.{true, false}
 use Rattle.role.specs.Role.{withAddress, withListener}
-use Rattle.mailstate.specs.declared.State.{State}
-use Rattle.mailstate.specs.State.{withHold, withResponse}
+use Rattle.mailstate.specs.State.{withHold}
 use Rattle.mailbox.specs.Calls.{reset, Call, World, Did}
 use Rattle.maillaws.specs.Sights.{onOne, restarts}
 use Rattle.mailwrong.specs.Spoiling.{Sight, afterSight, withLoopRole, onBus, asRole}
