@@ -79,6 +79,12 @@ def missing_names(path):
     return wrong
 
 
+def unnamed_crates():
+    """Crates that README's list of what is where leaves out."""
+    text = listing.read("README.md")
+    return [f"README.md: it does not say what crates/{crate} is" for crate in listing.crates() if f"`crates/{crate}`" not in text]
+
+
 def form(documents):
     """The faults of the form of documents: headings, lines, contents, entries and signs."""
     wrong = [fault for path in documents for fault in pages.disorder(path)]
@@ -98,7 +104,7 @@ def main():
     documents = sorted(glob.glob("docs/**/*.md", recursive=True)) + ["README.md", "CONTRIBUTING.md", "CHANGELOG.md"]
     for path in documents:
         wrong += missing_names(path)
-    wrong += form(documents)
+    wrong += unnamed_crates() + form(documents)
     for line in wrong:
         print(line)
     print(f"{len(documents)} documents, {len(wrong)} faults")

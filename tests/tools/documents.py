@@ -73,7 +73,7 @@ def build(room):
     room.write("tests/run.py", "# a comment\ndef runs():\n    helps()\n")
     room.write("tests/run.rs", "// a comment\nfn holds() {\n    helps();\n}\n")
     for path in ("README.md", "CONTRIBUTING.md", "CHANGELOG.md"):
-        room.write(path, "# All\n\nSee `docs/NOTE.md`.\n\n```\n# no heading\n```\n")
+        room.write(path, "# All\n\nSee `docs/NOTE.md`.\n\n```\n# no heading\n```\n\n- `crates/one`: the only one.\n")
     room.write(NOTE, "# Note\n\nSee `crates/one/src/lib.rt`.\n")
     room.write(PROMISES, CONTENTS)
     room.write(PAGE, ENTRY)
@@ -100,6 +100,8 @@ def names(room):
         room.finds(TOOL, f"docs/NOTE.md:3: no file {path}", (NOTE, f"# Note\n\nSee `{path}`.\n"))
     for path in ("README.md", "CONTRIBUTING.md", "CHANGELOG.md"):
         room.finds(TOOL, f"{path}:3: no file docs/NOTE.md", (NOTE, None))
+    room.finds(TOOL, "README.md: it does not say what crates/one is", ("README.md", "`crates/one`", "`crates/one/src`"))
+    room.finds(TOOL, "README.md: it does not say what crates/two is", ("crates.txt", "one:\n", "one:\ntwo:\n"))
     room.finds(TOOL, "docs/deep/NOTE.md:1: no file docs/GONE.md", ("docs/deep/NOTE.md", "See `docs/GONE.md`.\n"))
     room.finds(TOOL, "docs/PROMISES.md:9: no eight in", (PROMISES, CONTENTS + "`crates/one/specs/Lib.antt`: `eight`\n"))
     for line, name in ((7, "seven"), (7, "known"), (11, "first"), (15, "calls"), (16, "runs"), (17, "holds")):
