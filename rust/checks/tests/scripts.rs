@@ -1,7 +1,8 @@
 //! The scripts of the folder scripts, played on the archive beside the model.
 
-use raftershim_checks::implementation::BOTH;
-use raftershim_checks::played::play;
+use raftershim_checks::bridge::played::play;
+use raftershim_checks::bridge::TheBridge;
+use raftershim_checks::machine::Machine;
 use script::Script;
 use std::fs;
 use std::path::Path;
@@ -14,7 +15,8 @@ fn every_script_of_the_folder() {
         let path = file.expect("a file").path();
         let text = fs::read_to_string(&path).expect("a script");
         let script: Script = text.parse().expect("it has no mistake");
-        calls += play(BOTH, &script).unwrap_or_else(|told| panic!("{}: {told}", path.display()));
+        calls += play(TheBridge::BOTH, &script)
+            .unwrap_or_else(|told| panic!("{}: {told}", path.display()));
         scripts += 1;
     }
     assert!(

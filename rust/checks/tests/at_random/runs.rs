@@ -1,22 +1,18 @@
 //! The three kinds of runs: what each draws, and how it is driven.
 
-use crate::counts::Counts;
-use crate::damage;
-use crate::draw::{Difference, Draws};
-use crate::drive::{drive, make_all};
+use crate::damage::{every_call, margin};
 use crate::sizes::sizes;
 use crate::states::state;
 use crate::steps::steps;
-use raftershim_checks::implementation::Implementation;
-use raftershim_checks::pair::Pair;
+use raftershim_checks::bridge::{Pair, TheBridge};
+use raftershim_checks::damage::damage;
+use raftershim_checks::draw::{Difference, Draws};
+use raftershim_checks::drive::{drive, make_all};
+use raftershim_checks::{draw, implementation, tally};
 
-/// A kind of runs, and how many of them are drawn.
-#[derive(Clone, Copy)]
-pub struct Kind {
-    pub runs: usize,
-    /// Gives the first difference between two implementations, if there is one.
-    pub difference: fn([Implementation; 2], Draws, &mut Counts) -> Option<Difference>,
-}
+type Kind = draw::Kind<TheBridge>;
+type Both = implementation::Both<TheBridge>;
+type Tally = tally::Tally<TheBridge>;
 
 pub const FROM_CREATE: Kind = Kind {
     runs: 2000,
@@ -34,35 +30,38 @@ pub const ON_DAMAGED: Kind = Kind {
 };
 
 /// Long runs from create, on stores of all sizes.
-fn from_create(both: [Implementation; 2], draws: Draws, counts: &mut Counts) -> Option<Difference> {
+fn from_create(both: Both, draws: Draws, tally: &mut Tally) -> Option<Difference> {
     draws.first_difference(
         |random| (sizes(random), steps(random, 200)),
         |sizes, steps| {
-            let pair = Pair::created(both, sizes.rx_len, sizes.tx_len, sizes.margin);
-            drive(pair, steps, counts)
+            let pair = Pair::created(both, [sizes.rx_len, sizes.tx_len], sizes.margin);
+            drive(pair, steps, tally)
         },
     )
 }
 
 /// Short runs from states that fit, most of which calls never reach.
-fn from_states(both: [Implementation; 2], draws: Draws, counts: &mut Counts) -> Option<Difference> {
+fn from_states(both: Both, draws: Draws, tally: &mut Tally) -> Option<Difference> {
     draws.first_difference(
         |random| (state(random), steps(random, 20)),
-        |state, steps| drive(state.pair(both), steps, counts),
+        |state, steps| {
+            let pair = Pair::of(both, &state.block(), state.stores());
+            drive(pair, steps, tally)
+        },
     )
 }
 
 /// Every call on blocks that are damaged, and on blocks and stores of other lengths.
-fn on_damaged(both: [Implementation; 2], draws: Draws, counts: &mut Counts) -> Option<Difference> {
+fn on_damaged(both: Both, draws: Draws, tally: &mut Tally) -> Option<Difference> {
     draws.first_difference(
         |random| {
             let number = random.word();
-            let start = (state(random), damage::damage(random), number);
-            (start, damage::every_call(number))
+            let start = (state(random), damage::<TheBridge>(random), number);
+            (start, every_call(number))
         },
         |(state, damage, number), calls| {
-            let margin = damage::margin(*number);
-            make_all(damage.pair(both, state), calls, margin, counts)
+            let pair = damage.pair(both, &state.block(), state.stores());
+            make_all(pair, calls, margin(*number), tally)
         },
     )
 }

@@ -2,8 +2,6 @@
 
 use crate::sizes::{sizes, Sizes};
 use model::{block, Bridge, Registers, Ring};
-use raftershim_checks::implementation::Implementation;
-use raftershim_checks::pair::Pair;
 use raftershim_checks::random::Random;
 
 /// A state with its stores.
@@ -21,9 +19,13 @@ impl std::fmt::Debug for Drawn {
 }
 
 impl Drawn {
-    /// These two implementations on equal copies of the state and its stores.
-    pub fn pair(&self, both: [Implementation; 2]) -> Pair {
-        Pair::of(both, &block::pack(&self.bridge), &self.rx, &self.tx)
+    /// The block of the state.
+    pub fn block(&self) -> [u8; block::LEN] {
+        block::pack(&self.bridge)
+    }
+
+    pub fn stores(&self) -> [&[u8]; 2] {
+        [&self.rx, &self.tx]
     }
 }
 

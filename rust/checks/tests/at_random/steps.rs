@@ -1,7 +1,9 @@
 //! The steps of a run: calls, and calls that depend on the state of the moment.
 
 use model::{Bridge, ADDRESSED, IDLE, SERVICE, UNASSIGNED};
-use raftershim_checks::call::{frame, Call};
+use raftershim_checks::bridge::call::{frame, Call};
+use raftershim_checks::bridge::TheBridge;
+use raftershim_checks::drive;
 use raftershim_checks::random::Random;
 
 /// What a step does.
@@ -27,9 +29,9 @@ pub struct Step {
     done: u8,
 }
 
-impl Step {
+impl drive::Step<TheBridge> for Step {
     /// The call in this state.
-    pub fn call(self, state: &Bridge) -> Call {
+    fn call(self, state: &Bridge) -> Call {
         self.what.call(state, self.done)
     }
 }

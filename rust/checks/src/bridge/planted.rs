@@ -1,11 +1,12 @@
 //! Wrong implementations, each the model with one fault planted: the checks must find every one.
 
-use crate::call::Call;
-use crate::implementation::{Implementation, MODEL};
-use crate::lent::Lent;
-use crate::second;
+use super::call::Call;
+use super::{second, Lent, TheBridge, MODEL};
+use crate::implementation::Implementation as Any;
 use model::boundary::{kind, REFUSED};
 use model::{block, Bridge};
+
+type Implementation = Any<TheBridge>;
 
 /// The model with this way to make calls.
 const fn planted(call: fn(Lent, Call) -> u64) -> Implementation {
@@ -36,8 +37,8 @@ pub const STUCK_COUNT: Implementation = planted(|lent, call| {
 
 /// A frame that is refused as busy still ends the remote state.
 pub const REFUSED_YET_CHANGED: Implementation = planted(|lent, call| {
-    let Lent { block, rx, tx } = lent;
-    let answer = second::call(Lent { block, rx, tx }, call);
+    let Lent { block, stores } = lent;
+    let answer = second::call(Lent { block, stores }, call);
     if answer == REFUSED << 16 | 4 && block.len() == block::LEN {
         block[block::LEN - 1] ^= 1;
     }
@@ -46,9 +47,13 @@ pub const REFUSED_YET_CHANGED: Implementation = planted(|lent, call| {
 
 /// The last place of the receive store is never written.
 pub const LAST_PLACE_UNWRITTEN: Implementation = planted(|lent, call| {
-    let Lent { block, rx, tx } = lent;
+    let Lent {
+        block,
+        stores: [rx, tx],
+    } = lent;
     let last = rx.last().copied();
-    let answer = second::call(Lent { block, rx, tx }, call);
+    let stores = [&mut rx[..], tx];
+    let answer = second::call(Lent { block, stores }, call);
     if let (Some(place), Some(byte)) = (rx.last_mut(), last) {
         *place = byte;
     }
@@ -57,19 +62,18 @@ pub const LAST_PLACE_UNWRITTEN: Implementation = planted(|lent, call| {
 
 /// Blocks of version 0 are taken as ours.
 pub const ANOTHER_VERSION_TAKEN: Implementation = planted(|lent, call| {
-    let Lent { block, rx, tx } = lent;
-    if let Some(version @ 0) = block.first_mut() {
+    if let Some(version @ 0) = lent.block.first_mut() {
         *version = block::VERSION;
     }
-    second::call(Lent { block, rx, tx }, call)
+    second::call(lent, call)
 });
 
 /// Makes a call as the model does and then changes the state, given the state before the call. A
 /// call that is refused or shows is left alone.
 fn changed(lent: Lent, call: Call, change: impl FnOnce(&Bridge, &mut Bridge)) -> u64 {
-    let Lent { block, rx, tx } = lent;
+    let Lent { block, stores } = lent;
     let before = block::unpack(block);
-    let answer = second::call(Lent { block, rx, tx }, call);
+    let answer = second::call(Lent { block, stores }, call);
     let quiet = matches!(call, Call::Show(_)) || kind(answer) == REFUSED;
     if let (Some(before), Some(mut after), false) = (before, block::unpack(block), quiet) {
         change(&before, &mut after);

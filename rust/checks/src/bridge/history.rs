@@ -1,12 +1,12 @@
 //! What came on the line, kept whole, and the readings that it was: by the model and by the reading
 //! rule over plain sequences, without the crate's counts and marks.
 
-use crate::call::{frame, Call};
+use super::call::{frame, Call};
+use super::rule::Rule;
+use super::second;
+use super::seen::{seen, Seen};
+use super::told::{Act, Reader, Told, Worth};
 use crate::lent::Buffers;
-use crate::rule::Rule;
-use crate::second;
-use crate::seen::{seen, Seen};
-use crate::told::{Act, Reader, Told, Worth};
 use model::boundary::value;
 use model::{block, Bridge, UNASSIGNED};
 use raftershim::{Answer, LineByte, BLOCK_LEN};
@@ -39,7 +39,7 @@ enum By {
 /// The model with all that came on its line since the last cut, go and stop aside.
 #[derive(Clone)]
 pub struct History {
-    buffers: Buffers,
+    buffers: Buffers<u8>,
     line: Vec<(u8, Fate)>,
     /// Readings that have ended and are not told.
     ended: VecDeque<Told>,
@@ -50,7 +50,8 @@ pub struct History {
 impl History {
     /// A fresh bridge that finds the ends of lines.
     pub fn create(rx_len: usize, tx_len: usize, margin: u32, longest: usize) -> History {
-        let mut buffers = Buffers::holding(&[0; block::LEN], &vec![0; rx_len], &vec![0; tx_len]);
+        let (rx, tx) = (vec![0; rx_len], vec![0; tx_len]);
+        let mut buffers = Buffers::holding(&[0; block::LEN], [&rx, &tx]);
         assert_eq!(
             second::create(buffers.lend(), margin),
             0,

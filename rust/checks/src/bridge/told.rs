@@ -1,6 +1,6 @@
 //! What an app does at a meter's bridge, and what it is told.
 
-use crate::call::Call;
+use super::call::Call;
 use raftershim::{Answer, Answered, Frame, LineByte, Meter, Reading, Refusal, Register, BLOCK_LEN};
 
 /// What the app does.

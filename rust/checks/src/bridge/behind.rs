@@ -3,18 +3,22 @@
 /// Create and the other calls of a crate, as functions of the lent buffers.
 macro_rules! behind {
     ($boundary:path) => {
-        use crate::call::Call;
-        use crate::lent::Lent;
+        use crate::bridge::call::Call;
+        use crate::bridge::Lent;
         use $boundary as boundary;
 
         /// Creates a state in the block.
         pub fn create(lent: Lent, margin: u32) -> u64 {
-            boundary::create(lent.block, lent.rx, lent.tx, margin)
+            let [rx, tx] = lent.stores;
+            boundary::create(lent.block, rx, tx, margin)
         }
 
         /// Makes a call.
         pub fn call(lent: Lent, call: Call) -> u64 {
-            let Lent { block, rx, tx } = lent;
+            let Lent {
+                block,
+                stores: [rx, tx],
+            } = lent;
             match call {
                 Call::Next => boundary::next_line_byte(block, rx, tx),
                 Call::Line(byte) => boundary::line_byte(block, rx, tx, byte),

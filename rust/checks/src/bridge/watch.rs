@@ -1,8 +1,11 @@
 //! A watcher that goes along every path of an exploration, small enough to be part of its states.
 
-use crate::promises::Promises;
-use crate::rule::Rule;
-use crate::seen::Seen;
+use super::call::Call;
+use super::promises::Promises;
+use super::rule::Rule;
+use super::seen::{seen, Seen};
+use super::TheBridge;
+use crate::machine::{Made, Watcher};
 use model::{Bridge, Ring};
 
 /// At most eight bytes in their order.
@@ -41,9 +44,9 @@ pub struct Watch {
     promises: Promises,
 }
 
-impl Watch {
-    /// After create.
-    pub fn starting(bridge: &Bridge) -> Watch {
+impl Watcher<TheBridge> for Watch {
+    /// After create: both stores are empty.
+    fn starting(bridge: &Bridge, _: [&[u8]; 2]) -> Watch {
         Watch {
             unread: Few::default(),
             waiting: Few::default(),
@@ -51,15 +54,26 @@ impl Watch {
         }
     }
 
-    /// Takes note of a call and holds the state after it to demand 3. A frame sent must be the
-    /// first that the rule gives for what is unread, and what is left unread must be what is held:
-    /// so frames sent, then those of the bytes held, are those of all bytes accepted.
-    pub fn note(
+    fn note(&mut self, made: &Made<TheBridge>) -> Result<u32, String> {
+        let event = seen(made.before, made.call, made.answer);
+        self.held_to(made.before, event, made.after, made.stores)?;
+        if let Call::Show(side) = made.call {
+            self.shown(side, made.answer, made.stores)?;
+        }
+        Ok(event.rows())
+    }
+}
+
+impl Watch {
+    /// Holds the state after a call to demand 3. A frame sent must be the first that the rule gives
+    /// for what is unread, and what is left unread must be what is held: so frames sent, then those
+    /// of the bytes held, are those of all bytes accepted.
+    fn held_to(
         &mut self,
         before: &Bridge,
         seen: Seen,
         after: &Bridge,
-        stores: (&[u8], &[u8]),
+        stores: [&[u8]; 2],
     ) -> Result<(), String> {
         let read = Rule::of(&before.registers).send(self.unread.bytes());
         match (seen, read) {
@@ -78,17 +92,17 @@ impl Watch {
             }
             _ => {}
         }
-        holds(after.receive, stores.0, self.unread.bytes())?;
-        holds(after.transmit, stores.1, self.waiting.bytes())?;
+        holds(after.receive, stores[0], self.unread.bytes())?;
+        holds(after.transmit, stores[1], self.waiting.bytes())?;
         counted(seen, before, after)?;
         self.promises.note(before, seen, after)
     }
 
     /// Holds a shown part, given as start and length, to what the side holds.
-    pub fn shown(&self, side: u32, part: u64, stores: (&[u8], &[u8])) -> Result<(), String> {
+    fn shown(&self, side: u32, part: u64, stores: [&[u8]; 2]) -> Result<(), String> {
         let (held, store) = match side {
-            0 => (self.unread.bytes(), stores.0),
-            1 => (self.waiting.bytes(), stores.1),
+            0 => (self.unread.bytes(), stores[0]),
+            1 => (self.waiting.bytes(), stores[1]),
             _ => (&[][..], &[][..]),
         };
         let (start, len) = ((part >> 32) as usize, (part & 0xffff_ffff) as usize);

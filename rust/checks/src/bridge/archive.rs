@@ -1,7 +1,7 @@
 //! The archive's C functions over slices.
 
-use crate::call::Call;
-use crate::lent::Lent;
+use super::call::Call;
+use super::Lent;
 use raftershim::raw;
 
 /// The length of a block as the archive tells it.
@@ -12,7 +12,10 @@ pub fn block_len() -> usize {
 
 /// Creates a state in the block.
 pub fn create(lent: Lent, margin: u32) -> u64 {
-    let Lent { block, rx, tx } = lent;
+    let Lent {
+        block,
+        stores: [rx, tx],
+    } = lent;
     let (b, bl) = (block.as_mut_ptr(), block.len() as u64);
     let (r, rl, t, tl) = (rx.as_ptr(), rx.len() as u64, tx.as_ptr(), tx.len() as u64);
     // Safety: three slices, so no pointer is null, each is good for its length, none overlap.
@@ -21,7 +24,10 @@ pub fn create(lent: Lent, margin: u32) -> u64 {
 
 /// Makes a call.
 pub fn call(lent: Lent, call: Call) -> u64 {
-    let Lent { block, rx, tx } = lent;
+    let Lent {
+        block,
+        stores: [rx, tx],
+    } = lent;
     let (b, bl) = (block.as_mut_ptr(), block.len() as u64);
     let (r, rl) = (rx.as_mut_ptr(), rx.len() as u64);
     let (t, tl) = (tx.as_mut_ptr(), tx.len() as u64);

@@ -1,6 +1,6 @@
 //! The second and third statement of demand 3, held against a run by history of our own.
 
-use crate::seen::Seen;
+use super::seen::Seen;
 use model::{Bridge, ACTIVE_STATUS};
 
 /// Whether a break, a loss or a key press is still to be told.

@@ -1,6 +1,6 @@
 //! What a call did, as one sees it who knows the state before, the call and the answer.
 
-use crate::call::Call;
+use super::call::Call;
 use model::boundary::{kind, value, BYTE, REFUSED};
 use model::{Bridge, ACTIVE_DATA, ACTIVE_STATUS, ADDRESSED, SERVICE};
 
@@ -31,6 +31,33 @@ pub enum Seen {
     Register,
     DeviceClear,
     Reset,
+}
+
+/// What is counted of that.
+pub const ROWS: &[&str] = &[
+    "bytes stored",
+    "bytes lost",
+    "frames sent",
+    "line bytes given",
+    "frames kept for the line",
+    "status bytes back",
+    "status bytes damaged or forgotten",
+];
+
+impl Seen {
+    /// A bit for the row that counts it, if there is one.
+    pub fn rows(self) -> u32 {
+        match self {
+            Seen::Accepted(_) => 1,
+            Seen::Lost => 1 << 1,
+            Seen::Sent(_) => 1 << 2,
+            Seen::HandedOut(_) => 1 << 3,
+            Seen::Added(..) => 1 << 4,
+            Seen::StatusBack => 1 << 5,
+            Seen::StatusGone => 1 << 6,
+            _ => 0,
+        }
+    }
 }
 
 /// What this call with this answer did to this state.
