@@ -1,10 +1,7 @@
 //! Draws runs at random, and tells the first difference by a short script.
 
-use crate::implementation::Both;
-use crate::machine::Machine;
 use crate::random::Random;
 use crate::shrink::shrunk;
-use crate::tally::Tally;
 use std::fmt::Debug;
 use std::time::{SystemTime, UNIX_EPOCH};
 
@@ -64,39 +61,5 @@ impl Draws {
                 told,
             })
         })
-    }
-}
-
-/// A kind of runs, and how many of them are drawn.
-#[derive(Clone, Copy)]
-pub struct Kind<M: Machine> {
-    pub runs: usize,
-    /// Gives the first difference between two implementations, if there is one.
-    pub difference: fn(Both<M>, Draws, &mut Tally<M>) -> Option<Difference>,
-}
-
-impl<M: Machine> Kind<M> {
-    /// Runs in which these two never differ.
-    pub fn held(self, name: &str, both: Both<M>) -> Tally<M> {
-        let draws = Draws::asked_for(self.runs);
-        // Said first, so that a run that dies without a word can be had again.
-        println!("at random, {name}: AT_RANDOM_SEED={}", draws.seed);
-        let mut tally = Tally::default();
-        if let Some(found) = (self.difference)(both, draws, &mut tally) {
-            let (seed, told, start) = (draws.seed, found.told, found.start);
-            panic!("{name}, AT_RANDOM_SEED={seed}: {told}\nstarted at {start}");
-        }
-        let (runs, calls) = (tally.runs, tally.calls);
-        println!("at random, {name}: {runs} runs, {calls} calls compared\n{tally}");
-        tally
-    }
-
-    /// The first difference between these two in the runs that are the same every time.
-    pub fn found(self, both: Both<M>) -> Option<Difference> {
-        let draws = Draws {
-            runs: self.runs,
-            seed: 0,
-        };
-        (self.difference)(both, draws, &mut Tally::default())
     }
 }

@@ -25,7 +25,7 @@ pub trait Machine: Copy + Debug + Eq + Hash + 'static {
     /// A call on a state, its three buffers aside.
     type Call: Copy + Debug + Display + 'static;
     /// What a block means.
-    type State;
+    type State: Debug;
     /// A watcher that is small enough to be part of the states of an exploration.
     type Watch: Watcher<Self> + Copy + Debug + Eq + Hash;
     /// A watcher that keeps a run whole.

@@ -5,6 +5,7 @@ mod behind;
 
 pub mod archive;
 pub mod call;
+mod draws;
 pub mod history;
 pub mod planted;
 pub mod played;

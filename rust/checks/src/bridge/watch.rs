@@ -5,42 +5,18 @@ use super::promises::Promises;
 use super::rule::Rule;
 use super::seen::{seen, Seen};
 use super::TheBridge;
+use crate::few::Few;
 use crate::machine::{Made, Watcher};
+use crate::part;
 use model::{Bridge, Ring};
-
-/// At most eight bytes in their order.
-#[derive(Clone, Copy, Debug, Default, PartialEq, Eq, Hash)]
-struct Few {
-    bytes: [u8; 8],
-    len: u8,
-}
-
-impl Few {
-    fn bytes(&self) -> &[u8] {
-        &self.bytes[..usize::from(self.len)]
-    }
-
-    fn push(&mut self, byte: u8) {
-        self.bytes[usize::from(self.len)] = byte;
-        self.len += 1;
-    }
-
-    /// Removes the first bytes; places behind the last byte are 0 again.
-    fn remove(&mut self, count: usize) {
-        let left = self.bytes().len() - count;
-        self.bytes.rotate_left(count);
-        self.bytes[left..].fill(0);
-        self.len = left as u8;
-    }
-}
 
 /// What is known of a run from its calls and answers.
 #[derive(Clone, Copy, Debug, PartialEq, Eq, Hash)]
 pub struct Watch {
     /// Accepted from the line and not read off by the reading rule.
-    unread: Few,
+    unread: Few<u8>,
     /// Added by frames and not handed out.
-    waiting: Few,
+    waiting: Few<u8>,
     promises: Promises,
 }
 
@@ -75,14 +51,14 @@ impl Watch {
         after: &Bridge,
         stores: [&[u8]; 2],
     ) -> Result<(), String> {
-        let read = Rule::of(&before.registers).send(self.unread.bytes());
+        let read = Rule::of(&before.registers).send(self.unread.cells());
         match (seen, read) {
             (Seen::Accepted(byte), _) => self.unread.push(byte),
             (Seen::Sent(frame), (gone, Some(first))) if frame == first => self.unread.remove(gone),
             (Seen::SentNone, (gone, None)) => self.unread.remove(gone),
             (Seen::Sent(_) | Seen::SentNone, _) => return Err("another frame is due".into()),
             (Seen::Added(bytes, len), _) => bytes[..len].iter().for_each(|&b| self.waiting.push(b)),
-            (Seen::HandedOut(byte), _) if self.waiting.bytes().first() == Some(&byte) => {
+            (Seen::HandedOut(byte), _) if self.waiting.cells().first() == Some(&byte) => {
                 self.waiting.remove(1)
             }
             (Seen::HandedOut(_), _) => return Err("another line byte is due".into()),
@@ -92,8 +68,8 @@ impl Watch {
             }
             _ => {}
         }
-        holds(after.receive, stores[0], self.unread.bytes())?;
-        holds(after.transmit, stores[1], self.waiting.bytes())?;
+        holds(after.receive, stores[0], self.unread.cells())?;
+        holds(after.transmit, stores[1], self.waiting.cells())?;
         counted(seen, before, after)?;
         self.promises.note(before, seen, after)
     }
@@ -101,17 +77,13 @@ impl Watch {
     /// Holds a shown part, given as start and length, to what the side holds.
     fn shown(&self, side: u32, part: u64, stores: [&[u8]; 2]) -> Result<(), String> {
         let (held, store) = match side {
-            0 => (self.unread.bytes(), stores[0]),
-            1 => (self.waiting.bytes(), stores[1]),
+            0 => (self.unread.cells(), stores[0]),
+            1 => (self.waiting.cells(), stores[1]),
             _ => (&[][..], &[][..]),
         };
-        let (start, len) = ((part >> 32) as usize, (part & 0xffff_ffff) as usize);
-        let bytes = store.get(start..start + len);
-        let longest = len == held.len() || len > 0 && start + len == store.len();
-        match bytes {
-            Some(bytes) if longest && held.starts_with(bytes) => Ok(()),
-            _ => Err("another part is due".into()),
-        }
+        part::due(part, store.len(), held.len(), |place, index| {
+            store[place] == held[index]
+        })
     }
 }
 

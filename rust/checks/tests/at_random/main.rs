@@ -4,24 +4,21 @@
 //! number, to `fresh` for runs that nobody has seen. With `AT_RANDOM=long` there are thirty times
 //! as many. A run that shows a difference is made short and printed as a script for replay.
 
-mod damage;
 mod planted;
-mod runs;
-mod sizes;
-mod states;
-mod steps;
 
 use model::boundary::{BYTE, DONE, FRAME, NONE, REFUSED};
 use raftershim_checks::bridge::{TheBridge, ARCHIVE, PEER};
 use raftershim_checks::machine::Machine;
-use runs::{FROM_CREATE, FROM_STATES, ON_DAMAGED};
+use raftershim_checks::runs;
+
+type Kind = runs::Kind<TheBridge>;
 
 /// The kinds of answers that the bridge has.
 const KINDS: [u64; 5] = [DONE, NONE, BYTE, FRAME, REFUSED];
 
 #[test]
 fn runs_from_create() {
-    let tally = FROM_CREATE.held("runs from create", TheBridge::BOTH);
+    let tally = Kind::FROM_CREATE.held("runs from create", TheBridge::BOTH);
     tally.assert_refusals(&[3, 4, 5, 6, 7, 8]);
     tally.assert_answers_and_rows(&KINDS);
 }
@@ -29,7 +26,7 @@ fn runs_from_create() {
 #[test]
 fn runs_from_states_that_calls_never_reach() {
     let name = "runs from states that calls never reach";
-    let tally = FROM_STATES.held(name, TheBridge::BOTH);
+    let tally = Kind::FROM_STATES.held(name, TheBridge::BOTH);
     tally.assert_refusals(&[3, 4, 5, 6, 7, 8]);
     tally.assert_answers_and_rows(&KINDS);
 }
@@ -37,7 +34,7 @@ fn runs_from_states_that_calls_never_reach() {
 #[test]
 fn damaged_blocks_and_other_lengths() {
     let name = "damaged blocks and other lengths";
-    let tally = ON_DAMAGED.held(name, TheBridge::BOTH);
+    let tally = Kind::ON_DAMAGED.held(name, TheBridge::BOTH);
     tally.assert_refusals(&[1, 2, 3, 4, 5, 6, 7, 8]);
 }
 
@@ -45,10 +42,10 @@ fn damaged_blocks_and_other_lengths() {
 #[test]
 fn the_peer_beside_the_archive() {
     let both = [PEER, ARCHIVE];
-    let tally = FROM_CREATE.held("peer, from create", both);
+    let tally = Kind::FROM_CREATE.held("peer, from create", both);
     tally.assert_refusals(&[3, 4, 5, 6, 7, 8]);
     tally.assert_answers_and_rows(&KINDS);
-    FROM_STATES.held("peer, from states", both);
-    let tally = ON_DAMAGED.held("peer, damaged blocks", both);
+    Kind::FROM_STATES.held("peer, from states", both);
+    let tally = Kind::ON_DAMAGED.held("peer, damaged blocks", both);
     tally.assert_refusals(&[1, 2, 3, 4, 5, 6, 7, 8]);
 }

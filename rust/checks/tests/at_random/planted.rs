@@ -1,7 +1,7 @@
 //! Faults that are planted on purpose: the draws find each, and the script that is told is short,
 //! is read as it was printed, and leads to the same difference again.
 
-use crate::runs::{FROM_CREATE, FROM_STATES, ON_DAMAGED};
+use crate::Kind;
 use raftershim_checks::bridge::played::play;
 use raftershim_checks::bridge::{planted, TheBridge, MODEL};
 use raftershim_checks::implementation;
@@ -40,7 +40,9 @@ fn stores_of(fault: Implementation, told: &str) -> (usize, usize) {
 #[test]
 fn a_byte_that_is_lost_silently() {
     let fault = planted::SILENT_LOSS;
-    let found = FROM_CREATE.found([fault, MODEL]).expect("it is found");
+    let found = Kind::FROM_CREATE
+        .found([fault, MODEL])
+        .expect("it is found");
     let (receive, _) = stores_of(fault, &found.told);
     // Nothing is left but the bytes that fill the store and the one that is lost.
     assert_eq!(found.steps, receive + 1, "{}", found.told);
@@ -50,7 +52,9 @@ fn a_byte_that_is_lost_silently() {
 #[test]
 fn a_place_that_is_not_written() {
     let fault = planted::LAST_PLACE_UNWRITTEN;
-    let found = FROM_CREATE.found([fault, MODEL]).expect("it is found");
+    let found = Kind::FROM_CREATE
+        .found([fault, MODEL])
+        .expect("it is found");
     let (receive, _) = stores_of(fault, &found.told);
     assert_eq!(found.steps, receive, "{}", found.told);
 }
@@ -58,7 +62,9 @@ fn a_place_that_is_not_written() {
 #[test]
 fn a_refused_call_that_changes_the_state() {
     let fault = planted::REFUSED_YET_CHANGED;
-    let found = FROM_CREATE.found([fault, MODEL]).expect("it is found");
+    let found = Kind::FROM_CREATE
+        .found([fault, MODEL])
+        .expect("it is found");
     assert!(found
         .told
         .starts_with("refused or shown, yet block place 55"));
@@ -70,8 +76,10 @@ fn a_refused_call_that_changes_the_state() {
 #[test]
 fn a_count_that_stops_at_its_largest_number() {
     let fault = planted::STUCK_COUNT;
-    assert!(FROM_CREATE.found([fault, MODEL]).is_none());
-    let found = FROM_STATES.found([fault, MODEL]).expect("it is found");
+    assert!(Kind::FROM_CREATE.found([fault, MODEL]).is_none());
+    let found = Kind::FROM_STATES
+        .found([fault, MODEL])
+        .expect("it is found");
     // Its script fills the stores and restores the block.
     stores_of(fault, &found.told);
     // Talk and send data, at most.
@@ -83,8 +91,9 @@ fn a_count_that_stops_at_its_largest_number() {
 fn a_block_of_another_version_that_is_taken() {
     let fault = planted::ANOTHER_VERSION_TAKEN;
     assert!(
-        FROM_CREATE.found([fault, MODEL]).is_none() && FROM_STATES.found([fault, MODEL]).is_none()
+        Kind::FROM_CREATE.found([fault, MODEL]).is_none()
+            && Kind::FROM_STATES.found([fault, MODEL]).is_none()
     );
-    let found = ON_DAMAGED.found([fault, MODEL]).expect("it is found");
+    let found = Kind::ON_DAMAGED.found([fault, MODEL]).expect("it is found");
     assert!(found.steps <= 1, "{}", found.told);
 }

@@ -1,44 +1,24 @@
 //! States with every field drawn from its range, most of which calls never reach.
 
-use crate::sizes::{sizes, Sizes};
+use super::sizes::sizes;
+use crate::bridge::TheBridge;
+use crate::random::Random;
+use crate::runs::Drawn;
 use model::{block, Bridge, Registers, Ring};
-use raftershim_checks::random::Random;
-
-/// A state with its stores.
-#[derive(Clone)]
-pub struct Drawn {
-    pub bridge: Bridge,
-    pub rx: Vec<u8>,
-    pub tx: Vec<u8>,
-}
-
-impl std::fmt::Debug for Drawn {
-    fn fmt(&self, f: &mut std::fmt::Formatter) -> std::fmt::Result {
-        write!(f, "{:?}", self.bridge)
-    }
-}
-
-impl Drawn {
-    /// The block of the state.
-    pub fn block(&self) -> [u8; block::LEN] {
-        block::pack(&self.bridge)
-    }
-
-    pub fn stores(&self) -> [&[u8]; 2] {
-        [&self.rx, &self.tx]
-    }
-}
 
 /// Characters that registers hold, and all but the last stores too; few so that they meet.
 const CHARACTERS: [u8; 6] = [13, 10, 17, 19, 50, 0];
 
 /// A state that fits its stores.
-pub fn state(random: &mut Random) -> Drawn {
-    let sizes = sizes(random);
-    let bridge = bridge(sizes, random);
-    assert!(bridge.fits(sizes.rx_len, sizes.tx_len));
-    let (rx, tx) = (store(random, sizes.rx_len), store(random, sizes.tx_len));
-    Drawn { bridge, rx, tx }
+pub fn state(random: &mut Random) -> Drawn<TheBridge> {
+    let (lens, margin) = sizes(random);
+    let state = bridge(lens, margin, random);
+    assert!(state.fits(lens[0], lens[1]));
+    Drawn {
+        block: block::pack(&state).to_vec(),
+        state,
+        stores: lens.map(|len| store(random, len)),
+    }
 }
 
 /// A store of characters, eight from each number drawn.
@@ -79,12 +59,12 @@ fn count(random: &mut Random) -> u32 {
     random.one_of(&[u32::MAX, 0, 0xffff, 0xff])
 }
 
-fn bridge(sizes: Sizes, random: &mut Random) -> Bridge {
+fn bridge(lens: [usize; 2], margin: u32, random: &mut Random) -> Bridge {
     let talker = random.below(4) as u8;
     Bridge {
-        receive_len: sizes.rx_len,
-        transmit_len: sizes.tx_len,
-        margin: sizes.margin as usize,
+        receive_len: lens[0],
+        transmit_len: lens[1],
+        margin: margin as usize,
         registers: registers(random),
         address: random.below(32) as u8,
         talker,
@@ -93,8 +73,8 @@ fn bridge(sizes: Sizes, random: &mut Random) -> Bridge {
         remote: random.flag(),
         under_way: random.below(1024) as u16,
         finishing: random.flag(),
-        receive: ring(random, sizes.rx_len),
-        transmit: ring(random, sizes.tx_len),
+        receive: ring(random, lens[0]),
+        transmit: ring(random, lens[1]),
         holding: random.flag(),
         forbidden: random.flag(),
         stop_sent_last: random.flag(),

@@ -1,20 +1,12 @@
 //! Sizes of stores and margins.
 
-use raftershim_checks::random::Random;
+use crate::random::Random;
 
 /// The largest store.
 const LARGEST: usize = 32_768;
 
-/// Lengths of the two stores, and the margin.
-#[derive(Clone, Copy, Debug)]
-pub struct Sizes {
-    pub rx_len: usize,
-    pub tx_len: usize,
-    pub margin: u32,
-}
-
-/// Sizes that are obeyed; small ones often, since those fill.
-pub fn sizes(random: &mut Random) -> Sizes {
+/// Sizes that are obeyed, lengths and margin; small ones often, since those fill.
+pub fn sizes(random: &mut Random) -> ([usize; 2], u32) {
     let (rx_len, tx_len, margin) = match random.below(24) {
         0..=5 => (4, 3, 1),
         6..=19 => {
@@ -31,9 +23,5 @@ pub fn sizes(random: &mut Random) -> Sizes {
             (rx_len, random.within(3..=LARGEST), margin)
         }
     };
-    Sizes {
-        rx_len,
-        tx_len,
-        margin: margin as u32,
-    }
+    ([rx_len, tx_len], margin as u32)
 }

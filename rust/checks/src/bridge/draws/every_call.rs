@@ -1,6 +1,6 @@
 //! The calls that are made on damaged blocks.
 
-use raftershim_checks::bridge::call::{frame, Call};
+use crate::bridge::call::{frame, Call};
 
 /// Every call once, with numbers in and out of range.
 pub fn every_call(number: u32) -> Vec<Call> {

@@ -1,10 +1,9 @@
-//! The steps of a run: calls, and calls that depend on the state of the moment.
+//! What steps do: calls, and calls that depend on the state of the moment.
 
+use crate::bridge::call::{frame, Call};
+use crate::bridge::TheBridge;
+use crate::drive;
 use model::{Bridge, ADDRESSED, IDLE, SERVICE, UNASSIGNED};
-use raftershim_checks::bridge::call::{frame, Call};
-use raftershim_checks::bridge::TheBridge;
-use raftershim_checks::drive;
-use raftershim_checks::random::Random;
 
 /// What a step does.
 #[derive(Clone, Copy, Debug)]
@@ -21,23 +20,7 @@ pub enum What {
     ToUs(u32),
 }
 
-/// A step: a thing that is often done several times in a row.
-#[derive(Clone, Copy, Debug)]
-pub struct Step {
-    what: What,
-    /// How often it is done already in this row.
-    done: u8,
-}
-
-impl drive::Step<TheBridge> for Step {
-    /// The call in this state.
-    fn call(self, state: &Bridge) -> Call {
-        self.what.call(state, self.done)
-    }
-}
-
-impl What {
-    /// The call in this state, if it is done this often already.
+impl drive::What<TheBridge> for What {
     fn call(self, state: &Bridge, done: u8) -> Call {
         match self {
             What::Make(call) => call,
@@ -53,20 +36,9 @@ impl What {
     }
 }
 
-/// The steps of so many rows, from one on and below a bound.
-pub fn steps(random: &mut Random, rows: usize) -> Vec<Step> {
-    let rows = random.within(1..=rows - 1);
-    let row = |_| {
-        let (what, most) = what(random.below(66), random.word());
-        let times = random.within(1..=most.into()) as u8;
-        (0..times).map(move |done| Step { what, done })
-    };
-    (0..rows).flat_map(row).collect()
-}
-
 /// What is done, and how often at most: weighted so that stores fill, frames return and status is
 /// under way often.
-fn what(kind: usize, number: u32) -> (What, u8) {
+pub fn what(kind: usize, number: u32) -> (What, u8) {
     let of = |calls: &[Call]| What::Make(calls[number as usize % calls.len()]);
     match kind {
         0..=3 => (What::Make(Call::Next), 8),
