@@ -99,8 +99,12 @@ impl<M: Machine> Search<'_, M> {
         let before = self.plan.state(&node.lasting);
         for letter in self.plan.letters {
             let call = match *letter {
-                Letter::Make(call) => call,
+                Letter::Make(call) => Some(call),
                 Letter::Back(change) => M::back(&before, change),
+            };
+            let call = match call {
+                Some(call) => call,
+                None => continue,
             };
             let step = self.plan.step(node, &before, call);
             let (next, answer, rows) =

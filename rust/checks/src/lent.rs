@@ -8,6 +8,17 @@ pub struct Lent<'a, C> {
     pub stores: [&'a mut [C]; 2],
 }
 
+impl<C> Lent<'_, C> {
+    /// The same buffers once more.
+    pub fn again(&mut self) -> Lent<'_, C> {
+        let [one, other] = &mut self.stores;
+        Lent {
+            block: self.block,
+            stores: [one, other],
+        }
+    }
+}
+
 /// Cells before and after each buffer, which no call may write.
 const GUARD: usize = 16;
 

@@ -32,6 +32,8 @@ pub trait Machine: Copy + Debug + Eq + Hash + 'static {
     type Run: Watcher<Self>;
     /// How long a block is.
     const BLOCK_LEN: usize;
+    /// What its first byte is.
+    const VERSION: u8;
     /// What the two stores are called.
     const STORES: [&'static str; 2];
     /// What a watcher counts, by the bits of what it saw.
@@ -42,11 +44,14 @@ pub trait Machine: Copy + Debug + Eq + Hash + 'static {
     /// The state in a block, if it is one.
     fn state(block: &[u8]) -> Option<Self::State>;
 
+    /// Writes a state to its block.
+    fn pack(state: &Self::State, block: &mut [u8]);
+
     /// Whether a call only shows something and changes nothing.
     fn shows(call: Self::Call) -> bool;
 
-    /// The frame under way comes back with these bits changed.
-    fn back(state: &Self::State, change: u16) -> Self::Call;
+    /// The frame under way comes back with these bits changed; `None` where that cannot come.
+    fn back(state: &Self::State, change: u16) -> Option<Self::Call>;
 
     /// Takes what only counts out of a block, so that states that differ in nothing else are one.
     fn forget_counts(_block: &mut [u8]) {}

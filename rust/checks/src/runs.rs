@@ -50,6 +50,15 @@ impl<M: Machine> fmt::Debug for Drawn<M> {
     }
 }
 
+/// The place of the oldest cell of a ring, and how many it holds: mostly near full or near empty.
+pub fn places(random: &mut Random, len: usize) -> [usize; 2] {
+    let few = random.below(usize::min(len, 5));
+    [
+        random.one_of(&[0, few, len - 1 - few, len / 2]),
+        random.one_of(&[len - few, len, few, len / 2]),
+    ]
+}
+
 /// A kind of runs, and how many of them are drawn.
 #[derive(Clone, Copy)]
 pub struct Kind<M: Machine> {

@@ -7,6 +7,7 @@ use raftershim_checks::answer::{framed, refused, DONE};
 use raftershim_checks::bridge::archive;
 use raftershim_checks::bridge::call::{frame, Call};
 use raftershim_checks::bridge::Pair;
+use raftershim_checks::edges::every_byte_at_every_value;
 
 #[test]
 fn sizes_of_create() {
@@ -104,12 +105,9 @@ fn sides_that_do_not_exist() {
     println!("edges, show: 2 sides, {neither} that are neither");
 }
 
-/// Whether these buffers hold a state that fits: then no call is refused 2, and else every call is.
-fn fits(block: &[u8], rx: &[u8], tx: &[u8]) -> bool {
-    let mut pair = Pair::holding(block, rx, tx);
-    for side in 0..2 {
-        pair.ask(Call::Show(side));
-    }
+#[test]
+fn every_byte_of_the_block_at_every_value() {
+    let mut counts = [0; 2];
     let calls = [
         Call::Break,
         frame(0, 9),
@@ -117,34 +115,16 @@ fn fits(block: &[u8], rx: &[u8], tx: &[u8]) -> bool {
         Call::Line(13),
         Call::Reset,
     ];
-    let misfits = calls.map(|call| pair.ask(call) == refused(2));
-    assert_eq!(misfits, [misfits[0]; 5], "{}", pair.script());
-    !misfits[0]
-}
-
-#[test]
-fn every_byte_of_the_block_at_every_value() {
-    let (mut states, mut misfits) = (0, 0);
     // The second has room for a margin of 1,025.
     for (rx_len, tx_len) in [(4, 3), (2052, 300)] {
         let mut good = Pair::create(rx_len, tx_len, 1);
         for call in [frame(5, 129), frame(4, 33), frame(2, 65), Call::Line(50)] {
             good.ask(call);
         }
-        let buffers = good.buffers();
-        let ([rx, tx], mut block) = (buffers.stores(), buffers.block().to_vec());
-        for place in 0..LEN {
-            for byte in 0..=255 {
-                block[place] = byte;
-                if fits(&block, rx, tx) {
-                    states += 1;
-                } else {
-                    misfits += 1;
-                }
-            }
-            block[place] = buffers.block()[place];
-        }
+        let [states, misfits] = every_byte_at_every_value(&good, &calls);
+        counts = [counts[0] + states, counts[1] + misfits];
     }
+    let [states, misfits] = counts;
     assert!(states > 0 && misfits > 0);
     println!("edges, blocks: {states} are states that fit, {misfits} refused 2 by every call");
 }

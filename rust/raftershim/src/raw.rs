@@ -1,18 +1,22 @@
 //! The C functions of the archive, as its header `raftershim.h` declares them.
 //!
-//! [`Bridge`](crate::Bridge) calls them safely; this module is for a caller that lends buffers of
-//! its own. Every function but [`raftershim_block_len`] and [`raftershim_show`] answers a word that
-//! [`Answer::of`](crate::Answer::of) reads.
+//! [`Bridge`](crate::Bridge) and [`Mailbox`](crate::Mailbox) call them safely; this module is for a
+//! caller that lends buffers of its own. Every function answers a word, which
+//! [`Answer::of`](crate::Answer::of) reads for the bridge and
+//! [`Answer::of_mailbox`](crate::Answer::of_mailbox) for the mailbox. The lengths of blocks and what
+//! shows a store are no such words.
 //!
 //! # Safety
 //!
-//! A function that takes buffers takes three, each as a pointer and a length: the block, the
-//! receive store `rx` and the transmit store `tx`. A length has 64 bits on every target. A pointer
-//! is not null and is good for reading its length in bytes, and for writing them where it is a
-//! `*mut u8`. The three do not overlap, and nobody else uses them during the call. Nothing is asked
-//! of what the buffers hold: a block that is not a state, or does not fit the stores, is refused. A
-//! bridge goes on from call to call only if the three are the same at every call and untouched in
-//! between.
+//! A function that takes buffers takes three, each as a pointer and a length: the block and two
+//! stores. Those of the bridge are the receive store `rx` and the transmit store `tx`, of bytes;
+//! those of the mailbox are `to_bus` and `to_loop`, of cells of 16 bits. A length has 64 bits on
+//! every target and counts bytes of a block or a bridge's store, and cells of a mailbox's store. A
+//! pointer is not null, is aligned, and is good for reading its length, and for writing it where it
+//! is a `*mut`. The three do not overlap, and nobody else uses them during the call. Nothing is
+//! asked of what the buffers hold: a block that is not a state, or does not fit the stores, is
+//! refused. A bridge or a mailbox goes on from call to call only if the three are the same at every
+//! call and untouched in between.
 //!
 //! ```
 //! use raftershim::{raw, Answer, BLOCK_LEN};
@@ -28,8 +32,12 @@
 //! assert_eq!(rx[0], 50);
 //! ```
 
+mod mailbox;
+
+pub use mailbox::*;
+
 extern "C" {
-    /// The length in bytes that every block has. It is never refused.
+    /// The length in bytes that every block of a bridge has. It is never refused.
     ///
     /// # Safety
     ///

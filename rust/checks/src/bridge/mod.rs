@@ -64,6 +64,7 @@ impl Machine for TheBridge {
     type Watch = watch::Watch;
     type Run = run::Run;
     const BLOCK_LEN: usize = block::LEN;
+    const VERSION: u8 = block::VERSION;
     const STORES: [&'static str; 2] = ["receive store", "transmit store"];
     const ROWS: &'static [&'static str] = seen::ROWS;
     const BOTH: Both<TheBridge> = [ARCHIVE, MODEL];
@@ -72,12 +73,17 @@ impl Machine for TheBridge {
         block::unpack(block)
     }
 
+    fn pack(state: &Bridge, block: &mut [u8]) {
+        block.copy_from_slice(&block::pack(state));
+    }
+
     fn shows(call: Call) -> bool {
         matches!(call, Call::Show(_))
     }
 
-    fn back(state: &Bridge, change: u16) -> Call {
-        Call::Frame((state.under_way ^ change).into())
+    /// Where none is under way it is a frame of another talker.
+    fn back(state: &Bridge, change: u16) -> Option<Call> {
+        Some(Call::Frame((state.under_way ^ change).into()))
     }
 
     /// The three counts would make every state new, so they are 0 in all states that are taken up;

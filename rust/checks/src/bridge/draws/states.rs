@@ -3,7 +3,7 @@
 use super::sizes::sizes;
 use crate::bridge::TheBridge;
 use crate::random::Random;
-use crate::runs::Drawn;
+use crate::runs::{places, Drawn};
 use model::{block, Bridge, Registers, Ring};
 
 /// Characters that registers hold, and all but the last stores too; few so that they meet.
@@ -30,13 +30,9 @@ fn store(random: &mut Random, len: usize) -> Vec<u8> {
         .collect()
 }
 
-/// Mostly near full or near empty.
 fn ring(random: &mut Random, len: usize) -> Ring {
-    let few = random.below(usize::min(len, 5));
-    Ring {
-        oldest: random.one_of(&[0, few, len - 1 - few, len / 2]),
-        held: random.one_of(&[len - few, len, few, len / 2]),
-    }
+    let [oldest, held] = places(random, len);
+    Ring { oldest, held }
 }
 
 fn registers(random: &mut Random) -> Registers {

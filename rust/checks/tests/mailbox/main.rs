@@ -1,0 +1,7 @@
+//! The mailbox: the archive beside the model in every order of calls on the smallest stores and at
+//! all edges, and with answers written by hand.
+
+mod by_hand;
+mod edges;
+mod every_order;
+mod planted;
