@@ -244,7 +244,8 @@ impl<L: Left> History<L> {
         if clears {
             self.to_bus.clear();
         }
-        TO_BUS_CLEARED * u32::from(clears) | CUT_OFF * u32::from(cut_off)
+        let cleared = if clears { TO_BUS_CLEARED } else { 0 };
+        cleared | if cut_off { CUT_OFF } else { 0 }
     }
 
     /// A ready frame.

@@ -1,31 +1,20 @@
 //! Cells that were left and are not fetched, oldest first.
 
 use crate::few::Few;
-use std::collections::VecDeque;
 
-/// A queue of cells: a few of them, or as many as there are.
+/// A queue of cells.
 pub trait Left: Clone + Default {
-    fn len(&self) -> usize;
-
-    fn cell(&self, index: usize) -> u16;
+    fn cells(&self) -> &[u16];
 
     fn push(&mut self, cell: u16);
 
     /// Removes the oldest.
     fn pop(&mut self);
-
-    fn is_empty(&self) -> bool {
-        self.len() == 0
-    }
 }
 
 impl Left for Few<u16> {
-    fn len(&self) -> usize {
-        self.cells().len()
-    }
-
-    fn cell(&self, index: usize) -> u16 {
-        self.cells()[index]
+    fn cells(&self) -> &[u16] {
+        Few::cells(self)
     }
 
     fn push(&mut self, cell: u16) {
@@ -37,20 +26,23 @@ impl Left for Few<u16> {
     }
 }
 
-impl Left for VecDeque<u16> {
-    fn len(&self) -> usize {
-        VecDeque::len(self)
-    }
+/// As many cells as there are, with those that are gone.
+#[derive(Clone, Debug, Default)]
+pub struct All {
+    cells: Vec<u16>,
+    gone: usize,
+}
 
-    fn cell(&self, index: usize) -> u16 {
-        self[index]
+impl Left for All {
+    fn cells(&self) -> &[u16] {
+        &self.cells[self.gone..]
     }
 
     fn push(&mut self, cell: u16) {
-        self.push_back(cell);
+        self.cells.push(cell);
     }
 
     fn pop(&mut self) {
-        self.pop_front();
+        self.gone += 1;
     }
 }

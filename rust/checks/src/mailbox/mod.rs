@@ -15,7 +15,6 @@ use crate::machine::Machine;
 use crate::written::Beginning;
 use call::Call;
 use mailbox_model::{block, Mailbox, ACTIVE_DATA};
-use std::collections::VecDeque;
 use std::fmt;
 
 /// The machine that is the mailbox.
@@ -47,7 +46,7 @@ impl Machine for TheMailbox {
     type Call = Call;
     type State = Mailbox;
     type Watch = history::History<Few<u16>>;
-    type Run = history::History<VecDeque<u16>>;
+    type Run = history::History<left::All>;
     const BLOCK_LEN: usize = block::LEN;
     const VERSION: u8 = block::VERSION;
     const STORES: [&'static str; 2] = ["store to the bus", "store to the loop"];

@@ -47,12 +47,12 @@ impl<L: Left> Way<L> {
     }
 
     pub fn waits(&self) -> usize {
-        self.left.len()
+        self.left.cells().len()
     }
 
     /// A cell is left.
     pub fn leave(&mut self, cell: u16) {
-        if self.left.is_empty() {
+        if self.waits() == 0 {
             self.tell(true);
         }
         self.left.push(cell);
@@ -60,10 +60,13 @@ impl<L: Left> Way<L> {
 
     /// This cell is fetched.
     pub fn fetch(&mut self, cell: u16) -> Law {
-        let oldest = !self.left.is_empty() && self.left.cell(0) == cell;
-        law(oldest, "what is fetched is not the oldest that was left")?;
+        let oldest = self.left.cells().first();
+        law(
+            oldest == Some(&cell),
+            "what is fetched is not the oldest that was left",
+        )?;
         self.left.pop();
-        if self.left.is_empty() {
+        if self.waits() == 0 {
             self.tell(false);
         }
         Ok(())
@@ -104,24 +107,41 @@ impl<L: Left> Way<L> {
 
     /// Holds a way after a call to this history.
     pub fn held_to(&self, way: &model::Way, store: &[u16]) -> Law {
-        let place = |index| store[(way.ring.oldest + index) % store.len()] & COUNTS;
-        let waits = way.ring.held == self.left.len()
-            && (0..way.ring.held).all(|index| place(index) == self.left.cell(index));
-        law(waits, "what waits is not what was left and not fetched")?;
+        let (oldest, held) = (way.ring.oldest, way.ring.held);
+        let first = usize::min(held, store.len() - oldest);
+        let parts = [&store[oldest..oldest + first], &store[..held - first]];
+        law(
+            self.left_in(parts),
+            "what waits is not what was left and not fetched",
+        )?;
         let told = (way.news.request, way.news.available, way.news.again);
         let due = (self.request, self.available, self.since_status);
         law(told == due, "request, available, again: not so by history")
     }
 
+    /// Whether these two parts of a store hold what was left and not fetched, and no more.
+    fn left_in(&self, parts: [&[u16]; 2]) -> bool {
+        let cells = self.left.cells();
+        let same = |cells: &[u16], part: &[u16]| {
+            let pairs = cells.iter().zip(part);
+            pairs.fold(true, |same, (one, other)| same & (*one == other & COUNTS))
+        };
+        let first = parts[0].len();
+        cells.len() == first + parts[1].len()
+            && same(&cells[..first], parts[0])
+            && same(&cells[first..], parts[1])
+    }
+
     /// Holds a part that is shown to what waits.
     pub fn shown(&self, part: u64, store: &[u16]) -> Law {
-        part::due(part, store.len(), self.left.len(), |place, index| {
-            store[place] & COUNTS == self.left.cell(index)
+        let cells = self.left.cells();
+        part::due(part, store.len(), cells.len(), |place, index| {
+            store[place] & COUNTS == cells[index]
         })
     }
 
     /// Whether what is told is told only while something waits.
     pub fn is_sound(&self) -> bool {
-        !self.left.is_empty() || !(self.request || self.available)
+        self.waits() > 0 || !(self.request || self.available)
     }
 }

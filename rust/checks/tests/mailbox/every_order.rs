@@ -319,16 +319,39 @@ fn identities() {
     ]);
 }
 
+/// All calls of these alphabets, each once.
+fn together(alphabets: &[&[Call]]) -> Vec<Call> {
+    let mut calls = Vec::new();
+    for call in alphabets.concat() {
+        if !calls.contains(&call) {
+            calls.push(call);
+        }
+    }
+    calls
+}
+
+#[test]
+fn all_that_moves_bytes_and_news_together() {
+    let calls = together(&[&BOTH_WAYS, &LISTENING, &TALKING, &SERIAL_POLLS]);
+    for lens in [[1, 1], [2, 1], [1, 2]] {
+        let found = run("bytes and news", lens, &calls, EVERY_STATE);
+        found.assert_refusals(&[4]);
+        found.assert_met(&["bytes fetched by the loop", "bytes fetched by the bus"]);
+        found.assert_met(&["status bytes back", "status bytes read by the bus"]);
+    }
+    run("bytes and news", [2, 2], &calls, first_states());
+}
+
 #[test]
 fn all_together() {
     let more = [
-        ENABLE_NOT_READY,
         SEND_ID,
         frame(4, 136),
         CONFIGURE,
         Command(99),
         frame(5, 131),
+        Frame(2048),
     ];
-    let calls = [&BOTH_WAYS[..], &LISTENING, &TALKING, &SERIAL_POLLS, &more].concat();
+    let calls = together(&[&BOTH_WAYS, &LISTENING, &TALKING, &SERIAL_POLLS, &more]);
     run("all together", [2, 2], &calls, first_states());
 }
