@@ -1,6 +1,7 @@
 //! The three works: what each sets up, and the calls of one round.
 
-use crate::call::{data_frame, is_byte, Call};
+use super::Call;
+use crate::machine::{data_frame, is_byte};
 
 /// Our address on the loop.
 const ADDRESS: u32 = 1;
@@ -37,19 +38,10 @@ pub enum Work {
 }
 
 impl Work {
-    /// The work of this name.
-    pub fn named(name: &str) -> Option<Work> {
-        match name {
-            "meter" => Some(Work::Meter),
-            "print" => Some(Work::Print),
-            "status" => Some(Work::Status),
-            _ => None,
-        }
-    }
-
-    /// The calls before the first round: create, registers, our address.
-    pub fn set_up(self, margin: u32) -> Vec<Call> {
-        let mut calls = vec![Call::Create(margin)];
+    /// The calls before the first round: create, registers, our address. The margin is an eighth of
+    /// the store, and no more than is allowed.
+    pub fn set_up(self, store: usize) -> Vec<Call> {
+        let mut calls = vec![Call::Create((store / 8).clamp(1, 1024) as u32)];
         match self {
             Work::Meter => calls.push(Call::WriteRegister(10, 8)),
             Work::Print => calls.push(Call::WriteRegister(10, 4)),
@@ -75,7 +67,7 @@ impl Work {
     pub fn crosses(self, call: Call, answer: u64) -> bool {
         match self {
             Work::Meter | Work::Status => data_frame(answer).is_some(),
-            Work::Print => matches!(call, Call::NextLineByte) && is_byte(answer),
+            Work::Print => matches!(call, Call::NextLineByte()) && is_byte(answer),
         }
     }
 }
@@ -101,12 +93,12 @@ fn print(make: &mut dyn FnMut(Call) -> u64) {
         make(Call::LoopFrame(frame));
     }
     make(Call::LoopFrame(END | u32::from(b'S')));
-    while is_byte(make(Call::NextLineByte)) {}
+    while is_byte(make(Call::NextLineByte())) {}
 }
 
 /// The loop asks for the status byte and returns it, over and over.
 fn status(make: &mut dyn FnMut(Call) -> u64) {
-    make(Call::Key);
+    make(Call::Key());
     for _ in 0..POLLS {
         make(TALK);
         if let Some(frame) = data_frame(make(SEND_STATUS)) {
