@@ -1,4 +1,4 @@
-//! The calls by the numbers that the C functions take.
+//! The calls by the numbers that the C functions take, and what a script has for them.
 
 use std::fmt;
 
@@ -30,12 +30,15 @@ impl fmt::Display for Call {
             Call::Frame(frame) => write!(f, "frame {}", script::FrameName(*frame)),
             Call::Command(command) => write!(f, "command {command}"),
             Call::Byte(byte, 0) => write!(f, "byte {byte}"),
-            Call::Byte(byte, end) => write!(f, "byte {byte} with the end mark {end}"),
+            Call::Byte(byte, 1) => write!(f, "byte {byte} end"),
+            Call::Byte(byte, end) => write!(f, "byte {byte} end # by the number {end}"),
             Call::Fetch => write!(f, "fetch"),
-            Call::Clear => write!(f, "interface clear"),
+            Call::Clear => write!(f, "clear"),
             Call::Lines => write!(f, "lines"),
             Call::Reset => write!(f, "reset"),
-            Call::Show(side) => write!(f, "show {side}"),
+            Call::Show(0) => write!(f, "show bus"),
+            Call::Show(1) => write!(f, "show loop"),
+            Call::Show(_) => write!(f, "# no script has the call {self:?}"),
         }
     }
 }

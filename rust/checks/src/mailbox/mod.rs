@@ -8,6 +8,7 @@ pub mod left;
 mod news;
 pub mod planted;
 pub mod second;
+mod written;
 
 use crate::few::Few;
 use crate::implementation::{Both, Implementation};
@@ -71,14 +72,6 @@ impl Machine for TheMailbox {
     }
 
     fn begins(beginning: &Beginning<u16>, f: &mut fmt::Formatter) -> fmt::Result {
-        match beginning {
-            Beginning::Created([to_bus, to_loop], address) => {
-                writeln!(f, "create {to_bus} {to_loop} {address}")
-            }
-            Beginning::Holding(block, [to_bus, to_loop]) => {
-                let lens = (to_bus.len(), to_loop.len());
-                writeln!(f, "# stores of {}, {}; block {block:?}", lens.0, lens.1)
-            }
-        }
+        written::begins(beginning, f)
     }
 }

@@ -2,7 +2,7 @@
 //! it, an end mark on its way, damage while the status byte is under way, and every order of bytes
 //! and frames. Answers are written from the rules.
 
-use crate::every_order::BUS;
+use crate::alphabets::BUS;
 use raftershim_checks::answer::{byte, end, framed, lines, refused, DONE, NONE};
 use raftershim_checks::mailbox::call::{frame, Call};
 use raftershim_checks::mailbox::Pair;

@@ -6,51 +6,12 @@
 //! `EVERY_ORDER=long` in the environment. At every transition answer, block and both stores are
 //! compared, and what was left and fetched is held to a history of calls and answers.
 
-use raftershim_checks::explore::{explore, Found, Letter, Plan};
-use raftershim_checks::implementation::Both;
+use crate::alphabets::*;
 use raftershim_checks::machine::Machine;
 use raftershim_checks::mailbox::call::{frame, Call};
 use raftershim_checks::mailbox::TheMailbox;
 use raftershim_checks::tally::Tally;
-use Call::{Byte, Clear, Command, Fetch, Frame, Lines, Reset, Show};
-
-/// The bus address of every mailbox here.
-pub const BUS: u32 = 7;
-/// A correct return, one with another service bit, and two damaged ones.
-const RETURNS: [Letter<Call>; 4] = [
-    Letter::Back(0),
-    Letter::Back(1 << 8),
-    Letter::Back(1),
-    Letter::Back(2 << 8),
-];
-/// On the loop, by the address that an unassigned mailbox answers to.
-const LISTEN: Call = frame(4, 47);
-const TALK: Call = frame(4, 79);
-const UNLISTEN: Call = frame(4, 63);
-const UNTALK: Call = frame(4, 95);
-/// Device clear, the same of a listener, interface clear, and a command that is none of ours.
-const CLEAR: Call = frame(4, 20);
-const SELECTED_CLEAR: Call = frame(4, 4);
-const INTERFACE_CLEAR: Call = frame(4, 144);
-const OTHER_COMMAND: Call = frame(4, 0);
-const ENABLE_NOT_READY: Call = frame(4, 15);
-/// Ready frames: send data, send status, both identities, finish or not ready.
-const SEND: Call = frame(5, 96);
-const SEND_STATUS: Call = frame(5, 97);
-const SEND_ID: Call = frame(5, 98);
-const SEND_ACCESSORY: Call = frame(5, 99);
-const NOT_READY: Call = frame(5, 66);
-const IDENTIFY: Call = frame(6, 0);
-/// The same on the bus.
-const BUS_LISTEN: Call = Command(32 + BUS);
-const BUS_TALK: Call = Command(64 + BUS);
-const BUS_UNLISTEN: Call = Command(63);
-const BUS_UNTALK: Call = Command(95);
-const BUS_DEVICE_CLEAR: Call = Command(20);
-const BUS_SELECTED_CLEAR: Call = Command(4);
-const SERIAL_POLL: Call = Command(24);
-const SERIAL_POLL_ENDS: Call = Command(25);
-const CONFIGURE: Call = Command(5);
+use Call::{Byte, Clear, Command, Fetch, Frame, Lines, Reset};
 
 /// No limit: the alphabet is small enough to reach all its states.
 const EVERY_STATE: usize = usize::MAX;
@@ -60,29 +21,6 @@ fn first_states() -> usize {
     match std::env::var("EVERY_ORDER").as_deref() {
         Ok("long") => 40_000_000,
         _ => 2_000_000,
-    }
-}
-
-/// An alphabet, and the stores on which it is explored.
-pub struct Alphabet<'a> {
-    pub lens: [usize; 2],
-    pub calls: &'a [Call],
-    pub limit: usize,
-}
-
-impl Alphabet<'_> {
-    /// Explores with these two, with all calls and all returns.
-    pub fn explored(&self, both: Both<TheMailbox>) -> Result<Found<TheMailbox>, String> {
-        let calls = self.calls.iter().copied().map(Letter::Make);
-        let letters: Vec<Letter<Call>> = calls.chain(RETURNS).collect();
-        explore(&Plan {
-            both,
-            lens: self.lens,
-            number: BUS,
-            start: &[],
-            letters: &letters,
-            limit: self.limit,
-        })
     }
 }
 
@@ -97,24 +35,6 @@ fn run(name: &str, lens: [usize; 2], calls: &[Call], limit: usize) -> Tally<TheM
     found.tally
 }
 
-/// What moves bytes on both ways.
-pub const BOTH_WAYS: [Call; 14] = [
-    LISTEN,
-    TALK,
-    frame(0, 1),
-    frame(2, 2),
-    SEND,
-    CLEAR,
-    BUS_LISTEN,
-    BUS_TALK,
-    Byte(1, 0),
-    Byte(2, 1),
-    Fetch,
-    BUS_DEVICE_CLEAR,
-    Show(0),
-    Show(1),
-];
-
 #[test]
 fn both_ways() {
     for lens in [[1, 1], [2, 1], [1, 2], [2, 2]] {
@@ -125,29 +45,6 @@ fn both_ways() {
         found.assert_met(&["ways to the bus cleared", "ways to the loop cleared"]);
     }
 }
-
-/// What a listener of the loop hears, with not ready.
-pub const LISTENING: [Call; 19] = [
-    LISTEN,
-    UNLISTEN,
-    ENABLE_NOT_READY,
-    OTHER_COMMAND,
-    SELECTED_CLEAR,
-    CLEAR,
-    NOT_READY,
-    frame(5, 64),
-    frame(0, 1),
-    frame(1, 1),
-    frame(2, 1),
-    frame(3, 2),
-    IDENTIFY,
-    BUS_TALK,
-    Fetch,
-    Lines,
-    BUS_LISTEN,
-    Byte(1, 0),
-    Show(0),
-];
 
 #[test]
 fn a_listener_of_the_loop() {
@@ -165,29 +62,6 @@ fn a_listener_of_the_loop() {
     found.assert_met(&["frames held back", "held frames released"]);
 }
 
-/// What the loop asks of a talker, with status under way.
-pub const TALKING: [Call; 19] = [
-    TALK,
-    UNTALK,
-    OTHER_COMMAND,
-    INTERFACE_CLEAR,
-    SEND,
-    SEND_STATUS,
-    SEND_ACCESSORY,
-    NOT_READY,
-    IDENTIFY,
-    frame(1, 9),
-    BUS_LISTEN,
-    BUS_UNLISTEN,
-    BUS_SELECTED_CLEAR,
-    BUS_DEVICE_CLEAR,
-    Byte(1, 0),
-    Byte(2, 1),
-    Clear,
-    Lines,
-    Show(1),
-];
-
 #[test]
 fn a_talker_of_the_loop_with_status_under_way() {
     for lens in [[1, 1], [1, 2]] {
@@ -197,30 +71,6 @@ fn a_talker_of_the_loop_with_status_under_way() {
         found.assert_met(&["bytes of an ID sent", "bytes of the bus not kept"]);
     }
 }
-
-/// Serial polls of the bus, with clears.
-pub const SERIAL_POLLS: [Call; 20] = [
-    LISTEN,
-    UNLISTEN,
-    CLEAR,
-    frame(0, 1),
-    frame(2, 2),
-    SERIAL_POLL,
-    SERIAL_POLL_ENDS,
-    BUS_TALK,
-    BUS_UNTALK,
-    BUS_LISTEN,
-    Command(0),
-    Command(64),
-    Command(32),
-    BUS_DEVICE_CLEAR,
-    Clear,
-    Fetch,
-    Lines,
-    Byte(1, 0),
-    Show(0),
-    Reset,
-];
 
 #[test]
 fn serial_polls() {

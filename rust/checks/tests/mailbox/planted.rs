@@ -1,7 +1,7 @@
 //! Wrong mailboxes: the very explorations find each, by a difference to the model, and by the
 //! history alone where two equal ones are compared.
 
-use crate::every_order::{Alphabet, BOTH_WAYS, LISTENING, SERIAL_POLLS, TALKING};
+use crate::alphabets::{Alphabet, BOTH_WAYS, LISTENING, SERIAL_POLLS, TALKING};
 use raftershim_checks::mailbox::{planted, MODEL};
 use raftershim_checks::written::script_in;
 
