@@ -38,7 +38,7 @@ pub struct Drawn<M: Machine> {
 }
 
 impl<M: Machine> Drawn<M> {
-    fn stores(&self) -> [&[M::Cell]; 2] {
+    pub fn stores(&self) -> [&[M::Cell]; 2] {
         let [one, other] = &self.stores;
         [one, other]
     }

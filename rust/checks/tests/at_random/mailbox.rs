@@ -1,9 +1,12 @@
 //! The mailbox at random, and the faults that the draws must find in it.
 
 use mailbox_model::boundary::{BYTE, DONE, FRAME, LINES, NONE, REFUSED};
+use raftershim_checks::draw::Draws;
 use raftershim_checks::machine::Machine;
-use raftershim_checks::mailbox::{planted, TheMailbox, MODEL};
-use raftershim_checks::runs;
+use raftershim_checks::mailbox::call::Call;
+use raftershim_checks::mailbox::{planted, Pair, TheMailbox, MODEL};
+use raftershim_checks::random::Random;
+use raftershim_checks::runs::{self, Drawable};
 
 type Kind = runs::Kind<TheMailbox>;
 
@@ -30,6 +33,30 @@ fn damaged_blocks_and_other_lengths() {
     let name = "mailbox, damaged blocks and other lengths";
     let tally = Kind::ON_DAMAGED.held(name, TheMailbox::BOTH);
     tally.assert_refusals(&[1, 2, 3, 4, 13]);
+}
+
+#[test]
+fn every_call_on_states_that_calls_never_reach() {
+    let draws = Draws::asked_for(250);
+    let mut random = Random::seeded(draws.seed);
+    let (mut states, mut calls) = (0, 0);
+    let frames = (0..2048).map(Call::Frame);
+    let commands = (0..128).map(Call::Command);
+    let bytes = [0, 1].map(|end| Call::Byte(200, end));
+    let others = [Call::Fetch, Call::Clear, Call::Lines, Call::Reset];
+    let all: Vec<Call> = frames.chain(commands).chain(bytes).chain(others).collect();
+    while states < draws.runs {
+        let drawn = TheMailbox::drawn(&mut random);
+        if drawn.stores().iter().any(|store| store.len() > 64) {
+            continue;
+        }
+        for &call in &all {
+            Pair::of(TheMailbox::BOTH, &drawn.block, drawn.stores()).ask(call);
+        }
+        states += 1;
+        calls += all.len();
+    }
+    println!("at random, mailbox: every call on {states} states, {calls} calls compared");
 }
 
 #[test]
