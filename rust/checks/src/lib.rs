@@ -21,6 +21,7 @@ pub mod mailbox;
 pub mod pair;
 pub mod part;
 pub mod planted;
+pub mod played;
 pub mod random;
 pub mod runs;
 pub mod shrink;

@@ -7,10 +7,10 @@
 //! is carried beside the bridge.
 
 use raftershim_checks::bridge::call::{frame, Call};
-use raftershim_checks::bridge::played::play;
 use raftershim_checks::bridge::{planted, TheBridge, MODEL};
 use raftershim_checks::explore::{explore, Letter, Plan};
 use raftershim_checks::machine::Machine;
+use raftershim_checks::played::play;
 use raftershim_checks::tally::Tally;
 use raftershim_checks::written::script_in;
 use script::Script;

@@ -2,22 +2,24 @@
 
 use core::fmt;
 
-use crate::{Frame, Refusal};
+use crate::{BusByte, BusLines, Frame, MailByte, Refusal};
 
 /// What a call answers when it is not refused, whichever call it is. It displays as a short plain
 /// text.
 ///
-/// The calls of a [`Bridge`](crate::Bridge) say more by their types: a frame, a line byte or none,
-/// what became of a byte, or nothing. Each of these becomes an answer where calls of all kinds are
-/// told in one way.
+/// The calls of a [`Bridge`](crate::Bridge) and of a [`Mailbox`](crate::Mailbox) say more by their
+/// types: a frame, a byte or none, what became of a byte, the bus lines, or nothing. Each of these
+/// becomes an answer where calls of all kinds are told in one way.
 ///
 /// ```
-/// use raftershim::{Answer, Frame};
+/// use raftershim::{Answer, Frame, MailByte};
 ///
 /// assert_eq!(Answer::Done.to_string(), "done");
 /// assert_eq!(Answer::None.to_string(), "no line byte");
 /// assert_eq!(Answer::from(Some(50)).to_string(), "line byte 50");
 /// assert_eq!(Answer::from(Frame::SEND_DATA).to_string(), "frame 5,96");
+/// let last = MailByte { byte: 53, end: true };
+/// assert_eq!(Answer::from(Some(last)).to_string(), "byte 53 for the bus, with EOI");
 /// ```
 #[derive(Clone, Copy, Debug, PartialEq, Eq, Hash)]
 #[non_exhaustive]
@@ -30,6 +32,12 @@ pub enum Answer {
     Byte(u8),
     /// The frame that goes on along the loop.
     Frame(Frame),
+    /// There is no byte for the bus to fetch.
+    NoBusByte,
+    /// The byte that the bus fetches.
+    BusByte(MailByte),
+    /// What the bus lines show.
+    Lines(BusLines),
 }
 
 /// An answer, or the refusal in its place.
@@ -46,7 +54,7 @@ pub enum Answer {
 pub type Answered = Result<Answer, Refusal>;
 
 impl Answer {
-    /// Reads the word of 64 bits that a C function answered.
+    /// Reads the word of 64 bits that a C function of the bridge answered.
     ///
     /// Bits 24 to 63 are reserved and do not count. A word whose other bits the header does not
     /// describe is read as a refusal with the number 0, which no refusal has. The archive never
@@ -60,19 +68,45 @@ impl Answer {
     /// assert_eq!(Answer::of(0x9_0000), Err(Refusal::of(0)));
     /// ```
     pub fn of(word: u64) -> Answered {
-        // The bits above the kind are reserved: 0 for now, and not looked at.
-        let kind = word >> 16 & 0xFF;
-        let [high, low] = ((word & 0xFFFF) as u16).to_be_bytes();
-        match (kind, high, low) {
-            (0, 0, 0) => Ok(Answer::Done),
-            (1, 0, 0) => Ok(Answer::None),
-            (2, 0, byte) => Ok(Answer::Byte(byte)),
-            (3, control, data) => Frame::new(control, data)
-                .map(Answer::Frame)
-                .map_err(|_| Refusal::UNDESCRIBED),
-            (4, _, _) => Err(Refusal::of(u16::from_be_bytes([high, low]))),
-            _ => Err(Refusal::UNDESCRIBED),
+        match kind_and_value(word) {
+            (1, 0) => Ok(Answer::None),
+            (2, byte @ 0..=255) => Ok(Answer::Byte(byte as u8)),
+            (kind, value) => of_both(kind, value),
         }
+    }
+
+    /// Reads the word of 64 bits that a C function of the mailbox answered, in the same way.
+    ///
+    /// ```
+    /// use raftershim::{Answer, MailByte, Refusal};
+    ///
+    /// let last = MailByte { byte: 53, end: true };
+    /// assert_eq!(Answer::of_mailbox(0x2_0135), Ok(Answer::BusByte(last)));
+    /// assert_eq!(Answer::of_mailbox(0x4_0004), Err(Refusal::BUSY));
+    /// assert_eq!(Answer::of_mailbox(0x9_0000), Err(Refusal::of(0)));
+    /// ```
+    pub fn of_mailbox(word: u64) -> Answered {
+        match kind_and_value(word) {
+            (1, 0) => Ok(Answer::NoBusByte),
+            (2, cell @ 0..=511) => Ok(Answer::BusByte(MailByte::from(cell))),
+            (5, lines @ 0..=511) => Ok(Answer::Lines(BusLines::of(lines))),
+            (kind, value) => of_both(kind, value),
+        }
+    }
+}
+
+/// The kind and the value of a word. The bits above are reserved: 0 for now, and not looked at.
+fn kind_and_value(word: u64) -> (u64, u16) {
+    (word >> 16 & 0xFF, (word & 0xFFFF) as u16)
+}
+
+/// What the words of both products say alike.
+fn of_both(kind: u64, value: u16) -> Answered {
+    match (kind, value) {
+        (0, 0) => Ok(Answer::Done),
+        (3, frame @ 0..=2047) => Frame::try_from(frame).map(Answer::Frame),
+        (4, number) => Err(Refusal::of(number)),
+        _ => Err(Refusal::UNDESCRIBED),
     }
 }
 
@@ -100,6 +134,24 @@ impl From<Frame> for Answer {
     }
 }
 
+impl From<BusByte> for Answer {
+    fn from(_: BusByte) -> Answer {
+        Answer::Done
+    }
+}
+
+impl From<Option<MailByte>> for Answer {
+    fn from(byte: Option<MailByte>) -> Answer {
+        byte.map_or(Answer::NoBusByte, Answer::BusByte)
+    }
+}
+
+impl From<BusLines> for Answer {
+    fn from(lines: BusLines) -> Answer {
+        Answer::Lines(lines)
+    }
+}
+
 impl fmt::Display for Answer {
     fn fmt(&self, f: &mut fmt::Formatter<'_>) -> fmt::Result {
         match self {
@@ -107,6 +159,12 @@ impl fmt::Display for Answer {
             Answer::None => f.write_str("no line byte"),
             Answer::Byte(byte) => write!(f, "line byte {byte}"),
             Answer::Frame(frame) => write!(f, "frame {frame}"),
+            Answer::NoBusByte => f.write_str("no byte for the bus"),
+            Answer::BusByte(MailByte { byte, end: false }) => write!(f, "byte {byte} for the bus"),
+            Answer::BusByte(MailByte { byte, end: true }) => {
+                write!(f, "byte {byte} for the bus, with EOI")
+            }
+            Answer::Lines(lines) => write!(f, "{lines}"),
         }
     }
 }

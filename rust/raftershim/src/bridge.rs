@@ -2,10 +2,8 @@
 
 use core::fmt;
 
-use crate::{
-    raw, Answer, Answered, BadSize, Frame, LineByte, Refusal, Register, Saved, Side, State,
-    BLOCK_LEN,
-};
+use crate::lend::{self, done, lend, part};
+use crate::{Answer, BadSize, Frame, LineByte, Refusal, Register, Saved, Side, State, BLOCK_LEN};
 
 /// The two stores of a bridge, by name so that they cannot be exchanged unseen.
 ///
@@ -43,28 +41,6 @@ pub struct Stores<R, T> {
 pub struct Bridge<R, T> {
     block: [u8; BLOCK_LEN],
     stores: Stores<R, T>,
-}
-
-/// Lends the three buffers of a bridge to one C function, and gives the word that it answers.
-///
-/// The buffers are lent by `as_mut_ptr`, or by `as_ptr` to a function that writes none of them; a
-/// function that writes a buffer does not take a pointer of the second kind.
-macro_rules! lend {
-    ($pointer:ident, $block:expr, $receive:expr, $transmit:expr, $function:ident $(, $argument:expr)*) => {{
-        let (block, rx, tx) = ($block, $receive, $transmit);
-        // SAFETY: the three are borrowed slices, and the borrows hold at once and until the call
-        // is over, whatever the types of the stores do. So each pointer is good for its length.
-        // Where they are exclusive borrows, the three do not overlap, and nobody else uses them
-        // meanwhile. Where they are shared, nothing is written, so it does no harm if they do.
-        unsafe {
-            raw::$function(
-                block.$pointer(), block.len() as _,
-                rx.$pointer(), rx.len() as _,
-                tx.$pointer(), tx.len() as _
-                $(, $argument)*
-            )
-        }
-    }};
 }
 
 /// Makes a call that may write, and reads its answer.
@@ -417,10 +393,7 @@ where
     /// ```
     #[must_use = "the frame that goes on along the loop is in the answer"]
     pub fn loop_frame(&mut self, frame: Frame) -> Result<Frame, Refusal> {
-        match call!(self, raftershim_loop_frame, frame.into())? {
-            Answer::Frame(out) => Ok(out),
-            _ => Err(Refusal::UNDESCRIBED),
-        }
+        lend::frame(call!(self, raftershim_loop_frame, frame.into()))
     }
 
     /// Shows a store: the longest unbroken run of bytes from the oldest one, as a part of the
@@ -444,22 +417,6 @@ where
             Side::Transmit => part(tx, word),
         }
     }
-}
-
-/// The answer of a call that gives nothing.
-fn done(answered: Answered) -> Result<(), Refusal> {
-    match answered? {
-        Answer::Done => Ok(()),
-        _ => Err(Refusal::UNDESCRIBED),
-    }
-}
-
-/// The part of a store that a word tells: the start in its upper half, the length in its lower.
-fn part(store: &[u8], word: u64) -> &[u8] {
-    let start = (word >> 32) as usize;
-    let length = (word & 0xFFFF_FFFF) as usize;
-    let from_start = store.get(start..).unwrap_or_default();
-    from_start.get(..length).unwrap_or_default()
 }
 
 impl<R, T> fmt::Debug for Bridge<R, T> {

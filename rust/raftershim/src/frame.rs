@@ -25,9 +25,10 @@ impl Frame {
     /// 5,96, send data: the addressed talker answers with its first data frame, or with
     /// [`END_OF_TRANSMISSION`](Frame::END_OF_TRANSMISSION) if it has none.
     pub const SEND_DATA: Frame = Frame::joined(5, 96);
-    /// 5,97, send status: the addressed talker answers with its
-    /// [`StatusByte`](crate::StatusByte). A bridge that is not talker passes 5,97 on, so take the
-    /// answer as a status only if it [is data](Frame::is_data).
+    /// 5,97, send status: the addressed talker answers with its status byte, which is a
+    /// [`StatusByte`](crate::StatusByte) of a bridge and a [`MailboxStatus`](crate::MailboxStatus)
+    /// of a mailbox. One that is not talker passes 5,97 on, so take the answer as a status only if
+    /// it [is data](Frame::is_data).
     pub const SEND_STATUS: Frame = Frame::joined(5, 97);
     /// 5,66, not ready: the talker finishes after the frame under way. A controller that has seen
     /// the end byte of a reading sends it before it passes that frame on, and so stops there.
@@ -36,7 +37,10 @@ impl Frame {
     pub const END_OF_TRANSMISSION: Frame = Frame::joined(5, 64);
     /// 5,65, end of transmission with an error: the talker's frame came back changed.
     pub const TRANSMISSION_ERROR: Frame = Frame::joined(5, 65);
-    /// 4,20, device clear: both stores are emptied.
+    /// 4,15, enable listener not ready: a mailbox that is listener says 5,66 when one place is
+    /// left for the loop's data, until the next command.
+    pub const ENABLE_NOT_READY: Frame = Frame::joined(4, 15);
+    /// 4,20, device clear: a bridge empties both stores, a mailbox that to the bus.
     pub const DEVICE_CLEAR: Frame = Frame::joined(4, 20);
     /// 4,144, interface clear: nobody is talker or listener any more.
     pub const INTERFACE_CLEAR: Frame = Frame::joined(4, 144);
@@ -234,7 +238,7 @@ impl fmt::Debug for Frame {
     }
 }
 
-/// The address of a device on the loop, 0 to 30.
+/// The address of a device on the loop or on the bus, 0 to 30.
 ///
 /// ```
 /// use raftershim::Address;
@@ -260,6 +264,11 @@ impl Address {
             0..=30 => Some(Address(number)),
             _ => None,
         }
+    }
+
+    /// The address with a number that is known to be one.
+    pub(crate) const fn known(number: u8) -> Address {
+        Address(number)
     }
 
     /// The number of the address.

@@ -1,8 +1,10 @@
-//! A safe wrapper of the proved bridge between an HP-IL loop and an RS-232 line.
+//! A safe wrapper of the proved bridge between an HP-IL loop and an RS-232 line, and of the proved
+//! mailbox between an HP-IL loop and an HP-IB bus.
 //!
-//! The bridge is one device on the loop. It has a receive store, which takes bytes from the line
-//! to the loop, and a transmit store, which takes bytes from the loop to the line. What every call
-//! answers is proved; the proved code comes as a static archive of C functions, and this crate
+//! A [`Bridge`] is one device on the loop. It has a receive store, which takes bytes from the line
+//! to the loop, and a transmit store, which takes bytes from the loop to the line. A [`Mailbox`] is
+//! one device on the loop and one on the bus, and has a store for each way between them. What every
+//! call answers is proved; the proved code comes as a static archive of C functions, and this crate
 //! calls them. No call is unsafe, and none panics. The C functions themselves are in [`raw`].
 //!
 //! # Ten readings, and a point that is swallowed
@@ -58,11 +60,25 @@
 //! # Ok::<(), raftershim::Refusal>(())
 //! ```
 //!
+//! # A meter with an HP-IB plug
+//!
+//! Such a meter leaves its readings in a [`Mailbox`], and the loop fetches them there. The end of a
+//! reading needs no characters: the meter sends its last byte with EOI, and the loop gets that byte
+//! as an end byte. When the way is full the meter is told busy, and offers the byte again.
+//!
+//! ```
+#![doc = include_str!("../examples/mailbox.rs")]
+//! ```
+//!
+//! Data that the bus sends while it has not made the mailbox its listener is answered done and kept
+//! by nobody: it is for others. The [`BusByte`] that [`Mailbox::bus_byte`] gives tells the two
+//! apart.
+//!
 //! # Answers and refusals
 //!
-//! Each call says by its type what it gives: [`LineByte`], a line byte or none, a [`Frame`], a
-//! [`Reading`], or nothing. A call that is refused gives a [`Refusal`] with its number, and leaves
-//! the state and both stores as they were.
+//! Each call says by its type what it gives: what became of a byte, a byte or none, a [`Frame`], a
+//! [`Reading`], the [`BusLines`], or nothing. A call that is refused gives a [`Refusal`] with its
+//! number, and leaves the state and both stores as they were.
 //!
 //! Types that may get more cases or fields are marked so that a match needs a last arm for what is
 //! new. What an answer may come to say besides, such as the room left in a store, is told by the
@@ -92,7 +108,9 @@ mod answer;
 mod bridge;
 mod frame;
 mod gaps;
+mod lend;
 mod line;
+mod mailbox;
 mod meter;
 pub mod raw;
 mod reading;
@@ -107,17 +125,21 @@ mod status;
 pub use answer::{Answer, Answered, LineByte};
 pub use bridge::{Bridge, Stores};
 pub use frame::{Address, Frame};
+pub use mailbox::{
+    BusByte, BusCommand, BusLines, BusSide, LoopPoll, LoopSide, MailByte, Mailbox, MailboxState,
+    Waiting, Way, Ways,
+};
 pub use meter::{Meter, Notes};
 pub use reading::{Reading, Text};
 pub use refusal::Refusal;
 pub use register::Register;
-pub use saved::Saved;
+pub use saved::{Saved, SavedBlock, SavedMailbox};
 pub use side::Side;
 pub use size::{BadSize, Size};
 pub use state::{Registers, Ring, State, Talker};
-pub use status::StatusByte;
+pub use status::{MailboxStatus, StatusByte};
 
-/// The length in bytes of every block, and so of what is [`Saved`].
+/// The length in bytes of every block of a bridge, and so of what is [`Saved`].
 ///
 /// ```
 /// use raftershim::{Bridge, Saved, Stores, BLOCK_LEN};
@@ -128,3 +150,15 @@ pub use status::StatusByte;
 /// # Ok::<(), raftershim::Refusal>(())
 /// ```
 pub const BLOCK_LEN: usize = 56;
+
+/// The length in bytes of every block of a mailbox, and so of what is [`SavedMailbox`].
+///
+/// ```
+/// use raftershim::{Mailbox, SavedMailbox, Ways, MAILBOX_BLOCK_LEN};
+///
+/// let mailbox = Mailbox::create(Ways { to_bus: [0; 8], to_loop: [0; 8] }, 7)?;
+/// let file: [u8; MAILBOX_BLOCK_LEN] = *mailbox.saved().as_bytes();
+/// assert_eq!((file.len(), file[0]), (41, SavedMailbox::VERSION));
+/// # Ok::<(), raftershim::Refusal>(())
+/// ```
+pub const MAILBOX_BLOCK_LEN: usize = 41;

@@ -45,8 +45,9 @@ macro_rules! refusals {
 }
 
 refusals! {
-    /// Refusal 1, of create: a size is broken. [`BadSize`](crate::BadSize) says which one.
-    SIZES = 1, "a size is broken, or the block has the wrong length";
+    /// Refusal 1, of create: a size or the address on the bus is broken.
+    /// [`BadSize`](crate::BadSize) says which.
+    SIZES = 1, "a size or the address on the bus is broken, or the block has the wrong length";
 
     /// Refusal 2: what was saved is not a state that fits the stores, or a store no longer lends
     /// the length that it had.
@@ -55,9 +56,9 @@ refusals! {
     /// Refusal 3: the loop frame is above 2047, so it is no frame.
     FRAME_TOO_LARGE = 3, "the loop frame is above 2047";
 
-    /// Refusal 4: we are listener, the frame is data, and the transmit store lacks room for what
-    /// it adds. Offer the frame again when the line has taken bytes.
-    BUSY = 4, "busy, the transmit store lacks room for what the frame adds";
+    /// Refusal 4: we are listener, and a store lacks room for what the data frame or the data byte
+    /// of the bus adds. Nothing is lost: offer it again when the other side has taken bytes.
+    BUSY = 4, "busy, the store lacks room for what the frame or the byte adds";
 
     /// Refusal 5: the register number is not carried.
     NOT_CARRIED = 5, "the register number is not carried";
@@ -70,6 +71,9 @@ refusals! {
 
     /// Refusal 8: the go and stop characters would be equal.
     GO_IS_STOP = 8, "the go and stop characters would be equal";
+
+    /// Refusal 13: the command of the bus is above 127, so it is no command.
+    COMMAND_TOO_LARGE = 13, "the command of the bus is above 127";
 }
 
 impl Refusal {

@@ -126,7 +126,8 @@ pub struct Registers {
     pub c05: u8,
 }
 
-/// Which places of a store hold bytes. Places run from 0 and come round after the last.
+/// Which places of a store hold bytes, or cells of a mailbox. Places run from 0 and come round
+/// after the last.
 ///
 /// ```
 /// use raftershim::{Bridge, LineByte, Stores};
@@ -152,7 +153,6 @@ impl State {
     pub(crate) fn of(block: &[u8; BLOCK_LEN]) -> State {
         let talker = Talker::of(block[28]);
         let under_way = Frame::new(block[31], block[30]).ok();
-        let active = matches!(talker, Talker::Data | Talker::Status);
         State {
             margin: two(block[1], block[2]),
             receive_len: two(block[3], block[4]),
@@ -165,7 +165,7 @@ impl State {
             address: Address::new(block[27]),
             talker,
             listener: flag(block[29]),
-            under_way: under_way.filter(|_| active),
+            under_way: under_way.filter(|_| talker.is_active()),
             finishing: flag(block[32]),
             registers: Registers::of(block),
             holding: flag(block[44]),
@@ -185,7 +185,12 @@ impl State {
 }
 
 impl Talker {
-    const fn of(phase: u8) -> Talker {
+    /// Whether a frame of ours is under way.
+    pub(crate) const fn is_active(self) -> bool {
+        matches!(self, Talker::Data | Talker::Status)
+    }
+
+    pub(crate) const fn of(phase: u8) -> Talker {
         match phase {
             0 => Talker::Not,
             1 => Talker::Addressed,
@@ -239,7 +244,7 @@ impl Registers {
 }
 
 impl Ring {
-    const fn of([oldest, oldest_high, held, held_high]: [u8; 4]) -> Ring {
+    pub(crate) const fn of([oldest, oldest_high, held, held_high]: [u8; 4]) -> Ring {
         Ring {
             oldest: two(oldest, oldest_high),
             held: two(held, held_high),
@@ -248,11 +253,11 @@ impl Ring {
 }
 
 /// A number of two bytes.
-const fn two(low: u8, high: u8) -> u16 {
+pub(crate) const fn two(low: u8, high: u8) -> u16 {
     u16::from_le_bytes([low, high])
 }
 
 /// A flag, which a fitting block has as 1 or 0.
-const fn flag(byte: u8) -> bool {
+pub(crate) const fn flag(byte: u8) -> bool {
     byte == 1
 }

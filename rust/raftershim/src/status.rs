@@ -1,38 +1,79 @@
-//! The status byte.
+//! The status bytes of the two products.
 
 use core::fmt;
 
-/// The status byte that answers [`Frame::SEND_STATUS`](crate::Frame::SEND_STATUS), bit by bit.
-///
-/// It displays as the words of the bits that are set.
-///
-/// ```
-/// use raftershim::StatusByte;
-///
-/// let status = StatusByte::from(StatusByte::OVERRUN | StatusByte::TRANSMIT_EMPTY);
-/// assert!(status.has(StatusByte::OVERRUN) && !status.has(StatusByte::BREAK));
-/// assert_eq!(status.to_string(), "transmit store empty, overrun");
-/// assert_eq!(u8::from(status), 33);
-/// ```
-#[derive(Clone, Copy, Debug, Default, PartialEq, Eq, Hash)]
-pub struct StatusByte(u8);
+/// Declares a status byte: its page, and its bits with the words for each.
+macro_rules! status_byte {
+    ($(#[$page:meta])* $type:ident: $($(#[$text:meta])* $name:ident = $bit:literal, $words:literal;)*) => {
+        $(#[$page])*
+        #[derive(Clone, Copy, Debug, Default, PartialEq, Eq, Hash)]
+        pub struct $type(u8);
 
-/// Declares the bits of the status byte with the words for each.
-macro_rules! bits {
-    ($($(#[$text:meta])* $name:ident = $bit:literal, $words:literal;)*) => {
-        impl StatusByte {
+        impl $type {
             $(
                 $(#[$text])*
                 pub const $name: u8 = 1 << $bit;
             )*
 
-            /// Each bit with its words, from bit 0 on.
-            const WORDS: [(u8, &'static str); 8] = [$((StatusByte::$name, $words)),*];
+            /// Whether all bits of this mask are set.
+            ///
+            /// ```
+            #[doc = concat!("use raftershim::", stringify!($type), " as Status;")]
+            ///
+            /// assert!(Status::from(0b100_0001).has(Status::SERVICE));
+            /// ```
+            pub const fn has(self, bits: u8) -> bool {
+                self.0 & bits == bits
+            }
+        }
+
+        impl From<u8> for $type {
+            fn from(byte: u8) -> $type {
+                $type(byte)
+            }
+        }
+
+        impl From<$type> for u8 {
+            fn from(status: $type) -> u8 {
+                status.0
+            }
+        }
+
+        impl fmt::Display for $type {
+            fn fmt(&self, f: &mut fmt::Formatter<'_>) -> fmt::Result {
+                words_of(f, self.0, &[$(($type::$name, $words)),*])
+            }
         }
     };
 }
 
-bits! {
+/// Writes the words of the bits that are set, from bit 0 on.
+fn words_of(f: &mut fmt::Formatter<'_>, byte: u8, words: &[(u8, &str)]) -> fmt::Result {
+    let mut set = words.iter().filter(|(bit, _)| byte & bit != 0);
+    match set.next() {
+        None => f.write_str("no bit set"),
+        Some((_, first)) => {
+            f.write_str(first)?;
+            set.try_for_each(|(_, next)| write!(f, ", {next}"))
+        }
+    }
+}
+
+status_byte! {
+    /// The status byte of a bridge, which answers
+    /// [`Frame::SEND_STATUS`](crate::Frame::SEND_STATUS), bit by bit.
+    ///
+    /// It displays as the words of the bits that are set.
+    ///
+    /// ```
+    /// use raftershim::StatusByte;
+    ///
+    /// let status = StatusByte::from(StatusByte::OVERRUN | StatusByte::TRANSMIT_EMPTY);
+    /// assert!(status.has(StatusByte::OVERRUN) && !status.has(StatusByte::BREAK));
+    /// assert_eq!(status.to_string(), "transmit store empty, overrun");
+    /// assert_eq!(u8::from(status), 33);
+    /// ```
+    StatusByte:
     /// Bit 0: the transmit store is empty.
     TRANSMIT_EMPTY = 0, "transmit store empty";
     /// Bit 1: the transmit store is not full.
@@ -52,41 +93,25 @@ bits! {
     KEY = 7, "MSRQ key pressed";
 }
 
-impl StatusByte {
-    /// Whether all bits of this mask are set.
+status_byte! {
+    /// The status byte of a mailbox, bit by bit: the loop is told it for
+    /// [`Frame::SEND_STATUS`](crate::Frame::SEND_STATUS), the bus by a fetch in a serial poll.
+    ///
+    /// Each side has its own. It is told once: both bits are set when something comes into the
+    /// empty way to that side, and after they were told they are off though bytes still wait. It
+    /// displays as the words of the bits that are set.
     ///
     /// ```
-    /// use raftershim::StatusByte;
+    /// use raftershim::MailboxStatus;
     ///
-    /// assert!(StatusByte::from(0b11).has(StatusByte::TRANSMIT_NOT_FULL));
+    /// let status = MailboxStatus::from(65);
+    /// assert!(status.has(MailboxStatus::AVAILABLE));
+    /// assert_eq!(status.to_string(), "data available, service requested");
+    /// assert_eq!(u8::from(status), 65);
     /// ```
-    pub const fn has(self, bits: u8) -> bool {
-        self.0 & bits == bits
-    }
-}
-
-impl From<u8> for StatusByte {
-    fn from(byte: u8) -> StatusByte {
-        StatusByte(byte)
-    }
-}
-
-impl From<StatusByte> for u8 {
-    fn from(status: StatusByte) -> u8 {
-        status.0
-    }
-}
-
-impl fmt::Display for StatusByte {
-    fn fmt(&self, f: &mut fmt::Formatter<'_>) -> fmt::Result {
-        let set = |&(bit, _): &(u8, &str)| self.has(bit);
-        let mut words = StatusByte::WORDS.into_iter().filter(set);
-        match words.next() {
-            None => f.write_str("no bit set"),
-            Some((_, first)) => {
-                f.write_str(first)?;
-                words.try_for_each(|(_, next)| write!(f, ", {next}"))
-            }
-        }
-    }
+    MailboxStatus:
+    /// Bit 0: something has come into the empty way to this side.
+    AVAILABLE = 0, "data available";
+    /// Bit 6: service is requested, on the loop by the service bit, on the bus by SRQ.
+    SERVICE = 6, "service requested";
 }

@@ -1,18 +1,18 @@
 //! Words are read as the header describes them, and answers, refusals and frames say what they are.
 
-use raftershim::{Answer, Frame, LineByte, Refusal};
+use raftershim::{Answer, BusByte, Frame, LineByte, MailByte, Refusal};
 use std::collections::HashSet;
 
 fn frame(number: u16) -> Frame {
     Frame::try_from(number).unwrap()
 }
 
-/// The eight refusals with their numbers and the sentences that a person hears.
-const REFUSALS: [(u16, Refusal, &str); 8] = [
+/// The nine refusals with their numbers and the sentences that a person hears.
+const REFUSALS: [(u16, Refusal, &str); 9] = [
     (
         1,
         Refusal::SIZES,
-        "refusal 1: a size is broken, or the block has the wrong length",
+        "refusal 1: a size or the address on the bus is broken, or the block has the wrong length",
     ),
     (
         2,
@@ -27,7 +27,7 @@ const REFUSALS: [(u16, Refusal, &str); 8] = [
     (
         4,
         Refusal::BUSY,
-        "refusal 4: busy, the transmit store lacks room for what the frame adds",
+        "refusal 4: busy, the store lacks room for what the frame or the byte adds",
     ),
     (
         5,
@@ -49,6 +49,11 @@ const REFUSALS: [(u16, Refusal, &str); 8] = [
         Refusal::GO_IS_STOP,
         "refusal 8: the go and stop characters would be equal",
     ),
+    (
+        13,
+        Refusal::COMMAND_TOO_LARGE,
+        "refusal 13: the command of the bus is above 127",
+    ),
 ];
 
 #[test]
@@ -60,7 +65,34 @@ fn words_of_the_header_are_read() {
     assert_eq!(Answer::of(3 << 16), Ok(Answer::Frame(frame(0))));
     assert_eq!(Answer::of(3 << 16 | 2047), Ok(Answer::Frame(frame(2047))));
     for (number, refusal, _) in REFUSALS {
-        assert_eq!(Answer::of(4 << 16 | u64::from(number)), Err(refusal));
+        let word = 4 << 16 | u64::from(number);
+        assert_eq!(
+            (Answer::of(word), Answer::of_mailbox(word)),
+            (Err(refusal), Err(refusal))
+        );
+    }
+}
+
+#[test]
+fn words_of_the_mailbox_are_read() {
+    let byte = |byte, end| Ok(Answer::BusByte(MailByte { byte, end }));
+    assert_eq!(Answer::of_mailbox(0), Ok(Answer::Done));
+    assert_eq!(Answer::of_mailbox(1 << 16), Ok(Answer::NoBusByte));
+    assert_eq!(Answer::of_mailbox(2 << 16 | 255), byte(255, false));
+    assert_eq!(Answer::of_mailbox(2 << 16 | 256), byte(0, true));
+    assert_eq!(Answer::of_mailbox(2 << 16 | 511), byte(255, true));
+    assert_eq!(
+        Answer::of_mailbox(3 << 16 | 2047),
+        Ok(Answer::Frame(frame(2047)))
+    );
+    for (value, said) in [
+        (0, "SRQ off, poll answer 0"),
+        (4, "SRQ off, poll answer 4"),
+        (256 | 128, "SRQ on, poll answer 128"),
+    ] {
+        let answer = Answer::of_mailbox(5 << 16 | value).unwrap();
+        assert!(matches!(answer, Answer::Lines(lines) if lines.srq == (value > 255)));
+        assert_eq!(answer.to_string(), said);
     }
 }
 
@@ -69,11 +101,9 @@ fn reserved_bits_do_not_count() {
     let described = [0, 1 << 16, 2 << 16 | 50, 3 << 16 | 2047, 4 << 16 | 4];
     for word in described.into_iter().chain([1, 5 << 16]) {
         for reserved in [1 << 24, 1 << 32, 1 << 63, u64::MAX << 24] {
-            assert_eq!(
-                Answer::of(word | reserved),
-                Answer::of(word),
-                "word {word:#x}"
-            );
+            for of in [Answer::of, Answer::of_mailbox] {
+                assert_eq!(of(word | reserved), of(word), "word {word:#x}");
+            }
         }
     }
 }
@@ -92,6 +122,21 @@ fn words_that_the_header_does_not_describe_are_no_answers() {
         assert_eq!(Answer::of(word), Err(Refusal::of(0)), "word {word:#x}");
     }
     assert_eq!(Answer::of(4 << 16 | 9), Err(Refusal::of(9)));
+    let strange = [
+        1,
+        1 << 16 | 1,
+        2 << 16 | 512,
+        3 << 16 | 2048,
+        5 << 16 | 512,
+        6 << 16,
+    ];
+    for word in strange {
+        assert_eq!(
+            Answer::of_mailbox(word),
+            Err(Refusal::of(0)),
+            "word {word:#x}"
+        );
+    }
 }
 
 #[test]
@@ -99,7 +144,23 @@ fn answers_display_what_they_hold() {
     let answers = [
         (Answer::from(()), Answer::Done, "done"),
         (Answer::from(LineByte::Lost), Answer::Done, "done"),
-        (Answer::from(None), Answer::None, "no line byte"),
+        (Answer::from(BusByte::NotKept), Answer::Done, "done"),
+        (Answer::from(None::<u8>), Answer::None, "no line byte"),
+        (
+            Answer::from(None::<MailByte>),
+            Answer::NoBusByte,
+            "no byte for the bus",
+        ),
+        (
+            Answer::from(Some(MailByte::from(50))),
+            Answer::BusByte(MailByte::from(50)),
+            "byte 50 for the bus",
+        ),
+        (
+            Answer::from(Some(MailByte::from(309))),
+            Answer::BusByte(MailByte::from(309)),
+            "byte 53 for the bus, with EOI",
+        ),
         (Answer::from(Some(50)), Answer::Byte(50), "line byte 50"),
         (
             Answer::from(Frame::SEND_DATA),
@@ -122,6 +183,8 @@ fn what_became_of_a_byte_is_said() {
     ];
     let said = said.map(|byte| byte.to_string()).join(", ");
     assert_eq!(said, "stored, lost, taken as go, taken as stop");
+    let said = [BusByte::Kept, BusByte::NotKept].map(|byte| byte.to_string());
+    assert_eq!(said.join(", "), "kept, not kept");
 }
 
 #[test]

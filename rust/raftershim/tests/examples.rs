@@ -31,6 +31,7 @@ macro_rules! example {
     };
 }
 
+example!(mailbox, "../examples/mailbox.rs");
 example!(meter, "../examples/meter.rs");
 example!(printer, "../examples/printer.rs");
 example!(status, "../examples/status.rs");
@@ -44,6 +45,11 @@ fn said(example: fn() -> Result<(), Refusal>) -> String {
 #[test]
 fn a_meter() {
     assert_eq!(said(meter::run), include_str!("../examples/meter.txt"));
+}
+
+#[test]
+fn a_mailbox() {
+    assert_eq!(said(mailbox::run), include_str!("../examples/mailbox.txt"));
 }
 
 #[test]

@@ -56,6 +56,7 @@ fn named_frames_have_their_numbers() {
         (Frame::NOT_READY, "5,66"),
         (Frame::END_OF_TRANSMISSION, "5,64"),
         (Frame::TRANSMISSION_ERROR, "5,65"),
+        (Frame::ENABLE_NOT_READY, "4,15"),
         (Frame::DEVICE_CLEAR, "4,20"),
         (Frame::INTERFACE_CLEAR, "4,144"),
         (Frame::UNTALK, "4,95"),

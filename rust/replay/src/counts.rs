@@ -14,7 +14,7 @@ pub struct Counts {
     pub differ: u64,
     /// Lines that were refused though they expect no answer.
     pub refused: u64,
-    /// Lines that expect no answer and were not played, because there is no bridge.
+    /// Lines that expect no answer and were not played, because there is nothing to play on.
     pub not_played: u64,
     /// The first line that was refused or not played so.
     pub first: Option<u64>,

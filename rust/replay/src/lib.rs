@@ -1,11 +1,12 @@
-//! Plays a script of calls to the bridge and says each answer in a plain sentence.
+//! Plays a script of calls to the bridge or the mailbox and says each answer in a plain sentence.
 //!
 //! It is for a tester who listens: a line of a script is a call, and its answer is one line, said
 //! after the number of the script's line. A script may hold the answers that it expects; then the
-//! program says which lines differ. [`say::HELP`] tells the form of a script.
+//! program says which lines differ. [`help::HELP`] tells the form of a script.
 //!
 //! - [`run`] makes the calls, line by line, and compares the answers;
-//! - [`say`] has the sentences of the answers;
+//! - [`on_bridge`] and [`on_mailbox`] ask a bridge or a mailbox;
+//! - [`say`] has the sentences of the answers, [`facts`] and [`mailbox_facts`] those of the states;
 //! - [`counts`] says what came of it all, and [`stop`] why it ended early;
 //! - [`keyboard`] tells a person who types that a script is awaited.
 
@@ -13,7 +14,12 @@
 #![deny(missing_docs)]
 
 pub mod counts;
+pub mod facts;
+pub mod help;
 pub mod keyboard;
+pub mod mailbox_facts;
+pub mod on_bridge;
+pub mod on_mailbox;
 pub mod run;
 pub mod say;
 pub mod stop;
@@ -56,7 +62,7 @@ fn work(arguments: &[OsString], input: &mut dyn BufRead, out: &mut dyn Write) ->
     let counts = match arguments {
         [] => run::run(input, out)?,
         [one, ..] if one == "--help" || one == "-h" => {
-            write!(out, "{}", say::HELP).map_err(Stop::Writing)?;
+            write!(out, "{}", help::HELP).map_err(Stop::Writing)?;
             return Ok(AS_EXPECTED);
         }
         [one, ..] if one.to_string_lossy().starts_with('-') => {

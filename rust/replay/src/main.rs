@@ -1,4 +1,4 @@
-//! The program `replay`: plays a script of calls to the bridge and says each answer.
+//! The program `replay`: plays a script of calls to the bridge or the mailbox and says each answer.
 
 #![forbid(unsafe_code)]
 

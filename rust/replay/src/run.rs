@@ -1,14 +1,13 @@
 //! Makes the calls of a script, line by line, and compares what is said with what is expected.
 
 use crate::counts::Counts;
+use crate::on_bridge::{self, Bridge};
+use crate::on_mailbox::{self, Mailbox};
 use crate::say::{self, Said};
 use crate::stop::Stop;
-use raftershim::{Answer, BadSize, Frame, LineByte, Refusal, Register, Saved, Side, Stores};
-use script::{Call, Expected, Step, Steps, DEFAULT_MARGIN, DEFAULT_STORE};
+use raftershim::{Answer, BadSize, Refusal};
+use script::{Call, Expected, MailboxCall, Step, Steps, DEFAULT_MARGIN, DEFAULT_STORE};
 use std::io::{self, BufRead, Write};
-
-/// A bridge with its stores.
-type Bridge = raftershim::Bridge<Vec<u8>, Vec<u8>>;
 
 /// Plays a whole script. What is said goes to `out`, the counts last.
 ///
@@ -29,35 +28,33 @@ where
     Ok(player.counts)
 }
 
-fn create(receive: u32, transmit: u32, margin: u32) -> Result<Bridge, BadSize> {
-    let stores = Stores {
-        receive: vec![0; receive as usize],
-        transmit: vec![0; transmit as usize],
-    };
-    Bridge::create(stores, margin)
-}
-
 /// Where a script plays.
 enum Place {
     /// On this bridge.
-    There(Bridge),
-    /// Nowhere, since the create in this line was refused.
-    Nowhere(u64),
+    Bridge(Bridge),
+    /// On this mailbox.
+    Mailbox(Mailbox),
+    /// Nowhere, since what was to be made last was refused.
+    Nowhere,
 }
 
 /// Where a script plays, and the counts so far.
 struct Player {
     place: Place,
-    /// Whether the script knows where it plays: it had a create, or was told.
+    /// Whether the script knows where it plays: it made something, or was told.
     told: bool,
+    /// The line that was to make something last.
+    made: u64,
     counts: Counts,
 }
 
 impl Player {
     fn new() -> Result<Player, BadSize> {
+        let bridge = on_bridge::create(DEFAULT_STORE, DEFAULT_STORE, DEFAULT_MARGIN)?;
         Ok(Player {
-            place: Place::There(create(DEFAULT_STORE, DEFAULT_STORE, DEFAULT_MARGIN)?),
+            place: Place::Bridge(bridge),
             told: false,
+            made: 0,
             counts: Counts::default(),
         })
     }
@@ -67,7 +64,11 @@ impl Player {
     where
         O: Write + ?Sized,
     {
-        if !self.told && !matches!(step.call, Call::Create { .. }) {
+        let makes = matches!(
+            step.call,
+            Call::Create { .. } | Call::Mailbox(MailboxCall::Create { .. })
+        );
+        if !self.told && !makes {
             self.told = true;
             let sentence = say::default_bridge(DEFAULT_STORE, DEFAULT_MARGIN);
             writeln!(out, "line {line}: {sentence}")?;
@@ -83,49 +84,93 @@ impl Player {
                 receive,
                 transmit,
                 margin,
-            } => self.create(line, create(receive, transmit, margin), step),
-            Call::Reset => self.on(|bridge| said(bridge.reset())),
-            Call::Restore(ref block) => self.on(|bridge| said(restore(bridge, block))),
-            Call::Register { number, value } => {
-                self.on(|bridge| said(write(bridge, number, value)))
+            } => {
+                let created = on_bridge::create(receive, transmit, margin);
+                self.create(line, created.map(Place::Bridge), step)
             }
-            Call::Line(ref bytes) => self.on(|bridge| take_all(bridge, bytes)),
-            Call::Break => self.on(|bridge| said(bridge.line_break())),
-            Call::Key => self.on(|bridge| said(bridge.key())),
-            Call::Next => self.on(|bridge| said(bridge.next_line_byte())),
-            Call::Frame(frame) => self.on(|bridge| said(pass(bridge, frame))),
-            Call::Show(side) => self.on(|bridge| Said::Shown(bridge.show(named(side)).to_vec())),
-            Call::State => self.on(|bridge| match bridge.state() {
-                Ok(state) => Said::Facts(say::facts(&state)),
-                Err(refusal) => Said::refused(refusal, &refusal),
-            }),
+            Call::Reset => self.on_bridge(|bridge| said(bridge.reset())),
+            Call::Restore(ref block) => {
+                self.on_bridge(|bridge| said(on_bridge::restore(bridge, block)))
+            }
+            Call::Register { number, value } => {
+                self.on_bridge(|bridge| said(on_bridge::write(bridge, number, value)))
+            }
+            Call::Line(ref bytes) => self
+                .on_bridge(|bridge| Said::became(bytes.iter().map(|&byte| bridge.line_byte(byte)))),
+            Call::Break => self.on_bridge(|bridge| said(bridge.line_break())),
+            Call::Key => self.on_bridge(|bridge| said(bridge.key())),
+            Call::Next => self.on_bridge(|bridge| said(bridge.next_line_byte())),
+            Call::Frame(frame) => self.on_bridge(|bridge| said(on_bridge::pass(bridge, frame))),
+            Call::Show(side) => self.on_bridge(|bridge| on_bridge::show(bridge, side)),
+            Call::State => self.on_bridge(|bridge| on_bridge::state(bridge)),
+            Call::Mailbox(ref call) => self.mailbox_answer(line, call, step),
+        }
+    }
+
+    fn mailbox_answer(&mut self, line: u64, call: &MailboxCall, step: &Step) -> Said {
+        match *call {
+            MailboxCall::Create {
+                to_bus,
+                to_loop,
+                address,
+            } => {
+                let created = on_mailbox::create(to_bus, to_loop, address);
+                self.create(line, created.map(Place::Mailbox), step)
+            }
+            MailboxCall::Reset => self.on_mailbox(|mailbox| said(mailbox.reset())),
+            MailboxCall::Restore(ref block) => {
+                self.on_mailbox(|mailbox| said(on_mailbox::restore(mailbox, block)))
+            }
+            MailboxCall::Frame(frame) => {
+                self.on_mailbox(|mailbox| said(on_mailbox::pass(mailbox, frame)))
+            }
+            MailboxCall::Command(command) => {
+                self.on_mailbox(|mailbox| said(on_mailbox::order(mailbox, command)))
+            }
+            MailboxCall::Byte { ref bytes, end } => {
+                self.on_mailbox(|mailbox| on_mailbox::take_all(mailbox, bytes, end))
+            }
+            MailboxCall::Fetch => self.on_mailbox(|mailbox| said(mailbox.bus_fetch())),
+            MailboxCall::Clear => self.on_mailbox(|mailbox| said(mailbox.bus_clear())),
+            MailboxCall::Lines => self.on_mailbox(|mailbox| said(mailbox.bus_lines())),
+            MailboxCall::Show(way) => self.on_mailbox(|mailbox| on_mailbox::show(mailbox, way)),
+            MailboxCall::State => self.on_mailbox(|mailbox| on_mailbox::state(mailbox)),
         }
     }
 
     /// Makes a call on the bridge, if there is one.
-    fn on(&mut self, make: impl FnOnce(&mut Bridge) -> Said) -> Said {
+    fn on_bridge(&mut self, make: impl FnOnce(&mut Bridge) -> Said) -> Said {
         match &mut self.place {
-            Place::There(bridge) => make(bridge),
-            Place::Nowhere(line) => Said::NotPlayed { refused: *line },
+            Place::Bridge(bridge) => make(bridge),
+            _ => Said::NotPlayed { refused: self.made },
         }
     }
 
-    /// Puts a new bridge in the place of the one that was there. A refused create leaves that one
-    /// there if the script made it and expects the refusal. Else the script wanted another bridge
-    /// than there is, and plays nowhere until the next create.
-    fn create(&mut self, line: u64, created: Result<Bridge, BadSize>, step: &Step) -> Said {
+    /// Makes a call on the mailbox, if there is one.
+    fn on_mailbox(&mut self, make: impl FnOnce(&mut Mailbox) -> Said) -> Said {
+        match &mut self.place {
+            Place::Mailbox(mailbox) => make(mailbox),
+            _ => Said::NotPlayed { refused: self.made },
+        }
+    }
+
+    /// Puts what was made in the place of what was there. If it is refused, what was there stays if
+    /// the script made it and expects the refusal. Else the script wanted something else than there
+    /// is, and plays nowhere until it makes something.
+    fn create(&mut self, line: u64, created: Result<Place, BadSize>, step: &Step) -> Said {
         let told = std::mem::replace(&mut self.told, true);
+        self.made = line;
         match created {
-            Ok(bridge) => {
-                self.place = Place::There(bridge);
+            Ok(place) => {
+                self.place = place;
                 Said::Answered(Answer::Done)
             }
             Err(bad) => {
                 let said = Said::refused(Refusal::from(bad), &bad);
                 let expected = step.expected.as_ref();
-                let stays = expected.map_or(false, |expected| said.meeting(expected).is_some());
-                if !(told && stays) {
-                    self.place = Place::Nowhere(line);
+                let met = expected.map_or(false, |expected| said.meeting(expected).is_some());
+                if !(told && met) {
+                    self.place = Place::Nowhere;
                 }
                 said
             }
@@ -161,40 +206,5 @@ fn said<T: Into<Answer>>(answered: Result<T, Refusal>) -> Said {
     match answered {
         Ok(answer) => Said::Answered(answer.into()),
         Err(refusal) => Said::refused(refusal, &refusal),
-    }
-}
-
-/// Gives the bridge a saved block; one that does not fit leaves the bridge as it was.
-fn restore(bridge: &mut Bridge, block: &[u8]) -> Result<(), Refusal> {
-    let (_, stores) = bridge.clone().into_parts();
-    *bridge = Bridge::restore(Saved::try_from(block)?, stores)?;
-    Ok(())
-}
-
-/// Writes a register; what is no register and no byte is refused in the order of the numbers.
-fn write(bridge: &mut Bridge, number: u32, value: u32) -> Result<(), Refusal> {
-    let register = Register::try_from(number)?;
-    let value = u8::try_from(value).map_err(|_| Refusal::VALUE_TOO_LARGE)?;
-    bridge.write_register(register, value)
-}
-
-fn pass(bridge: &mut Bridge, frame: u32) -> Result<Frame, Refusal> {
-    bridge.loop_frame(Frame::try_from(frame)?)
-}
-
-/// Takes line bytes up to the first that is refused.
-fn take_all(bridge: &mut Bridge, bytes: &[u8]) -> Said {
-    let taken = bytes.iter().map(|&byte| bridge.line_byte(byte));
-    match taken.collect::<Result<Vec<LineByte>, Refusal>>() {
-        Ok(taken) => Said::Taken(taken),
-        Err(refusal) => Said::refused(refusal, &refusal),
-    }
-}
-
-/// The side that a script names.
-fn named(side: script::Side) -> Side {
-    match side {
-        script::Side::Receive => Side::Receive,
-        script::Side::Transmit => Side::Transmit,
     }
 }

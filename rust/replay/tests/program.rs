@@ -3,13 +3,13 @@
 mod played;
 
 use played::{play, strings, with};
-use raftershim_replay::{program, say, AS_EXPECTED, DIFFERENT, NOTHING_EXPECTED, NOT_RUN};
+use raftershim_replay::{help, program, AS_EXPECTED, DIFFERENT, NOTHING_EXPECTED, NOT_RUN};
 use std::io::{self, ErrorKind, Write};
 
 #[test]
 fn arguments() {
-    assert_eq!(with(&["--help"], b"next"), strings(0, say::HELP, ""));
-    assert_eq!(with(&["-h"], b"next"), strings(0, say::HELP, ""));
+    assert_eq!(with(&["--help"], b"next"), strings(0, help::HELP, ""));
+    assert_eq!(with(&["-h"], b"next"), strings(0, help::HELP, ""));
     let unknown = "there is no option --loud, try replay --help\n";
     assert_eq!(with(&["--loud"], b"next"), strings(2, "", unknown));
     let second = "expected one script, found b after it\n";
@@ -90,13 +90,13 @@ fn a_broken_pipe_ends_quietly() {
 fn the_help_tells_the_limits_and_the_exit_statuses() {
     let told = [
         format!("A line has at most {} bytes.", script::LONGEST_LINE),
-        format!("at most {} bytes here", script::LONGEST_STORE),
+        format!("at most {} places here", script::LONGEST_STORE),
         format!("status is {AS_EXPECTED} if the script expects answers"),
         format!("It is {DIFFERENT} if a line was not as expected"),
         format!("It is {NOT_RUN} if the arguments are wrong"),
         format!("It is {NOTHING_EXPECTED} if no line expects an answer"),
     ];
     for sentence in told {
-        assert!(say::HELP.contains(&sentence), "{sentence}");
+        assert!(help::HELP.contains(&sentence), "{sentence}");
     }
 }

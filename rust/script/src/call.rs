@@ -1,7 +1,16 @@
 //! The calls of a script, and how each is printed.
 
-use crate::{FrameName, RegisterName};
+use crate::{FrameName, MailboxCall, RegisterName};
 use std::fmt;
+
+/// What a line speaks of.
+#[derive(Clone, Copy, Debug, PartialEq, Eq, Hash)]
+pub enum Product {
+    /// The bridge, also where a script has made nothing yet.
+    Bridge,
+    /// The mailbox.
+    Mailbox,
+}
 
 /// The store that is shown.
 #[derive(Clone, Copy, Debug, PartialEq, Eq, Hash)]
@@ -50,6 +59,18 @@ pub enum Call {
     Show(Side),
     /// Say the state.
     State,
+    /// Create a mailbox, or make a call of one.
+    Mailbox(MailboxCall),
+}
+
+impl Call {
+    /// What the call speaks of, and with it the lines that follow.
+    pub fn product(&self) -> Product {
+        match self {
+            Call::Mailbox(_) => Product::Mailbox,
+            _ => Product::Bridge,
+        }
+    }
 }
 
 impl fmt::Display for Side {
@@ -82,11 +103,13 @@ impl fmt::Display for Call {
             Call::Frame(frame) => write!(f, "frame {}", FrameName(*frame)),
             Call::Show(side) => write!(f, "show {side}"),
             Call::State => f.write_str("state"),
+            Call::Mailbox(call) => write!(f, "{call}"),
         }
     }
 }
 
-fn with_bytes(f: &mut fmt::Formatter<'_>, name: &str, bytes: &[u8]) -> fmt::Result {
+/// Prints a call's name and its bytes.
+pub(crate) fn with_bytes(f: &mut fmt::Formatter<'_>, name: &str, bytes: &[u8]) -> fmt::Result {
     f.write_str(name)?;
     bytes.iter().try_for_each(|byte| write!(f, " {byte}"))
 }

@@ -1,7 +1,10 @@
 //! One line of a script becomes one step, or a mistake.
 
 use crate::word::{find_unquoted, number, text_bytes, words, Word};
-use crate::{Call, Expected, FrameName, Mistake, RegisterName, Side, Wanted};
+use crate::{
+    Call, Command, Expected, FrameName, MailboxCall, Mistake, Product, RegisterName, Side, Wanted,
+    Way,
+};
 use std::fmt;
 use std::vec::IntoIter;
 
@@ -34,12 +37,13 @@ impl fmt::Display for Step {
     }
 }
 
-/// Reads one line. `None` is a line without a call: empty, or a comment.
+/// Reads one line that speaks of this product, or makes one. `None` is a line without a call:
+/// empty, or a comment.
 ///
 /// # Errors
 ///
 /// The mistake says what was expected and what was found; the caller knows the line's number.
-pub fn parse(line: &str) -> Result<Option<Step>, Mistake> {
+pub fn parse(product: Product, line: &str) -> Result<Option<Step>, Mistake> {
     let line = &line[..find_unquoted(line, "#").unwrap_or(line.len())];
     let (call, expected) = match find_unquoted(line, "=>") {
         Some(place) => (&line[..place], Some(&line[place + 2..])),
@@ -55,25 +59,44 @@ pub fn parse(line: &str) -> Result<Option<Step>, Mistake> {
         Some(text) => Some(Expected::new(text).ok_or(Mistake::NoAnswer)?),
         None => None,
     };
-    let call = parse_call(name, words)?;
+    let call = parse_call(product, name, words)?;
     Ok(Some(Step { call, expected }))
 }
 
-fn parse_call(name: Word<'_>, words: IntoIter<Word<'_>>) -> Result<Call, Mistake> {
+fn parse_call(
+    product: Product,
+    name: Word<'_>,
+    words: IntoIter<Word<'_>>,
+) -> Result<Call, Mistake> {
+    use Product::{Bridge, Mailbox};
+
     let rest = |after| Rest { after, words };
-    match name.plain() {
-        Some("create") => rest("create").create(),
-        Some("reset") => rest("reset").end(Call::Reset),
-        Some("restore") => rest("restore").bytes().map(Call::Restore),
-        Some("register") => rest("register").register(),
-        Some("line") => rest("line").bytes().map(Call::Line),
-        Some("break") => rest("break").end(Call::Break),
-        Some("key") => rest("key").end(Call::Key),
-        Some("next") => rest("next").end(Call::Next),
-        Some("frame") => rest("frame").frame(),
-        Some("show") => rest("show").show(),
-        Some("state") => rest("state").end(Call::State),
+    let mailbox = |call: Result<MailboxCall, Mistake>| call.map(Call::Mailbox);
+    match (product, name.plain().unwrap_or_default()) {
+        (_, "create") => rest("create").create(),
+        (_, "mailbox") => mailbox(rest("mailbox").mailbox()),
+        (Bridge, "reset") => rest("reset").end(Call::Reset),
+        (Bridge, "restore") => rest("restore").bytes().map(Call::Restore),
+        (Bridge, "register") => rest("register").register(),
+        (Bridge, "line") => rest("line").bytes().map(Call::Line),
+        (Bridge, "break") => rest("break").end(Call::Break),
+        (Bridge, "key") => rest("key").end(Call::Key),
+        (Bridge, "next") => rest("next").end(Call::Next),
+        (Bridge, "frame") => rest("frame").frame().map(Call::Frame),
+        (Bridge, "show") => rest("show").side().map(Call::Show),
+        (Bridge, "state") => rest("state").end(Call::State),
+        (Mailbox, "reset") => mailbox(rest("reset").end(MailboxCall::Reset)),
+        (Mailbox, "restore") => mailbox(rest("restore").bytes().map(MailboxCall::Restore)),
+        (Mailbox, "frame") => mailbox(rest("frame").frame().map(MailboxCall::Frame)),
+        (Mailbox, "command") => mailbox(rest("command").command().map(MailboxCall::Command)),
+        (Mailbox, "byte") => mailbox(rest("byte").marked_bytes()),
+        (Mailbox, "fetch") => mailbox(rest("fetch").end(MailboxCall::Fetch)),
+        (Mailbox, "clear") => mailbox(rest("clear").end(MailboxCall::Clear)),
+        (Mailbox, "lines") => mailbox(rest("lines").end(MailboxCall::Lines)),
+        (Mailbox, "show") => mailbox(rest("show").way().map(MailboxCall::Show)),
+        (Mailbox, "state") => mailbox(rest("state").end(MailboxCall::State)),
         _ => Err(Mistake::UnknownCall {
+            product,
             found: name.shown(),
         }),
     }
@@ -95,6 +118,15 @@ impl Rest<'_> {
         self.end(call)
     }
 
+    fn mailbox(mut self) -> Result<MailboxCall, Mistake> {
+        let call = MailboxCall::Create {
+            to_bus: self.number(Wanted::ToBusLength)?,
+            to_loop: self.number(Wanted::ToLoopLength)?,
+            address: self.number(Wanted::BusAddress)?,
+        };
+        self.end(call)
+    }
+
     fn register(mut self) -> Result<Call, Mistake> {
         let call = Call::Register {
             number: self.word(Wanted::Register, RegisterName::parse)?,
@@ -105,31 +137,66 @@ impl Rest<'_> {
 
     /// Bytes and texts up to the end of the line, at least one.
     fn bytes(mut self) -> Result<Vec<u8>, Mistake> {
+        self.bytes_before(None)
+    }
+
+    /// Bytes and texts up to the end of the line, at least one; the word end after them is the
+    /// end mark of the last.
+    fn marked_bytes(mut self) -> Result<MailboxCall, Mistake> {
+        let bytes = self.bytes_before(Some("end"))?;
+        let end = self.words.next().is_some();
+        self.end(MailboxCall::Byte { bytes, end })
+    }
+
+    /// Bytes and texts up to the end of the line or up to this word, at least one.
+    fn bytes_before(&mut self, word: Option<&str>) -> Result<Vec<u8>, Mistake> {
         let mut bytes = Vec::new();
-        while bytes.is_empty() || self.words.len() > 0 {
+        loop {
             match self.words.as_slice() {
                 [Word::Text(text), ..] => {
                     bytes.extend(text_bytes(text)?);
                     self.words.next();
                 }
+                [] if !bytes.is_empty() => return Ok(bytes),
+                [Word::Plain(next), ..] if !bytes.is_empty() && word == Some(*next) => {
+                    return Ok(bytes)
+                }
                 _ => bytes.push(self.number(Wanted::Byte)? as u8),
             }
         }
-        Ok(bytes)
     }
 
-    fn frame(mut self) -> Result<Call, Mistake> {
+    fn frame(mut self) -> Result<u32, Mistake> {
         let frame = self.word(Wanted::Frame, FrameName::parse)?;
-        self.end(Call::Frame(frame))
+        self.end(frame)
     }
 
-    fn show(mut self) -> Result<Call, Mistake> {
+    fn command(mut self) -> Result<Command, Mistake> {
+        let (name, command, more) = self.word(Wanted::Command, Command::parse)?;
+        self.after = name;
+        let added = match more {
+            Some(largest) => self.number(Wanted::UpTo(largest))?,
+            None => 0,
+        };
+        self.end(command.plus(added))
+    }
+
+    fn side(mut self) -> Result<Side, Mistake> {
         let side = self.word(Wanted::Side, |word| match word {
             "receive" => Some(Side::Receive),
             "transmit" => Some(Side::Transmit),
             _ => None,
         })?;
-        self.end(Call::Show(side))
+        self.end(side)
+    }
+
+    fn way(mut self) -> Result<Way, Mistake> {
+        let way = self.word(Wanted::Way, |word| match word {
+            "bus" => Some(Way::Bus),
+            "loop" => Some(Way::Loop),
+            _ => None,
+        })?;
+        self.end(way)
     }
 
     fn number(&mut self, wanted: Wanted) -> Result<u32, Mistake> {
@@ -147,10 +214,10 @@ impl Rest<'_> {
         meant.ok_or_else(|| self.mistake(wanted, word))
     }
 
-    /// The call, if no word is left.
-    fn end(mut self, call: Call) -> Result<Call, Mistake> {
+    /// What was read, if no word is left.
+    fn end<T>(mut self, read: T) -> Result<T, Mistake> {
         match self.words.next() {
-            None => Ok(call),
+            None => Ok(read),
             word => Err(self.mistake(Wanted::NothingMore, word)),
         }
     }

@@ -1,19 +1,49 @@
 //! What can be wrong in a line of a script.
 
-use crate::{LONGEST_LINE, LONGEST_STORE};
+use crate::{Product, LONGEST_LINE, LONGEST_STORE};
 use std::error::Error;
 use std::fmt;
 
-/// The names of all calls.
-const CALLS: &str =
-    "create, reset, restore, register, line, break, key, next, frame, show or state";
+/// The names of the calls of a bridge.
+const BRIDGE_CALLS: &str =
+    "create, mailbox, reset, restore, register, line, break, key, next, frame, show or state";
+
+/// The names of the calls of a mailbox.
+const MAILBOX_CALLS: &str = "create, mailbox, reset, restore, frame, command, byte, fetch, clear, \
+                             lines, show or state";
+
+impl Product {
+    /// The names of its calls, as a sentence has them.
+    fn calls(self) -> &'static str {
+        match self {
+            Product::Bridge => BRIDGE_CALLS,
+            Product::Mailbox => MAILBOX_CALLS,
+        }
+    }
+
+    /// What is said of a word that is the name of a call of the other product, and of none here.
+    fn elsewhere(self, word: &str) -> &'static str {
+        let (other, said) = match self {
+            Product::Bridge => (Product::Mailbox, ", a call of the mailbox"),
+            Product::Mailbox => (Product::Bridge, ", a call of the bridge"),
+        };
+        let mut names = other.calls().split([',', ' ']).filter(|&name| name != "or");
+        if names.any(|name| name == word) {
+            said
+        } else {
+            ""
+        }
+    }
+}
 
 /// What is wrong in a line: its sentence says what was expected there and what was found.
 #[derive(Clone, Debug, PartialEq, Eq)]
 #[non_exhaustive]
 pub enum Mistake {
-    /// The first word is the name of no call.
+    /// The first word is the name of no call of what the line speaks of.
     UnknownCall {
+        /// What the line speaks of.
+        product: Product,
         /// The word, cut short.
         found: String,
     },
@@ -52,6 +82,12 @@ pub enum Wanted {
     TransmitLength,
     /// A margin.
     Margin,
+    /// The length of the store to the bus.
+    ToBusLength,
+    /// The length of the store to the loop.
+    ToLoopLength,
+    /// An address on the bus.
+    BusAddress,
     /// A register.
     Register,
     /// A register's value.
@@ -62,6 +98,12 @@ pub enum Wanted {
     Frame,
     /// One of the two stores.
     Side,
+    /// One of the two ways of a mailbox.
+    Way,
+    /// A command of the bus.
+    Command,
+    /// A number up to this one, which a command's name takes.
+    UpTo(u32),
     /// The end of the line.
     NothingMore,
 }
@@ -71,7 +113,9 @@ impl Wanted {
     pub(crate) fn largest(self) -> u32 {
         match self {
             Wanted::ReceiveLength | Wanted::TransmitLength => LONGEST_STORE,
+            Wanted::ToBusLength | Wanted::ToLoopLength => LONGEST_STORE,
             Wanted::Byte => 255,
+            Wanted::UpTo(largest) => largest,
             _ => u32::MAX,
         }
     }
@@ -81,11 +125,19 @@ impl Wanted {
             Wanted::ReceiveLength => "a receive length",
             Wanted::TransmitLength => "a transmit length",
             Wanted::Margin => "a margin",
+            Wanted::ToBusLength => "a length of the store to the bus",
+            Wanted::ToLoopLength => "a length of the store to the loop",
+            Wanted::BusAddress => "an address on the bus",
             Wanted::Register => "a register R00 to R12, C00 to C05 or a number",
             Wanted::Value => "a value",
             Wanted::Byte => "a byte",
             Wanted::Frame => "a frame as control,data with data up to 255, or as one number,",
             Wanted::Side => "receive or transmit",
+            Wanted::Way => "bus or loop",
+            Wanted::Command => {
+                "UNL, UNT, MLA, MTA, LAD, TAD, SPE, SPD, DCL, SDC, PPC, PPE, PPD, PPU or a number"
+            }
+            Wanted::UpTo(_) => "a number",
             Wanted::NothingMore => "nothing more",
         }
     }
@@ -95,7 +147,8 @@ impl fmt::Display for Wanted {
     fn fmt(&self, f: &mut fmt::Formatter<'_>) -> fmt::Result {
         f.write_str(self.words())?;
         match self {
-            Wanted::Register | Wanted::Frame | Wanted::Side | Wanted::NothingMore => Ok(()),
+            Wanted::Register | Wanted::Frame | Wanted::Command => Ok(()),
+            Wanted::Side | Wanted::Way | Wanted::NothingMore => Ok(()),
             _ => write!(f, " from 0 to {}", self.largest()),
         }
     }
@@ -104,8 +157,9 @@ impl fmt::Display for Wanted {
 impl fmt::Display for Mistake {
     fn fmt(&self, f: &mut fmt::Formatter<'_>) -> fmt::Result {
         match self {
-            Mistake::UnknownCall { found } => {
-                write!(f, "expected {CALLS}, found {found}")
+            Mistake::UnknownCall { product, found } => {
+                let (calls, elsewhere) = (product.calls(), product.elsewhere(found));
+                write!(f, "expected {calls}, found {found}{elsewhere}")
             }
             Mistake::Word {
                 after,

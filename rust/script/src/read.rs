@@ -1,6 +1,6 @@
 //! Reads a script line by line.
 
-use crate::{parse, Mistake, Step};
+use crate::{parse, Mistake, Product, Step};
 use std::error::Error;
 use std::fmt;
 use std::io::{self, BufRead, Read};
@@ -41,11 +41,13 @@ impl Error for Unread {
     }
 }
 
-/// The steps of a script, each with the number of its line. A line is read when it is asked for.
+/// The steps of a script, each with the number of its line. A line is read when it is asked for. It
+/// speaks of what the lines before it made last, and of a bridge if they made nothing.
 pub struct Steps<R> {
     input: R,
     line: u64,
     bytes: Vec<u8>,
+    product: Product,
 }
 
 impl<R: BufRead> Steps<R> {
@@ -55,6 +57,7 @@ impl<R: BufRead> Steps<R> {
             input,
             line: 0,
             bytes: Vec::new(),
+            product: Product::Bridge,
         }
     }
 
@@ -74,7 +77,7 @@ impl<R: BufRead> Steps<R> {
         let text = std::str::from_utf8(&self.bytes).map_err(|_| Mistake::NotText)?;
         // Some editors put a mark before the first character of a file.
         let unmarked = text.strip_prefix('\u{feff}').filter(|_| self.line == 1);
-        parse(unmarked.unwrap_or(text))
+        parse(self.product, unmarked.unwrap_or(text))
     }
 }
 
@@ -90,7 +93,10 @@ impl<R: BufRead> Iterator for Steps<R> {
             }
             let line = self.line;
             match self.step() {
-                Ok(Some(step)) => return Some(Ok((line, step))),
+                Ok(Some(step)) => {
+                    self.product = step.call.product();
+                    return Some(Ok((line, step)));
+                }
                 Ok(None) => {}
                 Err(mistake) => return Some(Err(Unread::Mistake { line, mistake })),
             }

@@ -4,7 +4,8 @@ use crate::{Call, Step, Steps, Unread};
 use std::fmt;
 use std::str::FromStr;
 
-/// The steps of a whole script. What is printed of it, a line each, is read as the same script.
+/// The steps of a whole script. What is printed of it, a line each, is read as the same script if
+/// each call is of the product that was made last.
 #[derive(Clone, Debug, Default, PartialEq, Eq)]
 pub struct Script {
     /// The steps in their order.

@@ -1,16 +1,30 @@
 //! Every call as a script has it, and every expected answer.
 
-use raftershim_script::{parse, Call, Expected, Side, Step};
+use raftershim_script::{
+    parse, Call, Command, Expected, MailboxCall, Product, Script, Side, Step, Way,
+};
 
-fn step(line: &str) -> Step {
-    match parse(line) {
+fn read(product: Product, line: &str) -> Step {
+    match parse(product, line) {
         Ok(Some(step)) => step,
         other => panic!("{line}: {other:?}"),
     }
 }
 
+fn step(line: &str) -> Step {
+    read(Product::Bridge, line)
+}
+
 fn call(line: &str) -> Call {
     step(line).call
+}
+
+/// The call of a line that speaks of a mailbox.
+fn mailbox_call(line: &str) -> MailboxCall {
+    match read(Product::Mailbox, line).call {
+        Call::Mailbox(call) => call,
+        other => panic!("{line}: {other:?}"),
+    }
 }
 
 #[test]
@@ -68,9 +82,94 @@ fn registers_that_do_not_exist_too() {
 }
 
 #[test]
+fn calls_of_a_mailbox() {
+    let create = MailboxCall::Create {
+        to_bus: 64,
+        to_loop: 32,
+        address: 7,
+    };
+    assert_eq!(mailbox_call("mailbox 64 32 7"), create);
+    assert_eq!(mailbox_call("reset"), MailboxCall::Reset);
+    let saved = MailboxCall::Restore(vec![129, 8, 0]);
+    assert_eq!(mailbox_call("restore 129 8 0"), saved);
+    assert_eq!(mailbox_call("frame 5,96"), MailboxCall::Frame(1376));
+    assert_eq!(mailbox_call("fetch"), MailboxCall::Fetch);
+    assert_eq!(mailbox_call("clear"), MailboxCall::Clear);
+    assert_eq!(mailbox_call("lines"), MailboxCall::Lines);
+    assert_eq!(mailbox_call("show bus"), MailboxCall::Show(Way::Bus));
+    assert_eq!(mailbox_call("show loop"), MailboxCall::Show(Way::Loop));
+    assert_eq!(mailbox_call("state"), MailboxCall::State);
+}
+
+#[test]
+fn bytes_with_and_without_the_end_mark() {
+    let byte = |bytes: &[u8], end| {
+        let bytes = bytes.to_vec();
+        MailboxCall::Byte { bytes, end }
+    };
+    assert_eq!(mailbox_call("byte 255"), byte(&[255], false));
+    assert_eq!(mailbox_call("byte 0 end"), byte(&[0], true));
+    assert_eq!(mailbox_call("byte \"2.5\" end"), byte(b"2.5", true));
+    assert_eq!(mailbox_call("byte \"2\" 46 \"5\""), byte(b"2.5", false));
+    assert_eq!(mailbox_call("byte \"end\""), byte(b"end", false));
+}
+
+#[test]
+fn commands_that_do_not_exist_too() {
+    let numbers = [
+        ("SDC", 4),
+        ("PPC", 5),
+        ("DCL", 20),
+        ("PPU", 21),
+        ("SPE", 24),
+        ("SPD", 25),
+        ("LAD 0", 32),
+        ("LAD 30", 62),
+        ("UNL", 63),
+        ("TAD 0", 64),
+        ("tad 30", 94),
+        ("unt", 95),
+        ("PPE 0", 96),
+        ("PPE 15", 111),
+        ("PPD", 112),
+        ("0", 0),
+        ("127", 127),
+        ("128", 128),
+        ("4294967295", u32::MAX),
+    ];
+    for (name, number) in numbers {
+        let call = mailbox_call(&format!("command {name}"));
+        assert_eq!(
+            call,
+            MailboxCall::Command(Command::Number(number)),
+            "{name}"
+        );
+    }
+    let own = [Command::OwnListen, Command::OwnTalk];
+    let read = ["MLA", "mta"].map(|name| mailbox_call(&format!("command {name}")));
+    assert_eq!(read, own.map(MailboxCall::Command));
+}
+
+#[test]
+fn a_line_speaks_of_what_was_made_last() {
+    let script = "reset\nmailbox 1 1 7\nreset\nreset\ncreate 4 3 1\nreset\n";
+    let script: Script = script.parse().expect("no mistake");
+    let products: Vec<Product> = script
+        .steps
+        .iter()
+        .map(|step| step.call.product())
+        .collect();
+    let (bridge, mailbox) = (Product::Bridge, Product::Mailbox);
+    let expected = [bridge, mailbox, mailbox, mailbox, bridge, bridge];
+    assert_eq!(products, expected);
+}
+
+#[test]
 fn lines_without_a_call() {
     for line in ["", "  \t", "# next", "  # next => no line byte", "\r\n"] {
-        assert_eq!(parse(line), Ok(None), "{line}");
+        for product in [Product::Bridge, Product::Mailbox] {
+            assert_eq!(parse(product, line), Ok(None), "{line}");
+        }
     }
 }
 

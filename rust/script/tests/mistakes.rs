@@ -4,28 +4,47 @@ use raftershim_script::{Script, Unread, LONGEST_LINE};
 use std::error::Error;
 use std::io::{self, BufReader, Read};
 
-/// What is said about a script whose third line is this one, and whose fourth is a mistake too.
-fn mistake(line: &str) -> String {
-    let script = format!("# first\n\n{line}\nnonsense\n");
+/// What is said about a script whose third line is this one, after this first line, and whose fourth
+/// is a mistake too.
+fn mistake_after(first: &str, line: &str) -> String {
+    let script = format!("{first}\n\n{line}\nnonsense\n");
     match script.parse::<Script>() {
         Ok(script) => panic!("{line}: {script:?}"),
         Err(unread) => unread.to_string(),
     }
 }
 
-/// Each line is a mistake: the sentence has its number, what was expected and what was found.
-fn mistakes(expected: &str, lines: &[(&str, &str)]) {
+fn mistake(line: &str) -> String {
+    mistake_after("# first", line)
+}
+
+/// Each line is a mistake after this first line: the sentence has its number, what was expected and
+/// what was found.
+fn mistakes_after(first: &str, expected: &str, lines: &[(&str, &str)]) {
     for (line, found) in lines {
         let sentence = format!("line 3: expected {expected}, found {found}");
-        assert_eq!(mistake(line), sentence);
+        assert_eq!(mistake_after(first, line), sentence);
     }
+}
+
+/// The same in a line that speaks of a bridge.
+fn mistakes(expected: &str, lines: &[(&str, &str)]) {
+    mistakes_after("# first", expected, lines);
+}
+
+/// The same in a line that speaks of a mailbox.
+fn mailbox_mistakes(expected: &str, lines: &[(&str, &str)]) {
+    mistakes_after("mailbox 4 4 7", expected, lines);
 }
 
 #[test]
 fn mistakes_in_the_call() {
-    let calls = "create, reset, restore, register, line, break, key, next, frame, show or state";
+    let calls =
+        "create, mailbox, reset, restore, register, line, break, key, next, frame, show or state";
     let found = [
-        ("lines 5", "lines"),
+        ("linen 5", "linen"),
+        ("or", "or"),
+        ("fetch", "fetch, a call of the mailbox"),
         ("\"next\"", "\"next\""),
         ("a\u{7}b", "a?b"),
     ];
@@ -36,6 +55,103 @@ fn mistakes_in_the_call() {
     let found = [("next =>", "nothing"), ("next => :", "nothing")];
     mistakes("an answer after =>", &found);
     mistakes("a call before =>", &[("=> done", "nothing")]);
+}
+
+#[test]
+fn mistakes_in_the_call_of_a_mailbox() {
+    let calls = "create, mailbox, reset, restore, frame, command, byte, fetch, clear, lines, show \
+                 or state";
+    let found = [
+        ("fetches", "fetches"),
+        ("line 5", "line, a call of the bridge"),
+        ("register R10 8", "register, a call of the bridge"),
+    ];
+    mailbox_mistakes(calls, &found);
+    // A create makes a bridge, and its lines are no lines of a mailbox.
+    let after = mistake_after("mailbox 4 4 7\ncreate 4 3 1", "lines");
+    assert!(
+        after.ends_with("found lines, a call of the mailbox"),
+        "{after}"
+    );
+    mailbox_mistakes("nothing more after fetch", &[("fetch 1", "1")]);
+    mailbox_mistakes("nothing more after lines", &[("lines on", "on")]);
+    mailbox_mistakes(
+        "bus or loop after show",
+        &[("show", "nothing"), ("show receive", "receive")],
+    );
+    mailbox_mistakes("nothing more after show", &[("show bus loop", "loop")]);
+}
+
+#[test]
+fn mistakes_in_bytes_of_the_bus() {
+    let found = [
+        ("byte", "nothing"),
+        ("byte end", "end"),
+        ("byte 256", "256"),
+        ("byte \"2\" ends", "ends"),
+        ("byte \"2\" END", "END"),
+    ];
+    mailbox_mistakes("a byte from 0 to 255 after byte", &found);
+    let found = [("byte 5 end 6", "6"), ("byte \"5\" end end", "end")];
+    mailbox_mistakes("nothing more after byte", &found);
+    // The other calls know no end mark.
+    mailbox_mistakes(
+        "a byte from 0 to 255 after restore",
+        &[("restore 1 end", "end")],
+    );
+    mistakes("a byte from 0 to 255 after line", &[("line 1 end", "end")]);
+}
+
+#[test]
+fn mistakes_in_commands() {
+    let command = "UNL, UNT, MLA, MTA, LAD, TAD, SPE, SPD, DCL, SDC, PPC, PPE, PPD, PPU or a \
+                   number after command";
+    let found = [
+        ("command", "nothing"),
+        ("command IFC", "IFC"),
+        ("command LAD7", "LAD7"),
+        ("command -1", "-1"),
+        ("command 4294967296", "4294967296"),
+        ("command \"UNL\"", "\"UNL\""),
+    ];
+    mailbox_mistakes(command, &found);
+    mailbox_mistakes(
+        "a number from 0 to 30 after LAD",
+        &[("command lad 31", "31")],
+    );
+    mailbox_mistakes(
+        "a number from 0 to 30 after TAD",
+        &[("command TAD", "nothing")],
+    );
+    mailbox_mistakes(
+        "a number from 0 to 15 after PPE",
+        &[("command PPE 16", "16")],
+    );
+    mailbox_mistakes("nothing more after MLA", &[("command MLA 7", "7")]);
+    mailbox_mistakes("nothing more after UNL", &[("command UNL UNT", "UNT")]);
+    mailbox_mistakes("nothing more after command", &[("command 63 7", "7")]);
+}
+
+#[test]
+fn mistakes_in_making_a_mailbox() {
+    let found = [("mailbox", "nothing"), ("mailbox 1000001 4 7", "1000001")];
+    let wanted = "a length of the store to the bus from 0 to 1000000 after mailbox";
+    mistakes(wanted, &found);
+    mailbox_mistakes(wanted, &found);
+    let found = [("mailbox 4", "nothing"), ("mailbox 4 x", "x")];
+    mistakes(
+        "a length of the store to the loop from 0 to 1000000 after mailbox",
+        &found,
+    );
+    let found = [
+        ("mailbox 4 4", "nothing"),
+        ("mailbox 4 4 4294967296", "4294967296"),
+    ];
+    mistakes(
+        "an address on the bus from 0 to 4294967295 after mailbox",
+        &found,
+    );
+    mistakes("nothing more after mailbox", &[("mailbox 4 4 7 1", "1")]);
 }
 
 #[test]

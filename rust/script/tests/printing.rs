@@ -1,6 +1,6 @@
 //! What is printed is read as the same script.
 
-use raftershim_script::{Call, Expected, Script, Side, Step};
+use raftershim_script::{Call, Command, Expected, MailboxCall, Script, Side, Step, Way};
 use std::fs;
 use std::path::Path;
 
@@ -41,9 +41,39 @@ fn every_call() -> Vec<Call> {
     calls
 }
 
+/// Every call of a mailbox, with numbers at the edges of what it can take, after what makes one.
+fn every_mailbox_call() -> Vec<Call> {
+    let mut calls = vec![
+        MailboxCall::Create {
+            to_bus: 0,
+            to_loop: 1_000_000,
+            address: u32::MAX,
+        },
+        MailboxCall::Reset,
+        MailboxCall::Fetch,
+        MailboxCall::Clear,
+        MailboxCall::Lines,
+        MailboxCall::State,
+        MailboxCall::Show(Way::Bus),
+        MailboxCall::Show(Way::Loop),
+        MailboxCall::Restore((0..41).collect()),
+        MailboxCall::Command(Command::OwnListen),
+        MailboxCall::Command(Command::OwnTalk),
+    ];
+    for end in [false, true] {
+        let bytes = vec![255; 1000];
+        calls.push(MailboxCall::Byte { bytes, end });
+    }
+    let numbers = (0..=130).chain([u32::MAX]);
+    calls.extend(numbers.map(|number| MailboxCall::Command(Command::Number(number))));
+    calls.extend([0, 2047, 2048, u32::MAX].map(MailboxCall::Frame));
+    calls.into_iter().map(Call::Mailbox).collect()
+}
+
 #[test]
 fn every_call_and_expected_answer() {
-    let calls = every_call();
+    let mut calls = every_call();
+    calls.extend(every_mailbox_call());
     round_trip(&calls.iter().cloned().collect());
     for expected in ["done", "frame 0,50", "2 bytes: 50 46", "\"#\" => x", "é"] {
         let expected = Expected::new(expected);
@@ -67,6 +97,24 @@ fn names_are_printed_where_there_are_some() {
     assert_eq!(print("frame 1376 # send data"), "frame 5,96\n");
     assert_eq!(print("frame 8,0"), "frame 2048\n");
     assert_eq!(print("line \"2.5\" 13 10"), "line 50 46 53 13 10\n");
+    let print =
+        |line: &str| print(&format!("mailbox 4 4 7\n{line}")).replace("mailbox 4 4 7\n", "");
+    assert_eq!(print("byte \"2.5\" end"), "byte 50 46 53 end\n");
+    for (read, printed) in [
+        ("63", "UNL"),
+        ("39", "LAD 7"),
+        ("tad 7", "TAD 7"),
+        ("99", "PPE 3"),
+        ("112", "PPD"),
+        ("113", "113"),
+        ("6", "6"),
+        ("mla", "MLA"),
+    ] {
+        assert_eq!(
+            print(&format!("command {read}")),
+            format!("command {printed}\n")
+        );
+    }
 }
 
 #[test]
@@ -80,5 +128,5 @@ fn every_script_of_the_folder() {
         round_trip(&script);
         scripts += 1;
     }
-    assert!(scripts > 5, "only {scripts} scripts");
+    assert!(scripts > 12, "only {scripts} scripts");
 }

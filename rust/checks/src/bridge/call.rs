@@ -38,26 +38,6 @@ impl Call {
             Call::Show(_) => return None,
         })
     }
-
-    /// The calls on a state that a call of a script stands for: one for each line byte, and none
-    /// for what makes the state and for saying it.
-    pub fn all_of(call: &script::Call) -> Vec<Call> {
-        vec![match *call {
-            script::Call::Create { .. } | script::Call::Restore(_) | script::Call::State => {
-                return Vec::new()
-            }
-            script::Call::Line(ref bytes) => {
-                return bytes.iter().copied().map(Call::Line).collect()
-            }
-            script::Call::Next => Call::Next,
-            script::Call::Frame(frame) => Call::Frame(frame),
-            script::Call::Break => Call::Break,
-            script::Call::Key => Call::Key,
-            script::Call::Register { number, value } => Call::Register(number, value),
-            script::Call::Reset => Call::Reset,
-            script::Call::Show(side) => Call::Show(side as u32),
-        }]
-    }
 }
 
 impl fmt::Display for Call {

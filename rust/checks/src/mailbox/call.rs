@@ -1,5 +1,6 @@
 //! The calls by the numbers that the C functions take, and what a script has for them.
 
+use script::{Command, MailboxCall, Way};
 use std::fmt;
 
 /// One call of the mailbox, its three buffers aside.
@@ -24,21 +25,32 @@ pub const fn frame(control: u32, data: u32) -> Call {
     Call::Frame(control << 8 | data)
 }
 
+impl Call {
+    /// The call of a script; a script has none for a side that is neither.
+    pub fn in_script(self) -> Option<MailboxCall> {
+        Some(match self {
+            Call::Frame(frame) => MailboxCall::Frame(frame),
+            Call::Command(command) => MailboxCall::Command(Command::Number(command)),
+            Call::Byte(byte, end) => MailboxCall::Byte {
+                bytes: vec![byte],
+                end: end != 0,
+            },
+            Call::Fetch => MailboxCall::Fetch,
+            Call::Clear => MailboxCall::Clear,
+            Call::Lines => MailboxCall::Lines,
+            Call::Reset => MailboxCall::Reset,
+            Call::Show(0) => MailboxCall::Show(Way::Bus),
+            Call::Show(1) => MailboxCall::Show(Way::Loop),
+            Call::Show(_) => return None,
+        })
+    }
+}
+
 impl fmt::Display for Call {
     fn fmt(&self, f: &mut fmt::Formatter) -> fmt::Result {
-        match self {
-            Call::Frame(frame) => write!(f, "frame {}", script::FrameName(*frame)),
-            Call::Command(command) => write!(f, "command {command}"),
-            Call::Byte(byte, 0) => write!(f, "byte {byte}"),
-            Call::Byte(byte, 1) => write!(f, "byte {byte} end"),
-            Call::Byte(byte, end) => write!(f, "byte {byte} end # by the number {end}"),
-            Call::Fetch => write!(f, "fetch"),
-            Call::Clear => write!(f, "clear"),
-            Call::Lines => write!(f, "lines"),
-            Call::Reset => write!(f, "reset"),
-            Call::Show(0) => write!(f, "show bus"),
-            Call::Show(1) => write!(f, "show loop"),
-            Call::Show(_) => write!(f, "# no script has the call {self:?}"),
+        match self.in_script() {
+            Some(call) => write!(f, "{call}"),
+            None => write!(f, "# no script has the call {self:?}"),
         }
     }
 }

@@ -7,6 +7,7 @@ pub mod history;
 pub mod left;
 mod news;
 pub mod planted;
+mod scripted;
 pub mod second;
 mod written;
 

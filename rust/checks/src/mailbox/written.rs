@@ -3,57 +3,47 @@
 use super::call::Call;
 use crate::written::Beginning;
 use mailbox_model::{block, HOME};
+use script::{MailboxCall, Script};
 use std::fmt;
 
 /// Writes how a run begins.
 pub fn begins(beginning: &Beginning<u16>, f: &mut fmt::Formatter) -> fmt::Result {
     match beginning {
-        Beginning::Created([to_bus, to_loop], address) => {
-            writeln!(f, "mailbox {to_bus} {to_loop} {address}")
-        }
-        Beginning::Holding(block, [to_bus, to_loop]) => match address(block, to_bus, to_loop) {
-            Some(address) => made(address, block, [to_bus, to_loop], f),
+        Beginning::Created(lens, address) => writeln!(f, "{}", create(*lens, *address)),
+        Beginning::Holding(block, [to_bus, to_loop]) => match made(block, to_bus, to_loop) {
+            Some(script) => write!(f, "{script}"),
             // A script has no call that leads there.
             None => {
-                let lens = (to_bus.len(), to_loop.len());
-                writeln!(f, "# stores of {}, {}; block {block:?}", lens.0, lens.1)
+                let (one, other) = (to_bus.len(), to_loop.len());
+                writeln!(f, "# stores of {one}, {other}; block {block:?}")
             }
         },
     }
 }
 
-/// The bus address of a block that is a state and fits the stores.
-fn address(block: &[u8], to_bus: &[u16], to_loop: &[u16]) -> Option<u8> {
-    let state = block::unpack(block).filter(|state| state.fits(to_bus, to_loop))?;
-    Some(state.bus_side.address)
+fn create(lens: [usize; 2], address: u32) -> MailboxCall {
+    let [to_bus, to_loop] = lens.map(|len| len as u32);
+    MailboxCall::Create {
+        to_bus,
+        to_loop,
+        address,
+    }
 }
 
-/// The script that makes these buffers: it fills both stores from their first place on, but for the
-/// bits that do not count, and restores the block.
-fn made(
-    address: u8,
-    block: &[u8],
-    [to_bus, to_loop]: [&[u16]; 2],
-    f: &mut fmt::Formatter,
-) -> fmt::Result {
-    writeln!(f, "mailbox {} {} {address}", to_bus.len(), to_loop.len())?;
-    if [to_bus, to_loop].concat().iter().any(|&cell| cell > 511) {
-        writeln!(
-            f,
-            "# cells also had bits above the end mark, which are left out here"
-        )?;
-    }
-    writeln!(f, "{}", Call::Frame(4 << 8 | 32 | u32::from(HOME)))?;
-    for &cell in to_bus {
-        let (byte, end) = (u32::from(cell & 255), u32::from(cell & 256));
-        writeln!(f, "{}", Call::Frame(end << 1 | byte))?;
-    }
-    writeln!(f, "{}", Call::Command(32 + u32::from(address)))?;
-    for &cell in to_loop {
-        let (byte, end) = ((cell & 255) as u8, u32::from(cell >> 8 & 1));
-        writeln!(f, "{}", Call::Byte(byte, end))?;
-    }
-    write!(f, "restore")?;
-    block.iter().try_for_each(|byte| write!(f, " {byte}"))?;
-    writeln!(f)
+/// The script that makes these buffers, if the block is a state that fits the stores: it fills both
+/// stores from their first place on, but for the bits of a cell that do not count, and restores the
+/// block.
+fn made(block: &[u8], to_bus: &[u16], to_loop: &[u16]) -> Option<Script> {
+    let state = block::unpack(block).filter(|state| state.fits(to_bus, to_loop))?;
+    let address = u32::from(state.bus_side.address);
+    let frame = |cell: &u16| Call::Frame(u32::from(cell & 255 | (cell & 256) << 1));
+    let byte = |cell: &u16| Call::Byte((cell & 255) as u8, u32::from(cell & 256));
+    let listen = Call::Frame(4 << 8 | 32 | u32::from(HOME));
+    let bus_listen = Call::Command(32 + address);
+    let calls = std::iter::once(listen).chain(to_bus.iter().map(frame));
+    let calls = calls.chain([bus_listen]).chain(to_loop.iter().map(byte));
+    let first = create([to_bus.len(), to_loop.len()], address);
+    let script = std::iter::once(first).chain(calls.filter_map(Call::in_script));
+    let script = script.chain([MailboxCall::Restore(block.to_vec())]);
+    Some(script.map(script::Call::Mailbox).collect())
 }

@@ -1,5 +1,6 @@
 //! The mailbox at random, and the faults that the draws must find in it.
 
+use crate::again::read_again;
 use mailbox_model::boundary::{BYTE, DONE, FRAME, LINES, NONE, REFUSED};
 use raftershim_checks::draw::Draws;
 use raftershim_checks::machine::Machine;
@@ -66,6 +67,8 @@ fn every_fault_that_is_seen_is_found_twice_and_made_short() {
             let found = Kind::FROM_CREATE.found(both).expect(name);
             assert!(found.steps <= 30, "{name}: {}", found.told);
         }
+        let found = Kind::FROM_CREATE.found([fault, MODEL]).expect(name);
+        read_again(fault, &found.told);
     }
 }
 
@@ -99,6 +102,8 @@ fn a_number_that_no_run_from_create_shows() {
     assert!(Kind::FROM_CREATE.found(both).is_none());
     let found = Kind::FROM_STATES.found(both).expect("it is found");
     assert_eq!(found.steps, 1, "{}", found.told);
+    // Its script fills the stores and restores the block.
+    read_again(both[0], &found.told);
 }
 
 #[test]

@@ -4,6 +4,7 @@
 //! number, to `fresh` for runs that nobody has seen. With `AT_RANDOM=long` there are thirty times
 //! as many. A run that shows a difference is made short and printed as a script for replay.
 
+mod again;
 mod mailbox;
 mod planted;
 

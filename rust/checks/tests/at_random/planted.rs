@@ -1,34 +1,17 @@
 //! Faults that are planted on purpose: the draws find each, and the script that is told is short,
 //! is read as it was printed, and leads to the same difference again.
 
+use crate::again::read_again;
 use crate::Kind;
-use raftershim_checks::bridge::played::play;
 use raftershim_checks::bridge::{planted, TheBridge, MODEL};
 use raftershim_checks::implementation;
-use raftershim_checks::written::script_in;
-use script::{Call, Script};
+use script::Call;
 
 type Implementation = implementation::Implementation<TheBridge>;
 
-/// A finding without the script that leads to it.
-fn without_script(told: &str) -> &str {
-    let script = script_in(told).expect("a script is told");
-    &told[..told.len() - script.len()]
-}
-
-/// Reads the script that was told, which is printed again as it was, shows the same difference, and
-/// is played by replay to its end. Gives the lengths of its stores.
+/// Reads the script that was told again. Gives the lengths of its stores.
 fn stores_of(fault: Implementation, told: &str) -> (usize, usize) {
-    let printed = script_in(told).expect("a script is told");
-    let script: Script = printed.parse().expect("it has no mistake");
-    assert_eq!(script.to_string(), printed);
-    let again = play([fault, MODEL], &script).expect_err("it differs again");
-    assert_eq!(without_script(&again), without_script(told));
-    let counts = replay::run::run(&mut printed.as_bytes(), &mut Vec::new()).expect("it is played");
-    assert_eq!(
-        (counts.calls, counts.not_played),
-        (script.steps.len() as u64, 0)
-    );
+    let script = read_again(fault, told);
     match script.steps[0].call {
         Call::Create {
             receive, transmit, ..

@@ -1,0 +1,54 @@
+//! What a script asks of a bridge, by the types of the bridge.
+
+use crate::facts::facts;
+use crate::say::Said;
+use raftershim::{BadSize, Frame, MailByte, Refusal, Register, Saved, Side, Stores};
+
+/// A bridge with its stores.
+pub type Bridge = raftershim::Bridge<Vec<u8>, Vec<u8>>;
+
+/// Creates a bridge on stores of these lengths, with this margin.
+pub fn create(receive: u32, transmit: u32, margin: u32) -> Result<Bridge, BadSize> {
+    let stores = Stores {
+        receive: vec![0; receive as usize],
+        transmit: vec![0; transmit as usize],
+    };
+    Bridge::create(stores, margin)
+}
+
+/// Gives the bridge a saved block; one that does not fit leaves the bridge as it was.
+pub fn restore(bridge: &mut Bridge, block: &[u8]) -> Result<(), Refusal> {
+    let (_, stores) = bridge.clone().into_parts();
+    *bridge = Bridge::restore(Saved::try_from(block)?, stores)?;
+    Ok(())
+}
+
+/// Writes a register; what is no register and no byte is refused in the order of the numbers.
+pub fn write(bridge: &mut Bridge, number: u32, value: u32) -> Result<(), Refusal> {
+    let register = Register::try_from(number)?;
+    let value = u8::try_from(value).map_err(|_| Refusal::VALUE_TOO_LARGE)?;
+    bridge.write_register(register, value)
+}
+
+/// Takes a loop frame.
+pub fn pass(bridge: &mut Bridge, frame: u32) -> Result<Frame, Refusal> {
+    bridge.loop_frame(Frame::try_from(frame)?)
+}
+
+/// Shows a store.
+pub fn show(bridge: &Bridge, side: script::Side) -> Said {
+    let side = match side {
+        script::Side::Receive => Side::Receive,
+        script::Side::Transmit => Side::Transmit,
+    };
+    let shown = bridge.show(side).iter();
+    Said::Shown(shown.map(|&byte| MailByte::from(u16::from(byte))).collect())
+}
+
+/// Says the state.
+pub fn state(bridge: &Bridge) -> Said {
+    match bridge.state() {
+        Ok(state) => Said::Facts(facts(&state)),
+        Err(refusal) => Said::refused(refusal, &refusal),
+    }
+}
