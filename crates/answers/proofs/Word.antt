@@ -3,7 +3,7 @@ use Prim.Native.Nat.{ℕ, _+_}
 use native.Mathlib.Omega.{arith}
 use mathlib.Core.Path.{_≡_}
 use Rattle.answers.specs.declared.Answer.{Answer}
-use Rattle.answers.specs.declared.Answer.the-variants.{Done, Nothing, Byte, Frame, Refused}
+use Rattle.answers.specs.declared.Answer.the-variants.{Done, Nothing, Byte, Frame, Refused, Cell, Lines}
 use Rattle.answers.specs.Answers.{said}
 use Rattle.answers.specs.Word.{word, kindOf, valueOf}
 
@@ -27,3 +27,11 @@ module _ (a : Answer) (n r : ℕ) (h : r ≡ n) where
   pub refused-word : a ≡ Refused n → 262144 + r ≡ word (said a)
   unfolding said word kindOf valueOf
   refused-word e = rw (e, h)
+
+  pub cell-word : a ≡ Cell n → 131072 + r ≡ word (said a)
+  unfolding said word kindOf valueOf
+  cell-word e = rw (e, h)
+
+  pub lines-word : a ≡ Lines n → 327680 + r ≡ word (said a)
+  unfolding said word kindOf valueOf
+  lines-word e = rw (e, h)

@@ -4,13 +4,16 @@ ghost use Prim.Native.Nat.{_<_};
 ghost use Rattle.answers.specs.Answers.{isRefusal, faultOf, isByte, byteIn, said};
 ghost use Rattle.answers.specs.Word.{word};
 
-// A call has nothing to hand out, has no line byte to give, gives a line byte, gives a frame, or is refused.
+// A call has nothing to hand out, has nothing to give, gives a line byte, gives a frame, is refused, or, on the bus of a mailbox, gives a cell
+// or the lines.
 pub enum Answer {
     Done,
     Nothing,
     Byte(u8),
     Frame(u16),
     Refused(u8),
+    Cell(u16),
+    Lines(u16),
 }
 
 // Whether an answer is a refusal.
@@ -67,5 +70,7 @@ pub fn word_of(a: Answer) -> u64
         Answer::Byte(b) => 131072 + wide8(b),
         Answer::Frame(f) => 196608 + wide16(f),
         Answer::Refused(n) => 262144 + wide8(n),
+        Answer::Cell(c) => 131072 + wide16(c),
+        Answer::Lines(n) => 327680 + wide16(n),
     }
 }

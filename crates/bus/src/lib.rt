@@ -1,18 +1,20 @@
 // A device on the HP-IB bus: its role, the serial poll and how it is set to answer a parallel poll. What it hands over is not known here.
 ghost use mathlib.Core.Path.{_≡_};
-ghost use Rattle.bus.specs.Bus.{startBus, responseAfter, serialAfter, commanded, interfaceCleared, clears, fetchOf, fitTest};
+ghost use Rattle.bus.specs.Bus.{startBus, responseAfter, serialAfter, commanded, interfaceCleared, clears, fetchOf, pollBits, fitTest};
+ghost use Prim.Native.Nat.{_<_};
 use polls::Response;
 use role::Order;
 use role::Role;
 
 // role: the bus address, talker or not, listener or not. serial: in serial poll mode. read: the status byte was handed over since the last
-// command. configuring: the next secondary command sets the response.
+// command. configuring: the next secondary command sets the response. polled: a parallel poll is answered, on this line of the eight.
 pub struct Bus {
     pub role: Role,
     pub serial: bool,
     pub read: bool,
     pub configuring: bool,
-    pub response: Response,
+    pub polled: bool,
+    pub line: u8,
 }
 
 // What the bus is given when it asks for a byte.
@@ -35,7 +37,8 @@ pub fn start(address: u8) -> Bus
         serial: false,
         read: false,
         configuring: false,
-        response: polls::none(),
+        polled: false,
+        line: 0,
     }
 }
 
@@ -49,7 +52,11 @@ fn response_after(b: Bus, c: u8) -> Response
     if b.configuring | (c == 21) {
         return polls::none();
     }
-    b.response
+    Response {
+        on: b.polled,
+        line: b.line,
+        sense: true,
+    }
 }
 
 // Whether it is in serial poll mode after the command c.
@@ -78,7 +85,8 @@ pub fn commanded(b: Bus, c: u8) -> Bus
         serial: s,
         read: false,
         configuring: (c == 5) & b.role.listener,
-        response: p,
+        polled: p.on,
+        line: p.line,
     }
 }
 
@@ -93,7 +101,8 @@ pub fn interface_cleared(b: Bus) -> Bus
         serial: false,
         read: false,
         configuring: false,
-        response: p,
+        polled: p.on,
+        line: p.line,
     }
 }
 
@@ -101,7 +110,20 @@ pub fn interface_cleared(b: Bus) -> Bus
 pub fn clears(b: Bus, c: u8) -> bool
     ensures { λ r. ⌜ r ≡ clears b c ⌝ }
 {
-    (c == 20) | ((c == 4) & b.role.listener)
+    role::is_clear(role::order_of(31, b.role, c))
+}
+
+// The bits that answer a parallel poll while service is requested, or while it is not.
+pub fn poll_bits(b: Bus, requested: bool) -> u8
+    requires { ⌜ b .line < 8 ⌝ }
+    ensures { λ r. ⌜ r ≡ pollBits b requested ⌝ }
+{
+    let p = Response {
+        on: b.polled,
+        line: b.line,
+        sense: true,
+    };
+    polls::answer(p, requested)
 }
 
 // What the bus is given when it asks for a byte now.
@@ -124,8 +146,5 @@ pub fn fetch_of(b: Bus) -> Fetch
 pub fn bus_fits(b: Bus) -> bool
     ensures { λ r. ⌜ r ≡ fitTest b ⌝ }
 {
-    role::role_fits(b.role)
-        & (b.role.address <= 30)
-        & (b.role.phase <= 1)
-        & polls::response_fits(b.response)
+    role::role_fits(b.role) & (b.role.address <= 30) & (b.role.phase <= 1) & (b.line < 8)
 }

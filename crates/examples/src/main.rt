@@ -42,6 +42,14 @@ fn answer(a: Answer) {
             text(b"refused ");
             number(n as u64);
         }
+        Answer::Cell(c) => {
+            text(b"cell ");
+            number(c as u64);
+        }
+        Answer::Lines(n) => {
+            text(b"lines ");
+            number(n as u64);
+        }
     }
 }
 

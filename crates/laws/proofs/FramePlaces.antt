@@ -19,8 +19,9 @@ use Rattle.line.specs.HoldingOff.{resumed}
 use Rattle.loopside.specs.LoopToLine.{adds, addedState}
 use Rattle.talker.specs.UnderWay.{talking}
 use Rattle.loopside.specs.Sends.{ruleOf, ended, removedState, sendState, sendFrom, sendStatus}
-use Rattle.loopside.specs.Frames.{isClear, orderIn, cleared, obeyed, frameTaken, deviceClear, addsBytes}
-use Rattle.loopside.proofs.Clears.{clear-order}
+use Rattle.loopside.specs.Frames.{orderIn, cleared, obeyed, frameTaken, deviceClear, addsBytes}
+use Rattle.role.specs.Orders.{isClear}
+use Rattle.role.proofs.Clears.{clear-order}
 use Rattle.laws.specs.Places.{nextPlace}
 use Rattle.laws.proofs.OneStore.{left}
 use Rattle.laws.proofs.Ways.{Returning, Readying, Way, way}
@@ -65,7 +66,7 @@ module _ (rx : List ℕ) (s : State) (fit : Fit rx (s .rx)) where
 
     clear-same : eqb (controlOf f) 4 ≡ true → deviceClear s f ≡ isClear (orderIn s f)
     unfolding deviceClear
-    clear-same e = λ i. e i && sym (clear-order (s .talker .role) (dataOf f)) i
+    clear-same e = λ i. e i && sym (clear-order 31 (s .talker .role) (dataOf f)) i
 
     return-kind : (t : State) → Returning s f → S t → K t
     unfolding addsBytes

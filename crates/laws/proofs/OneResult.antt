@@ -5,46 +5,13 @@ use mathlib.Core.Path.{_≡_, refl, sym, ap, subst, _∙_}
 use mathlib.Core.Bool.{Bool, true, false, false≢true}
 use mathlib.Core.List.{List}
 use lib.ListN.{length}
-use Rattle.answers.specs.declared.Answer.{Answer}
-use Rattle.answers.specs.declared.Answer.the-variants.{Done, Nothing, Byte, Frame, Refused}
 use Rattle.answers.specs.Answers.{part, said}
+use Rattle.answers.proofs.Answers.{said-one}
 use Rattle.state.specs.declared.Outcome.{Outcome}
 use Rattle.state.specs.Sizes.{sizesObeyed, startState}
 use Rattle.bridge.specs.Calls.{create, Did, did, checks, notRefused, refusedOr, step, Promised, unmade}
 use Rattle.laws.proofs.Refusing.{by-refusal}
 use Rattle.laws.specs.OneResult.{OneResult, CreatedAnywhere, CreateTakesNoState}
-
-same-frame : (f g : ℕ) → f / 256 ≡ g / 256 → f % 256 ≡ g % 256 → f ≡ g
-same-frame f g p q = omega arith
-
--- the paper's number and values tell the answers apart
-pub said-one : (a b : Answer) → said a ≡ said b → a ≡ b
-unfolding said
-said-one Done Done e = refl
-said-one Nothing Nothing e = refl
-said-one (Byte x) (Byte y) e = let z : x ≡ y = cc in ap Byte z
-said-one (Frame f) (Frame g) e = let p : f / 256 ≡ g / 256 = cc in let q : f % 256 ≡ g % 256 = cc in ap Frame (same-frame f g p q)
-said-one (Refused x) (Refused y) e = let z : x ≡ y = cc in ap Refused z
-said-one Done Nothing e = cc
-said-one Done (Byte y) e = cc
-said-one Done (Frame y) e = cc
-said-one Done (Refused y) e = cc
-said-one Nothing Done e = cc
-said-one Nothing (Byte y) e = cc
-said-one Nothing (Frame y) e = cc
-said-one Nothing (Refused y) e = cc
-said-one (Byte x) Done e = cc
-said-one (Byte x) Nothing e = cc
-said-one (Byte x) (Frame y) e = cc
-said-one (Byte x) (Refused y) e = cc
-said-one (Frame x) Done e = cc
-said-one (Frame x) Nothing e = cc
-said-one (Frame x) (Byte y) e = cc
-said-one (Frame x) (Refused y) e = cc
-said-one (Refused x) Done e = cc
-said-one (Refused x) Nothing e = cc
-said-one (Refused x) (Byte y) e = cc
-said-one (Refused x) (Frame y) e = cc
 
 pub one-result : OneResult
 one-result =

@@ -19,7 +19,8 @@ use Rattle.state.specs.State.{withTalker}
 use Rattle.state.specs.Conditions.{serviced, afterStatusBack}
 use Rattle.loopside.specs.LoopToLine.{addedState}
 use Rattle.loopside.specs.Sends.{sendFrom, sendStatus, ended}
-use Rattle.loopside.specs.Frames.{passed, isClear, orderIn, obeyed, cleared, commandState, command}
+use Rattle.loopside.specs.Frames.{passed, orderIn, obeyed, cleared, commandState, command}
+use Rattle.role.specs.Orders.{isClear}
 use Rattle.loopside.specs.Frames.{readied, ready, judged, returned, dataPassed, identify, frameTaken}
 
 -- a data frame that is a return, one that is not, a command, a ready frame, and any other

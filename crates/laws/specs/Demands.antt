@@ -6,9 +6,9 @@ use mathlib.Core.List.{[]}
 use lib.Dec.{ltb}
 use Rattle.machine.specs.Course.{all, Without}
 use Rattle.machine.specs.Machine.{ofCalls, ofRuns}
-use Rattle.machine.specs.Turns.{Reading, AllRead}
+use Rattle.machine.specs.Turns.{Reading, Kept}
 use Rattle.bridge.specs.Calls.{Call, on, loopFrame, World}
-use Rattle.answers.specs.Answers.{Said, done, none, byte, frame, refused, part}
+use Rattle.answers.specs.Answers.{Said, done, none, byte, frame, refused, part, cell, lines}
 use Rattle.laws.specs.Observers.{taken, isFrame, accepted, lost, sent, changes}
 use Rattle.laws.specs.Spells.{spells, AtMost}
 use Rattle.laws.specs.Bridges.{Law}
@@ -33,6 +33,8 @@ isEleven done = true
 isEleven none = true
 isEleven (byte b) = true
 isEleven (part xs) = true
+isEleven (cell n) = true
+isEleven (lines n) = true
 
 -- of every frame out
 abbrev pub ElevenBits : Law
@@ -48,7 +50,7 @@ lineToLoop = record { accepted = accepted; sent = sent; held = heldToSend; reads
 -- bytes still held are together what it gives for all the bytes there were, those held at first and then those accepted; the service bit
 -- aside
 abbrev pub FramesRead : Law
-FramesRead = ofRuns (λ w ss. Without changes ss → AllRead lineToLoop w ss)
+FramesRead = Kept lineToLoop changes
 
 -- second: after a loss the overrun bit stays until a status byte that was sent later is back unchanged; also where registers are written
 abbrev pub OverrunStays : Law

@@ -1,11 +1,6 @@
 -- Loop to line over a run, register writes included.
-use mathlib.Core.Path.{_≡_}
-use mathlib.Core.Bool.{true}
-use mathlib.Core.List.{_++_}
 use Prim.Native.Nat.{ℕ}
-use Rattle.machine.specs.Course.{of, end, all, Without}
-use Rattle.machine.specs.Machine.{ofRuns, ofSince}
-use Rattle.machine.specs.Turns.{Reading, AllRead}
+use Rattle.machine.specs.Turns.{Reading, Kept, Since}
 use Rattle.answers.specs.Answers.{Said}
 use Rattle.bridge.specs.Calls.{Call, World}
 use Rattle.laws.specs.Observers.{added, handedOut, empties}
@@ -18,9 +13,9 @@ loopToLine = record { accepted = added; sent = handedOut; held = heldForLine; re
 
 -- whatever was held: the line bytes handed out in order, our own go and stop aside, followed by those held
 abbrev pub LineKept : Law
-LineKept = ofRuns (λ w ss. Without empties ss → AllRead loopToLine w ss)
+LineKept = Kept loopToLine empties
 
 -- Loop to line, last: what was handed out since the stores were emptied, without our own go and stop, and then what is held, is what the
 -- frames added
 abbrev pub LineSince : Law
-LineSince = ofSince (λ s ss. of empties s ≡ true → Without empties ss → all handedOut ss ++ heldForLine (end (s .after) ss) ≡ all added ss)
+LineSince = Since loopToLine empties empties

@@ -9,7 +9,7 @@ use Rattle.registers.specs.Bits.{bit}
 use Rattle.role.specs.Role.{addressed, activeData, isActive}
 use Rattle.store.specs.Ring.{full}
 use Rattle.state.specs.declared.State.{State}
-use Rattle.answers.specs.Answers.{Said, done, none, byte, frame, refused, part, isRefusal}
+use Rattle.answers.specs.Answers.{Said, done, none, byte, frame, refused, part, cell, lines, isRefusal}
 use Rattle.loopside.specs.Frames.{deviceClear}
 use Rattle.bridge.specs.Calls.{OnState, reset, nextLineByte, Call, create, show, on, onState, ofFrame, ofLineByte, ofWrite, is, World}
 
@@ -27,6 +27,8 @@ isFrame done = false
 isFrame none = false
 isFrame (byte b) = false
 isFrame (part l) = false
+isFrame (cell n) = false
+isFrame (lines n) = false
 
 -- the data frame answered, the service bit aside
 abbrev pub dataFrame : Said → List ℕ
@@ -36,6 +38,8 @@ dataFrame done = []
 dataFrame none = []
 dataFrame (byte b) = []
 dataFrame (part l) = []
+dataFrame (cell n) = []
+dataFrame (lines n) = []
 
 -- the line byte answered
 abbrev pub lineByteOf : Said → List ℕ
@@ -45,6 +49,8 @@ lineByteOf done = []
 lineByteOf none = []
 lineByteOf (frame k d) = []
 lineByteOf (part l) = []
+lineByteOf (cell n) = []
+lineByteOf (lines n) = []
 
 -- there is something
 abbrev pub any : List ℕ → Bool

@@ -3,8 +3,9 @@ use Prim.Native.Nat.{ℕ}
 use mathlib.Core.Path.{_≡_}
 use mathlib.Core.Bool.{true, false}
 use mathlib.Core.List.{List, [], _∷_, _++_}
-use Rattle.machine.specs.Course.{of, end, all, Without}
-use Rattle.machine.specs.Machine.{ofCalls, ofSince}
+use Rattle.machine.specs.Course.{of}
+use Rattle.machine.specs.Machine.{ofCalls}
+use Rattle.machine.specs.Turns.{Since}
 use Rattle.reading.specs.Reading.{sentRest, send}
 use Rattle.reading.specs.Steps.{cut}
 use Rattle.answers.specs.Answers.{frame}
@@ -12,6 +13,7 @@ use Rattle.bridge.specs.Calls.{loopFrame, on}
 use Rattle.laws.specs.Bridges.{Law, Saw}
 use Rattle.laws.specs.Observers.{taken, onFrame, isSend, accepted, sent, changes, empties}
 use Rattle.laws.specs.Worlds.{heldToSend, ruleIn, reading}
+use Rattle.laws.specs.Demands.{lineToLoop}
 
 -- the first of these, if any
 abbrev pub firstOf : List ℕ → List ℕ
@@ -41,7 +43,4 @@ NoneRemoved =
 -- Frames, device clear: both stores empty; since a create, reset or device clear the frames sent, followed by those of the bytes still held,
 -- are those of all accepted since, and of nothing that was held before
 abbrev pub FramesSince : Law
-FramesSince =
-    ofSince
-    (λ s ss. of empties s ≡ true → Without changes ss →
-    all sent ss ++ reading (end (s .after) ss) (heldToSend (end (s .after) ss)) ≡ reading (s .after) (all accepted ss))
+FramesSince = Since lineToLoop empties changes

@@ -41,7 +41,8 @@ use Rattle.loopside.specs.LoopToLine.{adds, busy}
 use Rattle.line.specs.HoldingOff.{resumed}
 use Rattle.state.specs.Conditions.{settledOutcome, serviced, statusOf, afterStatus, afterStatusBack}
 use Rattle.loopside.specs.Sends.{ended, ruleOf, removedState, sendState, sendFrom, sendStatus}
-use Rattle.loopside.specs.Frames.{isClear, cleared, obeyed, command, commandSettled, commandState, readied, ready, judged, returned}
+use Rattle.loopside.specs.Frames.{cleared, obeyed, command, commandSettled, commandState, readied, ready, judged, returned}
+use Rattle.role.specs.Orders.{isClear}
 
 -- ---- what a frame adds
 

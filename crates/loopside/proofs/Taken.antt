@@ -15,7 +15,7 @@ use Rattle.state.specs.declared.State.{State}
 use Rattle.state.specs.declared.Outcome.{Outcome}
 use Rattle.answers.specs.declared.Answer.the-variants.{Frame}
 use Rattle.state.specs.State.{withTx}
-use Rattle.loopside.proofs.Clears.{clear-order}
+use Rattle.role.proofs.Clears.{clear-order}
 use Rattle.loopside.specs.LoopToLine.{adds, addedState, addedBytes, Added}
 use Rattle.state.specs.Conditions.{serviced, settledOutcome}
 use Rattle.loopside.specs.Frames.{command, ready, returned, dataPassed, Passed, identify, commandSettled, frameTaken, deviceClear}
@@ -79,7 +79,7 @@ module _ (s : State) (rx tx : List ℕ) (f : ℕ) (o : Outcome) where
     pub taken-command : controlOf f ≡ 4 → o ≡ commandSettled s f → Framed s rx tx f tx o
     unfolding frameSettled frameTaken frameBytes addsBytes commandSettled deviceClear
     taken-command h a =
-        record { outcome = rw (a, e, eq-eqb (controlOf f) 4 h, clear-order (s .talker .role) (dataOf f)); bytes = rw e; size = refl }
+        record { outcome = rw (a, e, eq-eqb (controlOf f) 4 h, clear-order 31 (s .talker .role) (dataOf f)); bytes = rw e; size = refl }
 
     module _ (h : controlOf f ≡ 4 → ⊥) where
       pub taken-ready : (p : Outcome) → controlOf f ≡ 5 → p ≡ ready s rx f → o ≡ settledOutcome s p → Framed s rx tx f tx o

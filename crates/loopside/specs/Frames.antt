@@ -11,7 +11,7 @@ use Rattle.role.specs.declared.Order.the-variants.{Unlisten, Listen, Untalk, Ta
 use Rattle.role.specs.declared.Ready.{Ready}
 use Rattle.role.specs.declared.Ready.the-variants.{Pass, Address, Data, Status, Finish}
 use Rattle.role.specs.Role.{isActive}
-use Rattle.role.specs.Orders.{orderOf}
+use Rattle.role.specs.Orders.{orderOf, isDeviceClear, isClear}
 use Rattle.role.specs.Remote.{obeyedRemote}
 use Rattle.role.specs.ReadyFrames.{readyOf}
 use Rattle.talker.specs.declared.Return.{Return}
@@ -53,20 +53,6 @@ cleared s =
     (withLine (withTx (withRx s (emptyRing (s .rx .cap))) (emptyRing (s .tx .cap)))
     (record { holding = false; forbidden = false; stopped = s .line .stopped }))
     (record { seen = noEvents; again = noEvents; request = false })
-
--- the order is a device clear
-abbrev pub isClear : Order → Bool
-isClear Clear = true
-isClear Unlisten = false
-isClear Listen = false
-isClear Untalk = false
-isClear Talk = false
-isClear Deselect = false
-isClear Enable = false
-isClear Disable = false
-isClear Local = false
-isClear Unassign = false
-isClear Nothing = false
 
 -- the talker and the remote flags after an order
 unfoldable pub obeyed : State → Order → State
@@ -145,7 +131,7 @@ frameTaken s rx f = byControl f (cond (isActive (s .talker .role)) (returned s r
 
 -- Frames, commands: 20, or 4 to a listener, is a device clear
 unfoldable pub deviceClear : State → ℕ → Bool
-deviceClear s f = eqb (controlOf f) 4 && (eqb (dataOf f) 20 || (eqb (dataOf f) 4 && s .talker .role .listener))
+deviceClear s f = eqb (controlOf f) 4 && isDeviceClear (s .talker .role .listener) (dataOf f)
 
 -- Status byte, requests: what the frame f gives, with the request that it began; a device clear leaves none
 abbrev pub settledFrame : State → ℕ → Outcome → Outcome

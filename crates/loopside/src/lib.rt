@@ -4,7 +4,7 @@ ghost use lib.ListN.{length};
 ghost use Rattle.store.specs.Ring.{Within};
 ghost use Rattle.state.specs.Sizes.{RxFits, TxFits};
 ghost use Rattle.loopside.specs.LoopToLine.{adds, busy, Added};
-ghost use Rattle.loopside.specs.Frames.{isClear, cleared, obeyed, commandSettled, ready, returned, Passed, Framed};
+ghost use Rattle.loopside.specs.Frames.{cleared, obeyed, commandSettled, ready, returned, Passed, Framed};
 use answers::Answer;
 use registers::Registers;
 use role::Order;
@@ -56,25 +56,6 @@ fn leave(s: State, tx: &mut [u8], f: u16) -> State
     t
 }
 
-// Whether an order is a device clear.
-fn is_clear(o: Order) -> bool
-    ensures { λ r. ⌜ r ≡ isClear o ⌝ }
-{
-    match o {
-        Order::Clear => true,
-        Order::Unlisten => false,
-        Order::Listen => false,
-        Order::Untalk => false,
-        Order::Talk => false,
-        Order::Deselect => false,
-        Order::Enable => false,
-        Order::Disable => false,
-        Order::Local => false,
-        Order::Unassign => false,
-        Order::Nothing => false,
-    }
-}
-
 // The state after a device clear.
 fn clear(s: State) -> State
     ensures { λ r. ⌜ r ≡ cleared s ⌝ }
@@ -108,7 +89,7 @@ fn command(s: State, f: u16) -> Outcome
 {
     let o = role::order_of(31, s.talker.role, frame::data_byte(f));
     let t = obey(s, o);
-    if is_clear(o) {
+    if role::is_clear(o) {
         return Outcome {
             state: clear(t),
             answer: Answer::Frame(f),

@@ -10,14 +10,13 @@ use Rattle.news.specs.declared.News.{News}
 use Rattle.news.specs.News.{noNews, newsByte}
 use Rattle.way.specs.declared.Way.{Way}
 use Rattle.way.specs.Way.{emptyWay, fetched, told, Left}
-use Rattle.polls.specs.Polls.{answerBits}
 use Rattle.bus.specs.declared.Bus.{Bus}
 use Rattle.bus.specs.declared.Fetch.{Fetch}
 use Rattle.bus.specs.declared.Fetch.the-variants.{Silent, Status, Data}
-use Rattle.bus.specs.Bus.{clears, commanded, interfaceCleared, fetchOf}
+use Rattle.bus.specs.Bus.{clears, commanded, interfaceCleared, fetchOf, pollBits}
 use Rattle.mailstate.specs.declared.State.{State}
 use Rattle.mailstate.specs.declared.Outcome.{Outcome}
-use Rattle.mailstate.specs.declared.Answer.the-variants as answer
+use Rattle.answers.specs.declared.Answer.the-variants as answer
 use Rattle.mailstate.specs.State.{withToBus, withToLoop, withBus}
 use Rattle.mailbox.specs.BusSide.{doneWith, cellWith, busCommand, busClear, busByte, busCells, read, dataGiven, statusGiven, given, busFetch, busLines, Taken}
 
@@ -75,7 +74,7 @@ module _ (s : State) (tobus : List ℕ) (f : Fetch) (ef : f ≡ fetchOf (s .bus)
   unfolding busFetch given
   given-data o e q = q ∙ ap (given s tobus) (sym e ∙ ef)
 
-pub lines-met : (s : State) (bits x : ℕ) → bits ≡ answerBits (s .bus .response) (s .tobus .news .request) → x ≡ cellWith bits (s .tobus .news .request) →
+pub lines-met : (s : State) (bits x : ℕ) → bits ≡ pollBits (s .bus) (s .tobus .news .request) → x ≡ cellWith bits (s .tobus .news .request) →
     record { state = s; answer = answer.Lines x } ≡ busLines s
 unfolding busLines
 lines-met s bits x eb ex = rw (ex, eb)

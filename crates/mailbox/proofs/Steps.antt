@@ -12,7 +12,7 @@ use Rattle.mailstate.specs.declared.Outcome.{Outcome}
 use Rattle.mailstate.specs.Sizes.{sizesObeyed, startState, fits}
 use Rattle.mailloop.specs.Messages.{busy, Framed}
 use Rattle.mailbox.specs.BusSide.{doneWith, busBusy, Taken}
-use Rattle.mailbox.specs.Answers.{said}
+use Rattle.answers.specs.Answers.{said}
 use Rattle.mailbox.specs.Calls.{OnState, world, did, handed, checksOn, checks, outcome, tobusAfter, toloopAfter, shown, notRefused, refusedOr, refusedWith, step, unmade}
 use Rattle.mailbox.specs.Calls.{loopFrame, busCommand, busByte, create, show, on}
 

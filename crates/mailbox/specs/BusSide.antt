@@ -8,14 +8,13 @@ use lib.ListN.{length, getD}
 use Rattle.store.specs.Ring.{held, full, putBytes}
 use Rattle.news.specs.News.{noNews, newsByte}
 use Rattle.way.specs.Way.{emptyWay, leftIn, fetched, told}
-use Rattle.polls.specs.Polls.{answerBits}
 use Rattle.bus.specs.declared.Bus.{Bus}
 use Rattle.bus.specs.declared.Fetch.{Fetch}
 use Rattle.bus.specs.declared.Fetch.the-variants.{Silent, Status, Data}
-use Rattle.bus.specs.Bus.{clears, commanded, interfaceCleared, fetchOf}
+use Rattle.bus.specs.Bus.{clears, commanded, interfaceCleared, fetchOf, pollBits}
 use Rattle.mailstate.specs.declared.State.{State}
 use Rattle.mailstate.specs.declared.Outcome.{Outcome}
-use Rattle.mailstate.specs.declared.Answer.the-variants as answer
+use Rattle.answers.specs.declared.Answer.the-variants as answer
 use Rattle.mailstate.specs.State.{withToBus, withToLoop, withBus}
 
 abbrev pub doneWith : State → Outcome
@@ -59,7 +58,7 @@ pub record Taken (s : State) (toloop : List ℕ) (b : ℕ) (mark : Bool) (toloop
 
 -- the status byte is read, once
 abbrev pub read : Bus → Bus
-read b = record { role = b .role; serial = b .serial; read = true; configuring = b .configuring; response = b .response }
+read b = record { role = b .role; serial = b .serial; read = true; configuring = b .configuring; polled = b .polled; line = b .line }
 
 -- the oldest cell that waits for the bus
 unfoldable pub dataGiven : State → List ℕ → Outcome
@@ -85,4 +84,4 @@ busFetch s cells = given s cells (fetchOf (s .bus))
 
 unfoldable pub busLines : State → Outcome
 busLines s =
-    record { state = s; answer = answer.Lines (cellWith (answerBits (s .bus .response) (s .tobus .news .request)) (s .tobus .news .request)) }
+    record { state = s; answer = answer.Lines (cellWith (pollBits (s .bus) (s .tobus .news .request)) (s .tobus .news .request)) }

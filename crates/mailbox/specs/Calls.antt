@@ -9,11 +9,11 @@ use Rattle.answers.specs.Refusals.{Check, check, firstRefusal}
 use Rattle.store.specs.Ring.{run}
 use Rattle.mailstate.specs.declared.State.{State}
 use Rattle.mailstate.specs.declared.Outcome.{Outcome}
-use Rattle.mailstate.specs.declared.Answer.the-variants as answer
+use Rattle.answers.specs.declared.Answer.the-variants as answer
 use Rattle.mailstate.specs.Sizes.{sizesObeyed, startState, fits}
 use Rattle.mailloop.specs.Messages.{busy, frameTaken, frameCells}
 use Rattle.mailbox.specs.BusSide as bus-side
-use Rattle.mailbox.specs.Answers.{Said, said, refused, part}
+use Rattle.answers.specs.Answers.{Said, said, refused, part}
 
 -- seven calls are made on a state: a reset, a frame of the loop, and of the bus a command, a byte with its end mark or without, the fetching
 -- of a byte, an interface clear and the lines

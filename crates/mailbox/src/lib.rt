@@ -5,8 +5,8 @@ ghost use Rattle.store.specs.Ring.{Fit};
 ghost use Rattle.mailbox.specs.BusSide as bus-side;
 ghost use Rattle.mailbox.specs.Calls.{Promised, unmade, world, did, handed, refusedWith};
 ghost use Rattle.mailbox.specs.Calls.{on, create, reset, loopFrame, busCommand, busByte, busFetch, busClear, busLines, show};
+use answers::Answer;
 use bus::Fetch;
-use mailstate::Answer;
 use mailstate::Outcome;
 use mailstate::State;
 
@@ -141,10 +141,10 @@ fn given(s: State, tobus: &[u16]) -> Outcome
 
 // The lines of the bus.
 fn lines(s: State) -> Outcome
-    requires { ⌜ s .bus .response .line < 8 ⌝ }
+    requires { ⌜ s .bus .line < 8 ⌝ }
     ensures { λ r. ⌜ r ≡ bus-side.busLines s ⌝ }
 {
-    let bits = polls::answer(s.bus.response, s.tobus.news.request);
+    let bits = bus::poll_bits(s.bus, s.tobus.news.request);
     let shown = cell_with(bits, s.tobus.news.request);
     Outcome {
         state: s,

@@ -12,7 +12,7 @@ use Rattle.role.specs.declared.Order.{Order}
 use Rattle.role.specs.declared.Ready.{Ready}
 use Rattle.role.specs.declared.Ready.the-variants.{Pass, Address, Data, Status, Finish}
 use Rattle.role.specs.Role.{addressed, isActive}
-use Rattle.role.specs.Orders.{orderOf}
+use Rattle.role.specs.Orders.{orderOf, isClear}
 use Rattle.role.specs.ReadyFrames.{readyOf}
 use Rattle.role.proofs.ReadyLaws.{Told, told}
 use Rattle.talker.specs.declared.Talker.{Talker}
@@ -33,7 +33,7 @@ use Rattle.mailstate.specs.declared.Hold.{Hold}
 use Rattle.mailstate.specs.declared.Outcome.{Outcome}
 use Rattle.mailstate.specs.State.{withToBus, withToLoop, withTalker, withHold, withResponse, noHold}
 use Rattle.mailloop.specs.Sends.{serviced, ended, sendWaiting, sendId, sendAccessory, sendStatus, sendNext}
-use Rattle.mailloop.specs.Messages.{cellOf, stored, Kept, dataTaken, frameTaken, keeps, frameCells, Framed, listens, busy, passed, clears, responseAfter, holdAfter, command, commandState, released, identities, readied, ready, identify, judged}
+use Rattle.mailloop.specs.Messages.{cellOf, heard, Kept, dataTaken, frameTaken, keeps, frameCells, Framed, listens, busy, passed, responseAfter, holdAfter, command, commandState, released, identities, readied, ready, identify, judged}
 
 pub busy-met : (s : State) (f : ℕ) (d : Bool) → d ≡ isData f → ((s .talker .role .listener && d) && leb (s .tobus .ring .cap) (s .tobus .ring .len)) ≡ busy s f
 busy-met s f d p = rw p
@@ -42,14 +42,14 @@ busy-met s f d p = rw p
 
 module _ (s : State) (f d : ℕ) (o : Order) (t : Talker) (h : Hold) (p : Response) (hd : d ≡ dataOf f) (ho : o ≡ orderOf 15 (s .talker .role) d)
     (ht : t ≡ obeyedTalker (s .talker) o) (hh : h ≡ noHold (eqb d 15 && s .talker .role .listener)) (hp : p ≡ responseAfter s d) where
-  pub command-clears : (w : Way) (q : Outcome) → clears s d ≡ true → w ≡ way.emptyWay (s .tobus .ring .cap) →
+  pub command-clears : (b : Bool) (w : Way) (q : Outcome) → b ≡ isClear o → b ≡ true → w ≡ way.emptyWay (s .tobus .ring .cap) →
       q ≡ passed (withToBus (withResponse (withHold (withTalker s t) h) p) w) f → q ≡ command s f
   unfolding command commandState
-  command-clears w q e ew eq = rw (← hd, e, eq, ew, ht, ho, hh, hp)
+  command-clears b w q hb e ew eq = rw (eq, ew, ht, hh, hp, ← hd, ← ho, ← hb, e)
 
-  pub command-other : (q : Outcome) → clears s d ≡ false → q ≡ passed (withResponse (withHold (withTalker s t) h) p) f → q ≡ command s f
+  pub command-other : (b : Bool) (q : Outcome) → b ≡ isClear o → b ≡ false → q ≡ passed (withResponse (withHold (withTalker s t) h) p) f → q ≡ command s f
   unfolding command commandState
-  command-other q e eq = rw (← hd, e, eq, ht, ho, hh, hp)
+  command-other b q hb e eq = rw (eq, ht, hh, hp, ← hd, ← ho, ← hb, e)
 
 -- ---- ready frames
 
@@ -148,11 +148,11 @@ module _ (s : State) (tobus : List ℕ) (f cell out : ℕ) (tobus′ : List ℕ)
 
   pub kept-back : (x : ℕ) → ((s .hold .enabled && not (s .hold .held)) && eqb left 1) ≡ true → x ≡ made 5 66 →
       q ≡ passed (withHold (withToBus s w) (record { enabled = true; held = true; frame = f })) x → Kept s tobus f tobus′ q
-  unfolding stored
+  unfolding heard
   kept-back x t ex eq = record { outcome = rw (← left-room, t, eq, ex, el .way); cells = kept-cells; size = el .size }
 
   pub kept-on : ((s .hold .enabled && not (s .hold .held)) && eqb left 1) ≡ false → q ≡ passed (withToBus s w) out → Kept s tobus f tobus′ q
-  unfolding stored
+  unfolding heard
   kept-on t eq = record { outcome = rw (← left-room, t, eq, eo, el .way); cells = kept-cells; size = el .size }
 
 -- ---- a frame, by its kind
@@ -178,7 +178,7 @@ module _ (s : State) (tobus toloop : List ℕ) (f : ℕ) (q : Outcome) where
     idle-talker = lt-leb 2 (s .talker .role .phase) a
 
     -- a data frame that is no return, by whether we listen
-    by-listening : dataTaken s toloop f ≡ cond (listens s) (stored s f) (passed s (serviced s f))
+    by-listening : dataTaken s toloop f ≡ cond (listens s) (heard s f) (passed s (serviced s f))
     unfolding dataTaken
     by-listening = cond-false (isActive (s .talker .role)) _ _ idle-talker
 

@@ -18,7 +18,7 @@ use Rattle.way.specs.declared.Way.{Way}
 use Rattle.way.specs.Way.{fetched, told}
 use Rattle.mailstate.specs.declared.State.{State}
 use Rattle.mailstate.specs.declared.Outcome.{Outcome}
-use Rattle.mailstate.specs.declared.Answer.the-variants.{Frame}
+use Rattle.answers.specs.declared.Answer.the-variants.{Frame}
 use Rattle.mailstate.specs.State.{withToLoop, withTalker, withSource}
 use Rattle.mailloop.specs.Sends.{frameOf, serviced, ended, sends, sendWaiting, deviceId, idByte, sendId, sendAccessory, sendStatus, sendNext}
 use Rattle.mailloop.specs.Messages.{cellOf}

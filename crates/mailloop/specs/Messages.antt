@@ -7,7 +7,7 @@ use lib.Dec.{eqb}
 use lib.ListN.{length}
 use Rattle.frame.specs.Frame.{controlOf, dataOf, made, isData, isEnd}
 use Rattle.role.specs.Role.{addressed, isActive}
-use Rattle.role.specs.Orders.{orderOf}
+use Rattle.role.specs.Orders.{orderOf, isClear}
 use Rattle.role.specs.declared.Ready.{Ready}
 use Rattle.role.specs.declared.Ready.the-variants.{Pass, Address, Data, Status, Finish}
 use Rattle.role.specs.ReadyFrames.{readyOf}
@@ -23,7 +23,7 @@ use Rattle.news.specs.News as news
 use Rattle.way.specs.Way.{emptyWay, leftIn, told}
 use Rattle.mailstate.specs.declared.State.{State}
 use Rattle.mailstate.specs.declared.Outcome.{Outcome}
-use Rattle.mailstate.specs.declared.Answer.the-variants.{Frame}
+use Rattle.answers.specs.declared.Answer.the-variants.{Frame}
 use Rattle.mailstate.specs.State.{withToBus, withToLoop, withTalker, withHold, withResponse, noHold}
 use Rattle.mailloop.specs.Sends.{serviced, ended, sendWaiting, sendId, sendAccessory, sendStatus, sendNext}
 
@@ -42,7 +42,7 @@ home = 15
 
 -- Device clear, and selected device clear to a listener: the way to the bus is cleared
 abbrev pub clears : State → ℕ → Bool
-clears s d = eqb d 20 || (eqb d 4 && listens s)
+clears s d = isClear (orderOf home (s .talker .role) d)
 
 -- Parallel poll disable to a listener and unconfigure, and enable to a listener
 unfoldable pub responseAfter : State → ℕ → Response
@@ -118,14 +118,14 @@ holdsBack s = (s .hold .enabled && not (s .hold .held)) && eqb (room (putRing (s
 abbrev pub kept : State → State
 kept s = withToBus s (leftIn (s .tobus))
 
-unfoldable pub stored : State → ℕ → Outcome
-stored s f =
+unfoldable pub heard : State → ℕ → Outcome
+heard s f =
     cond (holdsBack s) (passed (withHold (kept s) (record { enabled = true; held = true; frame = f })) (made 5 66))
     (passed (kept s) (serviced s f))
 
 -- the outcome and the way to the bus after a frame that a listener keeps
 pub record Kept (s : State) (tobus : List ℕ) (f : ℕ) (tobus′ : List ℕ) (o : Outcome) : Type 0 where
-  pub outcome : o ≡ stored s f
+  pub outcome : o ≡ heard s f
   pub cells : tobus′ ≡ putBytes tobus (s .tobus .ring) (cellOf f)
   pub size : length tobus′ ≡ length tobus
 
@@ -139,7 +139,7 @@ judged s cells Next = sendNext s cells
 unfoldable pub dataTaken : State → List ℕ → ℕ → Outcome
 dataTaken s cells f =
     cond (isActive (s .talker .role)) (judged s cells (returnOf (s .talker) f))
-    (cond (listens s) (stored s f)
+    (cond (listens s) (heard s f)
     (passed s (serviced s f)))
 
 -- ---- any message

@@ -12,7 +12,7 @@ use Rattle.news.specs.News.{newsByte, sentStatus}
 use Rattle.way.specs.Way.{fetched, told}
 use Rattle.mailstate.specs.declared.State.{State}
 use Rattle.mailstate.specs.declared.Outcome.{Outcome}
-use Rattle.mailstate.specs.declared.Answer.the-variants.{Frame}
+use Rattle.answers.specs.declared.Answer.the-variants.{Frame}
 use Rattle.mailstate.specs.State.{withToLoop, withTalker, withSource}
 
 -- ---- cells

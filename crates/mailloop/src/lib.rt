@@ -5,7 +5,7 @@ ghost use Prim.Native.Nat.{_<_};
 ghost use Rattle.talker.specs.Returning.{returnOf};
 ghost use Rattle.mailstate.specs.State.{noHold};
 ghost use Rattle.mailloop.specs.Messages.{busy, passed, responseAfter, command, released, identities, ready, identify, judged, Kept, Framed};
-use mailstate::Answer;
+use answers::Answer;
 use mailstate::Hold;
 use mailstate::Outcome;
 use mailstate::State;
@@ -60,7 +60,7 @@ fn command(s: State, f: u16) -> Outcome
     q.talker = t;
     q.hold = h;
     q.response = p;
-    if (d == 20) | ((d == 4) & listens) {
+    if role::is_clear(o) {
         let w = way::empty(s.tobus.ring.cap);
         q.tobus = w;
         return passed(q, f);

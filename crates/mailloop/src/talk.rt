@@ -3,7 +3,7 @@ ghost use mathlib.Core.Path.{_≡_};
 ghost use Rattle.store.specs.Ring.{Fit};
 ghost use Rattle.mailloop.specs.Sends.{frameOf, serviced, ended, sends, sendWaiting, idByte, sendId, sendAccessory, sendStatus, sendNext};
 ghost use Rattle.mailloop.specs.Messages.{cellOf};
-use mailstate::Answer;
+use answers::Answer;
 use mailstate::Outcome;
 use mailstate::State;
 

@@ -40,11 +40,11 @@ module _ (s : State) (tobus toloop : List ℕ) (e : fits s (length tobus) (lengt
       ltb-true (s .response .line) 8
       (and-right ((talker-fit.fitTest (s .talker) && leb (s .source) 10) && ltb (s .hold .frame) 1024) (polls.fitTest (s .response)) ranged)
 
-  pub bus-line : s .bus .response .line < 8
+  pub bus-line : s .bus .line < 8
   unfolding fits bus.fitTest
   bus-line =
-      ltb-true (s .bus .response .line) 8
-      (and-right ((role-fit.fitTest (s .bus .role) && leb (s .bus .role .address) 30) && leb (s .bus .role .phase) 1) (polls.fitTest (s .bus .response))
+      ltb-true (s .bus .line) 8
+      (and-right ((role-fit.fitTest (s .bus .role) && leb (s .bus .role .address) 30) && leb (s .bus .role .phase) 1) (ltb (s .bus .line) 8)
       (and-right (waysRecorded s (length tobus) (length toloop) && loopInRange s) (bus.fitTest (s .bus)) e))
 
 -- a bus address that create takes

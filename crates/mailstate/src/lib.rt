@@ -1,6 +1,7 @@
 // The state of a mailbox by value, its start, and whether it fits two lent stores of cells.
 ghost use mathlib.Core.Path.{_≡_};
 ghost use Rattle.mailstate.specs.Sizes.{sizesObeyed, startState, fits};
+use answers::Answer;
 use bus::Bus;
 use polls::Response;
 use talker::Talker;
@@ -23,16 +24,6 @@ pub struct State {
     pub hold: Hold,
     pub response: Response,
     pub bus: Bus,
-}
-
-// What a call answers: done, nothing to give, a cell, a frame, the bus lines, or a refusal.
-pub enum Answer {
-    Done,
-    Nothing,
-    Cell(u16),
-    Frame(u16),
-    Lines(u16),
-    Refused(u8),
 }
 
 // The state after a call, and its answer.

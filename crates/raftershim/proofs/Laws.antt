@@ -13,7 +13,7 @@ use Rattle.block.specs.Packed.{blockLen, packed}
 use Rattle.block.specs.States.{Ranged}
 use Rattle.block.proofs.Laws.{packed-length, packed-means, meaning-fits}
 use Rattle.bridge.specs.Calls.{Call, create, show, on, World, Did, checks, notRefused, refusedOr, step, shown}
-use Rattle.answers.specs.Answers.{Said, done, none, byte, frame, refused, part, isRefusal}
+use Rattle.answers.specs.Answers.{Said, done, none, byte, frame, refused, part, cell, lines, isRefusal}
 use Rattle.laws.proofs.Answers.{refusal-leaves}
 use Rattle.answers.specs.Word.{word, kindOf}
 use Rattle.raftershim.specs.ShownWord.{placeWord, placeOf, storeOf, shownWord}
@@ -29,8 +29,8 @@ one-result-in-c c l n m b b′ rx rx′ tx tx′ p q =
     let e = p ∙ sym q in
     (ap (λ (r : CDid). r .word) e, (ap (λ (r : CDid). r .lent .block) e, (ap (λ (r : CDid). r .lent .rx) e, ap (λ (r : CDid). r .lent .tx) e)))
 
--- there are five kinds of answer
-few-kinds : (a : Said) → kindOf a < 5
+-- there are six kinds of answer
+few-kinds : (a : Said) → kindOf a < 6
 unfolding kindOf
 few-kinds done = omega arith
 few-kinds none = omega arith
@@ -38,6 +38,8 @@ few-kinds (byte b) = omega arith
 few-kinds (frame c d) = omega arith
 few-kinds (refused n) = omega arith
 few-kinds (part xs) = omega arith
+few-kinds (cell n) = omega arith
+few-kinds (lines n) = omega arith
 
 pub word-tells : WordTells
 unfolding word

@@ -38,6 +38,8 @@ Small answer.Nothing = Unit {0}
 Small (answer.Byte b) = b < 65536
 Small (answer.Frame f) = f < 65536
 Small (answer.Refused n) = n < 65536
+Small (answer.Cell n) = ⊥
+Small (answer.Lines n) = ⊥
 
 abbrev pub Tells : Said → Type 0
 Tells a = answerOf (word a) ≡ a
@@ -55,6 +57,8 @@ small-tells (answer.Frame f) h =
     let e : made (controlOf f) (dataOf f) ≡ f = omega arith in
     by-word (frame (controlOf f) (dataOf f)) (omega arith) (ap (λ (x : ℕ). frame (controlOf x) (dataOf x)) e)
 small-tells (answer.Refused n) h = by-word (refused n) h refl
+small-tells (answer.Cell n) h = absurd h
+small-tells (answer.Lines n) h = absurd h
 
 small-refusal : (n : ℕ) → n < 65536 → Tells (refused n)
 unfolding kindOf valueOf saidBy
@@ -69,6 +73,8 @@ frame-told answer.Done h = absurd h
 frame-told answer.Nothing h = absurd h
 frame-told (answer.Byte b) h = absurd h
 frame-told (answer.Refused n) h = absurd h
+frame-told (answer.Cell n) h = absurd h
+frame-told (answer.Lines n) h = absurd h
 
 -- ---- line bytes
 

@@ -1,6 +1,6 @@
 -- Which order a command's data byte is to a device: the left sides of the paper's list of commands.
 use Prim.Native.Nat.{ℕ, _-_, _%_}
-use mathlib.Core.Bool.{Bool, cond, _&&_, _||_, not}
+use mathlib.Core.Bool.{Bool, true, false, cond, _&&_, _||_, not}
 use lib.Dec.{eqb}
 use Rattle.role.specs.declared.Role.{Role}
 use Rattle.role.specs.declared.Order.{Order}
@@ -27,11 +27,14 @@ listenOrder a n = cond (eqb n 31) Unlisten (cond (eqb n a) Listen Nothing)
 unfoldable pub talkOrder : ℕ → ℕ → Order
 talkOrder a n = cond (eqb n a && not (eqb n 31)) Talk Untalk
 
+-- Frames, commands, 20 and 4, a device clear: 20 is to all devices, 4 to listeners
+abbrev pub isDeviceClear : Bool → ℕ → Bool
+isDeviceClear listener d = eqb d 20 || (eqb d 4 && listener)
+
 -- the commands that have no address
 unfoldable pub otherOrder : Bool → ℕ → Order
 otherOrder listener d =
-    -- Frames, commands, 20 and 4: 20 is to all devices, 4 to listeners
-    cond (eqb d 20 || (eqb d 4 && listener)) Clear
+    cond (isDeviceClear listener d) Clear
     -- Frames, commands, 144: to all
     (cond (eqb d 144) Deselect
     -- Frames, commands, 146: to all
@@ -51,3 +54,17 @@ orderOf home r d =
     cond (eqb (baseOf d) 32) (listenOrder (ownAddress home r) (numberOf d))
     (cond (eqb (baseOf d) 64) (talkOrder (ownAddress home r) (numberOf d))
     (otherOrder (r .listener) d))
+
+-- the order is a device clear
+abbrev pub isClear : Order → Bool
+isClear Clear = true
+isClear Unlisten = false
+isClear Listen = false
+isClear Untalk = false
+isClear Talk = false
+isClear Deselect = false
+isClear Enable = false
+isClear Disable = false
+isClear Local = false
+isClear Unassign = false
+isClear Nothing = false

@@ -1,7 +1,7 @@
 // What commands and ready frames do to a device's role on the loop; stores and registers are not known here.
 ghost use mathlib.Core.Path.{_≡_};
 ghost use Rattle.role.specs.Role.{startRole, withPhase};
-ghost use Rattle.role.specs.Orders.{ownAddress, listenOrder, talkOrder, otherOrder, orderOf};
+ghost use Rattle.role.specs.Orders.{ownAddress, listenOrder, talkOrder, otherOrder, orderOf, isClear};
 ghost use Rattle.role.specs.Commands.{merelyAddressed, changedRole, obeyedRole};
 ghost use Rattle.role.specs.ReadyFrames.{readyOf, assignedRole};
 ghost use Rattle.role.specs.RoleFit.{fitTest};
@@ -124,6 +124,25 @@ pub fn order_of(home: u8, r: Role, d: u8) -> Order
         talk_order(a, n)
     } else {
         other_order(r.listener, d)
+    }
+}
+
+// Whether an order is a device clear.
+pub fn is_clear(o: Order) -> bool
+    ensures { λ r. ⌜ r ≡ isClear o ⌝ }
+{
+    match o {
+        Order::Clear => true,
+        Order::Unlisten => false,
+        Order::Listen => false,
+        Order::Untalk => false,
+        Order::Talk => false,
+        Order::Deselect => false,
+        Order::Enable => false,
+        Order::Disable => false,
+        Order::Local => false,
+        Order::Unassign => false,
+        Order::Nothing => false,
     }
 }
 

@@ -44,6 +44,8 @@ SmallFrame answer.Done = ⊥
 SmallFrame answer.Nothing = ⊥
 SmallFrame (answer.Byte b) = ⊥
 SmallFrame (answer.Refused n) = ⊥
+SmallFrame (answer.Cell n) = ⊥
+SmallFrame (answer.Lines n) = ⊥
 
 abbrev pub SmallOut : Outcome → Type 0
 SmallOut o = SmallFrame (o .answer)
@@ -91,6 +93,8 @@ by-frame answer.Done h = absurd h
 by-frame answer.Nothing h = absurd h
 by-frame (answer.Byte b) h = absurd h
 by-frame (answer.Refused n) h = absurd h
+by-frame (answer.Cell n) h = absurd h
+by-frame (answer.Lines n) h = absurd h
 
 out-told : (o : Out) → isEleven (said (outAnswer o)) ≡ true
 unfolding outAnswer said

@@ -28,9 +28,10 @@ use Rattle.line.specs.HoldingOff.{resumed}
 use Rattle.loopside.specs.LoopToLine.{addedState}
 use Rattle.talker.specs.UnderWay.{talking}
 use Rattle.loopside.specs.Sends.{ruleOf, removedState, sendState, sendFrom, sendStatus, ended}
-use Rattle.loopside.specs.Frames.{passed, isClear, orderIn, obeyed, cleared, frameTaken, deviceClear}
+use Rattle.loopside.specs.Frames.{passed, orderIn, obeyed, cleared, frameTaken, deviceClear}
+use Rattle.role.specs.Orders.{isClear}
 use Rattle.bridge.specs.Calls.{World}
-use Rattle.loopside.proofs.Clears.{clear-order}
+use Rattle.role.proofs.Clears.{clear-order}
 use Rattle.laws.specs.Observers.{dataFrame, equalReturn, isSend, asksStatus, passesOn}
 use Rattle.laws.proofs.Ways as ways
 use Rattle.runs.proofs.Shapes.{Fits, core}
@@ -107,7 +108,7 @@ module _ (s : State) (f : ℕ) where
   order-marks r c e =
       let four = eqb-true (controlOf f) 4 (r .four) in
       other-marks (r .isdata) false _ _ false c (ne-eqb (controlOf f) 5 (λ h. omega arith)) refl refl (le-ltb 5 (controlOf f) (omega arith))
-      ((λ i. r .four i && sym (clear-order (s .talker .role) (dataOf f)) i) ∙ e)
+      ((λ i. r .four i && sym (clear-order 31 (s .talker .role) (dataOf f)) i) ∙ e)
 
   ready-marks : ways.Readying f → (x y : Bool) → asks 96 ≡ x → asks 97 ≡ y → Marks s f x y false false false
   unfolding deviceClear

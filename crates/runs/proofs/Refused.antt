@@ -10,7 +10,7 @@ use Rattle.state.specs.declared.State.{State}
 use Rattle.state.specs.declared.Out.{Out}
 use Rattle.state.specs.declared.Out.the-variants as out
 use Rattle.state.specs.declared.Outcome.{Outcome}
-use Rattle.answers.specs.Answers.{Said, said, done, none, byte, frame, refused, part}
+use Rattle.answers.specs.Answers.{Said, said, done, none, byte, frame, refused, part, cell, lines}
 use Rattle.line.specs.HoldingOff.{nextOut, outAnswer}
 use Rattle.loopside.specs.Sends.{sendState, sendFrom, sendStatus, ended}
 use Rattle.loopside.specs.Frames.{frameTaken}
@@ -61,6 +61,8 @@ frame-taken (byte b) e = refl
 frame-taken (frame k d) e = refl
 frame-taken (refused n) e = e
 frame-taken (part l) e = refl
+frame-taken (cell n) e = refl
+frame-taken (lines n) e = refl
 
 out-taken : (o : Out) → taken (said (outAnswer o)) ≡ true
 unfolding outAnswer said

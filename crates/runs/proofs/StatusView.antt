@@ -33,7 +33,8 @@ use Rattle.loopside.specs.LoopToLine.{addedState}
 use Rattle.talker.specs.Obeying.{obeyedTalker}
 use Rattle.talker.specs.UnderWay.{talking}
 use Rattle.loopside.specs.Sends.{ruleOf, removedState, sendState, sendFrom, sendStatus, ended}
-use Rattle.loopside.specs.Frames.{isClear, orderIn, obeyed, frameTaken, deviceClear}
+use Rattle.loopside.specs.Frames.{orderIn, obeyed, frameTaken, deviceClear}
+use Rattle.role.specs.Orders.{isClear}
 use Rattle.bridge.specs.Calls.{Call, on, create, reset, write, lineByte, lineBreak, key, nextLineByte}
 use Rattle.bridge.specs.Calls.{loopFrame, show, World, Did, outcome, settledBy, refusedOr, step}
 use Rattle.bridge.specs.Calls as calls
@@ -43,7 +44,7 @@ use Rattle.laws.specs.Events.{Event, broken, overrun, pressed, noted}
 use Rattle.runs.proofs.Refusals.{or-refused}
 use Rattle.runs.proofs.Alike.{same-either}
 use Rattle.runs.proofs.Answered.{status-frame}
-use Rattle.loopside.proofs.Clears.{clear-order}
+use Rattle.role.proofs.Clears.{clear-order}
 use Rattle.laws.proofs.Ways as ways
 use Rattle.runs.proofs.FrameKinds.{address-high}
 use Rattle.runs.proofs.Steps.{answer, after}
@@ -168,7 +169,7 @@ module _ (w : World) (f : ℕ) where
 
   clear : ways.Commanding f → isClear (orderIn (w .state) f) ≡ true → empties (on (loopFrame f)) w (said (Frame f)) ≡ true
   unfolding restarts clears deviceClear said
-  clear r e = (λ i. r .four i && sym (clear-order (w .state .talker .role) (dataOf f)) i) ∙ e
+  clear r e = (λ i. r .four i && sym (clear-order 31 (w .state .talker .role) (dataOf f)) i) ∙ e
 
   -- a frame that is neither data nor a command, and does not ask for status, leaves what is under way
   on-kind : (o : Outcome) → isData f ≡ false → eqb (controlOf f) 4 ≡ false → asksStatus (w .state) f ≡ false → part (o .state) ≡ part (w .state) → FrameKind o

@@ -5,7 +5,7 @@ use mathlib.Core.Bool.{cond}
 use mathlib.Core.List.{List, [], _∷_, _++_}
 use lib.ListN.{length, take, drop}
 use lib.Dec.{ltb}
-use Rattle.answers.specs.Answers.{Said, done, none, byte, frame, refused, part}
+use Rattle.answers.specs.Answers.{Said, done, none, byte, frame, refused, part, cell, lines}
 
 -- the last decimal digit of a number
 abbrev pub digit : ℕ → ℕ
@@ -49,6 +49,8 @@ answerText done = []
 answerText none = []
 answerText (byte b) = []
 answerText (part xs) = []
+answerText (cell n) = []
+answerText (lines n) = []
 
 -- the program, last: line bytes, each after a space
 unfoldable pub bytesText : List ℕ → List ℕ

@@ -96,5 +96,7 @@ pub fn put_answer(out: &mut [u8], at: usize, a: Answer) -> usize
         Answer::Byte(_) => at,
         Answer::Frame(f) => put_frame(out, at, f),
         Answer::Refused(n) => put_refused(out, at, n),
+        Answer::Cell(_) => at,
+        Answer::Lines(_) => at,
     }
 }

@@ -5,7 +5,7 @@ use mathlib.Core.List.{List}
 use lib.Dec.{eqb}
 use lib.ListN.{getD}
 use Rattle.frame.specs.Frame.{made}
-use Rattle.answers.specs.Answers.{Said, done, none, byte, frame, refused, part}
+use Rattle.answers.specs.Answers.{Said, done, none, byte, frame, refused, part, cell, lines}
 
 -- the number at a place of the list is this one
 abbrev pub hasAt : ℕ → ℕ → List ℕ → Bool
@@ -19,3 +19,5 @@ isAnswer f done = false
 isAnswer f none = false
 isAnswer f (byte b) = false
 isAnswer f (part xs) = false
+isAnswer f (cell n) = false
+isAnswer f (lines n) = false

@@ -11,7 +11,7 @@ use Rattle.branches.proofs.Branches.{and-left, and-right}
 use Rattle.store.specs.Ring.{held, wrap}
 use Rattle.store.specs.Bytes.{Bytes}
 use Rattle.store.proofs.Laws.{held-unbroken, wrap-low}
-use Rattle.answers.specs.Answers.{Said, done, none, byte, frame, refused, part}
+use Rattle.answers.specs.Answers.{Said, done, none, byte, frame, refused, part, cell, lines}
 use Rattle.state.specs.Sizes.{startState}
 use Rattle.machine.specs.Machine.{AllFair}
 use Rattle.bridge.specs.Calls.{reset, write, lineByte, lineBreak, key, nextLineByte, loopFrame, Call, create, show, on, World, Did}
@@ -114,6 +114,8 @@ spelled (byte b) = 2 ∷ b ∷ []
 spelled (frame k d) = 3 ∷ k ∷ d ∷ []
 spelled (refused n) = 4 ∷ n ∷ []
 spelled (part xs) = 5 ∷ xs
+spelled (cell n) = 6 ∷ n ∷ []
+spelled (lines n) = 7 ∷ n ∷ []
 
 pub answers-differ : (a b : Said) → alike (spelled a) (spelled b) ≡ false → a ≡ b → ⊥
 answers-differ a b e p = lists-differ (spelled a) (spelled b) e (ap spelled p)

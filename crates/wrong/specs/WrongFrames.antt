@@ -3,7 +3,7 @@ use Prim.Native.Nat.{_+_}
 use mathlib.Core.Bool.{_&&_, not}
 use lib.Dec.{eqb}
 use Rattle.frame.specs.Frame.{controlOf, dataOf, made, hasService, stripped, withService}
-use Rattle.answers.specs.Answers.{Said, done, none, byte, frame, refused, part}
+use Rattle.answers.specs.Answers.{Said, done, none, byte, frame, refused, part, cell, lines}
 use Rattle.bridge.specs.Calls.{Call, World, Did}
 use Rattle.laws.specs.Observers.{isSend, passesOn}
 use Rattle.laws.specs.Passing.{asFrame}
@@ -36,6 +36,8 @@ onService done = done
 onService none = none
 onService (byte b) = byte b
 onService (part xs) = part xs
+onService (cell n) = cell n
+onService (lines n) = lines n
 
 -- gives the frame that it sends the service bit of the one that came back
 abbrev pub carriesServiceOver : Call → World → Did

@@ -8,6 +8,9 @@ pub struct Lent<C> {
     pub stores: [(*mut C, u64); 2],
 }
 
+/// Implementations by name. A constant of an older Rust cannot hold them, for they are statics.
+pub type Sides<S> = &'static [(&'static str, &'static S)];
+
 /// A machine whose instructions are counted.
 pub trait Machine: 'static {
     type Cell: Copy + Default + PartialEq + Into<u64>;
@@ -17,12 +20,13 @@ pub trait Machine: 'static {
     type Work: Copy;
     /// The length of a block.
     const BLOCK: usize;
-    /// The implementations by name: the archive, those in plain Rust, and one that does nothing.
-    const SIDES: &'static [(&'static str, &'static Self::Side)];
     /// The works by name.
     const WORKS: &'static [(&'static str, Self::Work)];
     /// The calls that no work makes, and frames of the other kinds.
     const OTHERS: &'static [Self::Call];
+
+    /// The implementations by name: the archive, those in plain Rust, and one that does nothing.
+    fn sides() -> Sides<Self::Side>;
 
     /// Makes a call.
     ///
@@ -45,7 +49,7 @@ pub trait Machine: 'static {
 
     /// The side of this name, read so that no compiler knows which functions will be called.
     fn side(name: &str) -> Option<Self::Side> {
-        let (_, side) = Self::SIDES.iter().find(|side| side.0 == name)?;
+        let (_, side) = Self::sides().iter().find(|side| side.0 == name)?;
         // SAFETY: the pointer comes from a reference to a side, which may be copied.
         Some(unsafe { std::ptr::read_volatile(*side) })
     }
@@ -60,7 +64,7 @@ pub trait Machine: 'static {
 
     /// The implementations that answer, without the one that does nothing.
     fn answering() -> Vec<Self::Side> {
-        let sides = Self::SIDES.iter().filter(|side| side.0 != "idle");
+        let sides = Self::sides().iter().filter(|side| side.0 != "idle");
         sides.map(|side| *side.1).collect()
     }
 }

@@ -31,7 +31,7 @@ fn asked<M: Machine>(work: M::Work, words: &[&str]) -> Result<String, String> {
     let side = |name| M::side(name).ok_or("no such side");
     match *words {
         ["sides", _] => {
-            let names: Vec<&str> = M::SIDES.iter().map(|side| side.0).collect();
+            let names: Vec<&str> = M::sides().iter().map(|side| side.0).collect();
             Ok(names.join(" "))
         }
         ["stack", _, name] => match stack::deepest::<M>(side(name)?) {

@@ -4,9 +4,7 @@ use Rattle.bus.proofs.bus_fits.Statement.{statement}
 use Rattle.bus.proofs.bus_fits.Tie as tie
 
 returns : tie.Need-returns
-returns c =
-    let b = c .before .before .before .before .args .b in
-    fits-met b _ _ (c .before .before .before .role-fits .ensures) (c .response-fits .ensures)
+returns c = fits-met _ _ (c .before .before .before .role-fits .ensures)
 
 pub bus-fits-spec : {M : Type 1} → statement M
-bus-fits-spec = tie.close (tie.spec (λ c κs. search needs) (λ c κs. search needs) returns)
+bus-fits-spec = tie.close (tie.spec (λ c κs. search needs) returns)

@@ -1,9 +1,10 @@
--- `bus::clears` meets its contract: each way out rewrites the definition with the tests that led there.
-use Rattle.branches.proofs.Branches.{branches}
-use Rattle.bus.specs.Bus.{clears}
+use borrow.Author.Needs.{needs}
+use Rattle.bus.proofs.Parts.{clears-met}
 use Rattle.bus.proofs.clears.Statement.{statement}
 use Rattle.bus.proofs.clears.Tie as tie
 
+returns : tie.Need-returns
+returns c = clears-met _ _ _ _ (c .before .order-of .ensures) (c .is-clear .ensures)
+
 pub clears-spec : {M : Type 1} → statement M
-unfolding clears
-clears-spec = tie.close (tie.spec (λ c. search branches))
+clears-spec = tie.close (tie.spec (λ c κs. search needs) (λ c κs. search needs) returns)

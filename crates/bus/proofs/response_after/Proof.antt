@@ -16,7 +16,7 @@ returns-2 c =
 
 returns-3 : tie.Need-returns-3
 unfolding responseAfter
-returns-3 c = sym (cond-false _ _ _ (c .before .before .before .if1 .left) ∙ cond-false _ _ _ (c .before .if2 .left))
+returns-3 c = sym (cond-false _ _ _ (c .before .before .if1 .left) ∙ cond-false _ _ _ (c .if2 .left))
 
 pub response-after-spec : {M : Type 1} → statement M
 response-after-spec = tie.close (tie.spec (λ c κs. search needs) returns (λ c κs. search needs) returns-2 returns-3)

@@ -4,7 +4,7 @@ use Rattle.mailbox.proofs.lines.Statement.{statement}
 use Rattle.mailbox.proofs.lines.Tie as tie
 
 returns : tie.Need-returns
-returns c = lines-met _ _ _ (c .before .answer .ensures) (c .cell-with .ensures)
+returns c = lines-met _ _ _ (c .before .poll-bits .ensures) (c .cell-with .ensures)
 
 pub lines-spec : {M : Type 1} → statement M
 lines-spec =

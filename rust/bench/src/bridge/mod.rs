@@ -2,7 +2,7 @@
 
 mod works;
 
-use crate::machine::{Lent, Machine};
+use crate::machine::{Lent, Machine, Sides};
 use works::Work;
 
 sides! {
@@ -23,6 +23,13 @@ sides! {
     peer = ::peer
 }
 
+static SIDES: [(&str, &Side); 4] = [
+    ("archive", &ARCHIVE),
+    ("model", &model::SIDE),
+    ("peer", &peer::SIDE),
+    ("idle", &IDLE),
+];
+
 /// The machine that is the bridge.
 pub struct Bridge;
 
@@ -32,12 +39,6 @@ impl Machine for Bridge {
     type Side = Side;
     type Work = Work;
     const BLOCK: usize = ::model::block::LEN;
-    const SIDES: &'static [(&'static str, &'static Side)] = &[
-        ("archive", &ARCHIVE),
-        ("model", &model::SIDE),
-        ("peer", &peer::SIDE),
-        ("idle", &IDLE),
-    ];
     const WORKS: &'static [(&'static str, Work)] = &[
         ("meter", Work::Meter),
         ("print", Work::Print),
@@ -54,6 +55,10 @@ impl Machine for Bridge {
         Call::LoopFrame(6 << 8),
         Call::Reset(),
     ];
+
+    fn sides() -> Sides<Side> {
+        &SIDES
+    }
 
     #[inline(always)]
     unsafe fn call(side: &Side, lent: Lent<u8>, call: Call) -> u64 {

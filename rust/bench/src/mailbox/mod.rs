@@ -2,7 +2,7 @@
 
 mod works;
 
-use crate::machine::{Lent, Machine};
+use crate::machine::{Lent, Machine, Sides};
 use works::Work;
 
 sides! {
@@ -22,6 +22,12 @@ sides! {
     model = ::mailbox_model::boundary
 }
 
+static SIDES: [(&str, &Side); 3] = [
+    ("archive", &ARCHIVE),
+    ("model", &model::SIDE),
+    ("idle", &IDLE),
+];
+
 /// The machine that is the mailbox.
 pub struct Mailbox;
 
@@ -31,11 +37,6 @@ impl Machine for Mailbox {
     type Side = Side;
     type Work = Work;
     const BLOCK: usize = ::mailbox_model::block::LEN;
-    const SIDES: &'static [(&'static str, &'static Side)] = &[
-        ("archive", &ARCHIVE),
-        ("model", &model::SIDE),
-        ("idle", &IDLE),
-    ];
     const WORKS: &'static [(&'static str, Work)] =
         &[("to-bus", Work::ToBus), ("to-loop", Work::ToLoop)];
     const OTHERS: &'static [Call] = &[
@@ -50,6 +51,10 @@ impl Machine for Mailbox {
         Call::Show(1),
         Call::Reset(),
     ];
+
+    fn sides() -> Sides<Side> {
+        &SIDES
+    }
 
     #[inline(always)]
     unsafe fn call(side: &Side, lent: Lent<u16>, call: Call) -> u64 {

@@ -38,7 +38,7 @@ fn damaged_blocks_and_other_lengths() {
 
 #[test]
 fn every_call_on_states_that_calls_never_reach() {
-    let draws = Draws::asked_for(1000);
+    let draws = Draws::asked_for(300);
     let mut random = Random::seeded(draws.seed);
     let (mut states, mut calls) = (0, 0);
     let frames = (0..2048).map(Call::Frame);

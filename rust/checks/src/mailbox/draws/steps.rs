@@ -9,12 +9,16 @@ use mailbox_model::{Mailbox, ADDRESSED, HOME, IDLE, SERVICE, UNASSIGNED};
 #[derive(Clone, Copy, Debug)]
 pub enum What {
     Make(Call),
-    /// Data frames of the loop with these control bits, that count on from this byte.
+    /// Data frames of the loop with these control bits, that count on from this byte. Before them,
+    /// if the byte is odd, we are made listener.
     Counting(u32, u8),
-    /// Bytes of the bus that count on from this one; every fourth has the end mark.
+    /// Bytes of the bus that count on from this one; every fourth has the end mark. Before them, if
+    /// the byte is odd, we are made listener.
     BusCounting(u8),
+    /// Fetches. Before them we are made talker or not.
+    Fetching(bool),
     /// The frame under way with these bits changed; where none is under way, what leads to one:
-    /// talk, send data. A listener gets a data frame.
+    /// talk, send data. A listener gets a data frame, or 5,66 while it holds one back.
     Back(u16),
     /// Command 32 or 64 of the loop with our address.
     ToUs(u32),
@@ -29,11 +33,20 @@ impl drive::What<TheMailbox> for What {
         let side = &state.loop_side;
         match self {
             What::Make(call) => call,
+            What::Counting(_, byte) if done == 0 && byte & 1 == 1 => {
+                What::ToUs(32).call(state, done)
+            }
+            What::BusCounting(byte) if done == 0 && byte & 1 == 1 => {
+                What::BusToUs(32).call(state, done)
+            }
+            What::Fetching(true) if done == 0 => What::BusToUs(64).call(state, done),
+            What::Fetching(_) => Call::Fetch,
             What::Counting(control, byte) => frame(control, byte.wrapping_add(done).into()),
             What::BusCounting(byte) => {
                 let byte = byte.wrapping_add(done);
                 Call::Byte(byte, u32::from(byte & 3 == 3))
             }
+            What::Back(_) if side.holds => frame(5, 66),
             What::Back(_) if side.listener => frame(2, done.into()),
             What::Back(_) if side.talker == IDLE => What::ToUs(64).call(state, done),
             What::Back(_) if side.talker == ADDRESSED => frame(5, 96),
@@ -57,7 +70,7 @@ pub fn what(kind: usize, number: u32) -> (What, u8) {
     match kind {
         0..=4 => (What::Counting(number >> 8 & 3, number as u8), 16),
         5..=9 => (What::BusCounting(number as u8), 16),
-        10..=14 => (make(Call::Fetch), 16),
+        10..=14 => (What::Fetching(number & 1 == 1), 16),
         15..=22 => (What::Back(0), 16),
         23..=24 => (What::Back(SERVICE), 1),
         25..=27 => (What::Back(1 << (number % 10)), 1),

@@ -6,19 +6,18 @@ use mathlib.Core.Bool.{Bool, true, false, _&&_, _||_, not}
 use lib.Dec.{eqb}
 use borrow.Author.Tests.{eqb-true, ne-eqb}
 use Rattle.branches.proofs.Branches.{by-cond}
 use Rattle.role.specs.declared.Role.{Role}
 use Rattle.role.specs.declared.Order.{Order}
-use Rattle.role.specs.Orders.{ownAddress, listenOrder, talkOrder, otherOrder, orderOf}
-use Rattle.loopside.specs.Frames.{isClear}
+use Rattle.role.specs.Orders.{ownAddress, listenOrder, talkOrder, otherOrder, orderOf, isDeviceClear, isClear}
 
 -- which commands are a device clear
-pub clear-order : (r : Role) (d : ℕ) → isClear (orderOf 31 r d) ≡ (eqb d 20 || (eqb d 4 && r .listener))
+pub clear-order : (home : ℕ) (r : Role) (d : ℕ) → isClear (orderOf home r d) ≡ isDeviceClear (r .listener) d
 unfolding orderOf listenOrder talkOrder otherOrder
-clear-order r d =
+clear-order home r d =
     by-cond (λ o. isClear o ≡ rest) (eqb (d - d % 32) 32) _ _
-    (λ e. by-cond Other (eqb (d % 32) 31) _ _ (λ _. refl) (λ _. by-cond Other (eqb (d % 32) (ownAddress 31 r)) _ _ (λ _. refl) (λ _. refl)) ∙ sym (high (omega (arith, eqb-true (d - d % 32) 32 e))))
+    (λ e. by-cond Other (eqb (d % 32) 31) _ _ (λ _. refl) (λ _. by-cond Other (eqb (d % 32) (ownAddress home r)) _ _ (λ _. refl) (λ _. refl)) ∙ sym (high (omega (arith, eqb-true (d - d % 32) 32 e))))
     (λ _. by-cond (λ o. isClear o ≡ rest) (eqb (d - d % 32) 64) _ _
-    (λ e. by-cond Other (eqb (d % 32) (ownAddress 31 r) && not (eqb (d % 32) 31)) _ _ (λ _. refl) (λ _. refl) ∙ sym (high (omega (arith, eqb-true (d - d % 32) 64 e))))
+    (λ e. by-cond Other (eqb (d % 32) (ownAddress home r) && not (eqb (d % 32) 31)) _ _ (λ _. refl) (λ _. refl) ∙ sym (high (omega (arith, eqb-true (d - d % 32) 64 e))))
     (λ _. by-cond (λ o. isClear o ≡ rest) rest _ _ (λ e. sym e)
     (λ e. by-cond Other (eqb d 144) _ _ (λ _. refl)
     (λ _. by-cond Other (eqb d 146) _ _ (λ _. refl)
@@ -28,7 +27,7 @@ clear-order r d =
     ∙ sym e)))
   where
     rest : Bool
-    rest = eqb d 20 || (eqb d 4 && r .listener)
+    rest = isDeviceClear (r .listener) d
 
     Other : Order → Type 0
     Other o = isClear o ≡ false
