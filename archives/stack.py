@@ -1,4 +1,4 @@
-"""Says the deepest stack of a call for each target, from the stack of each function and from which function calls which.
+"""Says the deepest stack of a call for each target and crate, from the stack of each function and from which function calls which.
 
 Usage: python3 archives/stack.py [TRIPLE...]    (without a word: every target)
 The stack of a function is what the code generator notes beside it. What the copying of memory takes, where an archive asks for it, is not
@@ -22,23 +22,31 @@ def run(*words):
     return subprocess.run(words, cwd=ROOT, check=True, stdout=subprocess.PIPE, encoding="utf-8").stdout
 
 
-def targets():
-    """The names of all targets."""
-    with open(os.path.join(ROOT, "archives", "targets"), encoding="utf-8") as file:
+def listed(name):
+    """The first word of each line in a list of this folder: the names of all targets, or of all crates that make the archive."""
+    with open(os.path.join(ROOT, "archives", name), encoding="utf-8") as file:
         return [line.split()[0] for line in file if not line.startswith("#")]
 
 
-def frames(archive):
-    """The stack of each function by its name."""
-    rows = re.findall(r"^\s+(\d+)\s+(\S.*)$", run("llvm-readelf", "--stack-sizes", archive), re.M)
+def extracted(archive, crate):
+    """The path of a copy of a crate's object, beside the archive."""
+    path = os.path.join(ROOT, os.path.dirname(archive), f"{crate}.o")
+    with open(path, "wb") as file:
+        subprocess.run(("llvm-ar", "p", archive, f"{crate}.o"), cwd=ROOT, check=True, stdout=file)
+    return path
+
+
+def frames(path):
+    """The stack of each function of an object by its name."""
+    rows = re.findall(r"^\s+(\d+)\s+(\S.*)$", run("llvm-readelf", "--stack-sizes", path), re.M)
     return {name: int(size) for size, name in rows}
 
 
-def callees(archive, functions):
-    """The functions that each function names in its code."""
+def callees(path, functions):
+    """The functions that each function of an object names in its code."""
     found = {name: set() for name in functions}
     inside = None
-    for line in run("llvm-objdump", "-dr", "--no-show-raw-insn", archive).splitlines():
+    for line in run("llvm-objdump", "-dr", "--no-show-raw-insn", path).splitlines():
         if begins := re.match(r"[0-9a-f]+ <(.*)>:$", line):
             inside = begins[1] if begins[1] in found else inside
         elif named := re.search(r":\s+R_\w+\s+(?:\.text\.)?(.+?)(?:[-+]0x[0-9a-f]+)?$", line):
@@ -47,11 +55,10 @@ def callees(archive, functions):
     return found
 
 
-def deepest(triple):
-    """The most bytes of stack that a call takes, and the functions on the way there."""
-    (archive,) = run("sh", "archives/make.sh", "--stack-sizes", triple).split()
-    size = frames(archive)
-    calls = callees(archive, size)
+def deepest(triple, path):
+    """The most bytes of stack that a call of an object takes, and the functions on the way there."""
+    size = frames(path)
+    calls = callees(path, size)
 
     @functools.lru_cache(None)
     def below(name):
@@ -62,10 +69,12 @@ def deepest(triple):
 
 
 def main():
-    """A line for each target."""
-    for triple in sys.argv[1:] or targets():
-        depth, path = deepest(triple)
-        print(f"{triple}: {depth} bytes, {', '.join(path)}")
+    """A line for each target and crate."""
+    for triple in sys.argv[1:] or listed("targets"):
+        (archive,) = run("sh", "archives/make.sh", "--stack-sizes", triple).split()
+        for crate in listed("crates"):
+            depth, path = deepest(triple, extracted(archive, crate))
+            print(f"{triple}, {crate}: {depth} bytes, {', '.join(path)}")
 
 
 if __name__ == "__main__":

@@ -9,6 +9,10 @@ esac
 # The names of all targets.
 targets() { sed -n 's/^\([a-z0-9_]*-[^ ]*\) .*/\1/p' archives/targets; }
 
+# The names of the crates that make the archive, and the header of one.
+exporting() { sed -n 's/^\([a-z_]*\) .*/\1/p' archives/crates; }
+header_of() { sed -n "s/^$1 //p" archives/crates; } # CRATE
+
 have() { command -v "$1" > /dev/null 2>&1; }
 
 install() { # PACKAGE...

@@ -1,7 +1,8 @@
 #!/bin/sh
-# Builds and runs the examples and holds what they print to the stored texts: sh examples/run.sh [meter] [ports] [dongle] [no-std]
-# The meter runs on this machine, and so does the dongle's main loop, on ports that lose a byte. The dongle, in C, and the meter without
-# the standard library, in Rust, run on the emulated board.
+# Builds and runs the examples and holds what they print to the stored texts: sh examples/run.sh [NAME...]   (without a
+# name: all of them, which are meter, mailbox, ports, dongle and no-std)
+# The meter and the mailbox run on this machine, and so does the dongle's main loop, on ports that lose a byte. The dongle, in C, and the
+# meter without the standard library, in Rust, run on the emulated board.
 set -eu
 cd "$(dirname "$0")/.."
 . tests/board/build.sh
@@ -24,6 +25,8 @@ here() { # NAME STORED WORDS-AND-SOURCES...
 
 meter() { here meter examples/c/meter.said examples/c/meter.c; }
 
+mailbox() { here mailbox examples/c/mailbox.said examples/c/mailbox.c; }
+
 ports() { here ports tests/c/ports.said -DRECEIVE_LEN=64u -Iexamples/dongle examples/dongle/main.c tests/c/ports.c; }
 
 # The line and the console of the board are one output here; of the line it has our stop and go, which are spelled out.
@@ -39,10 +42,10 @@ no_std() {
     same no-std examples/c/meter.said
 }
 
-[ $# -gt 0 ] || set -- meter ports dongle no-std
+[ $# -gt 0 ] || set -- meter mailbox ports dongle no-std
 for name in "$@"; do
     case $name in
-        meter | ports | dongle) "$name" ;;
+        meter | mailbox | ports | dongle) "$name" ;;
         no-std) no_std ;;
         *) echo "examples/run.sh: there is no example $name" >&2; exit 2 ;;
     esac

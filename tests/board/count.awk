@@ -1,4 +1,5 @@
-# Reads the names of a program, then a trace of its instructions, and says how many a call of each function took while work ran.
+# Reads the names of a program, then a trace of its instructions, and says how many a call of each function took while work ran. The words of
+# the variable counted are the functions, without the name's first part, raftershim_.
 
 function number(digits,    i, value) {
     value = 0
@@ -6,12 +7,13 @@ function number(digits,    i, value) {
     return value
 }
 
+BEGIN { functions = split(counted, wanted, " ") }
+
 # A name: its place, its length, its kind and the name. The lowest bit of a place says Thumb.
 FNR == NR {
     place = number($1) - number($1) % 2
     if ($4 == "work") { first = place; last = place + number($2) }
-    if ($4 == "raftershim_line_byte") named[place] = "line byte"
-    if ($4 == "raftershim_loop_frame") named[place] = "loop frame"
+    for (i = 1; i <= functions; i++) if ($4 == "raftershim_" wanted[i]) named[place] = wanted[i]
     next
 }
 
@@ -25,6 +27,9 @@ FNR == NR {
 }
 
 END {
-    if (!calls["line byte"] || !calls["loop frame"]) { print "no call was seen" > "/dev/stderr"; exit 1 }
-    for (name in calls) printf "a %s: %.0f instructions on average of %d, %d at most\n", name, sum[name] / calls[name], calls[name], most[name]
+    for (i = 1; i <= functions; i++) {
+        name = wanted[i]
+        if (!calls[name]) { print "no call of raftershim_" name " was seen" > "/dev/stderr"; exit 1 }
+        printf "raftershim_%s: %.0f instructions on average of %d, %d at most\n", name, sum[name] / calls[name], calls[name], most[name]
+    }
 }

@@ -1,7 +1,4 @@
 /* Calls every C function and compares its answer, the block and the stores with what the paper says. */
-#include <stdio.h>
-#include <string.h>
-
 #include "raftershim.h"
 
 #define BLOCK ((int)RAFTERSHIM_BLOCK_LEN)
@@ -11,41 +8,11 @@
 #endif
 
 static uint8_t block[BLOCK + 1], rx[MOST + 1], tx[MOST + 1];
-static uint8_t block_was[BLOCK + 1], rx_was[MOST + 1], tx_was[MOST + 1];
 static uint64_t block_len = BLOCK, rx_len, tx_len;
-static int compared, differ;
 
-static void expect(int line, uint64_t got, uint64_t wanted) {
-    compared++;
-    if (got == wanted) return;
-    differ++;
-    printf("calls.c:%d: got %llx, wanted %llx\n", line, (unsigned long long)got, (unsigned long long)wanted);
-}
-
-static void keep(void) {
-    memcpy(block_was, block, sizeof block);
-    memcpy(rx_was, rx, sizeof rx);
-    memcpy(tx_was, tx, sizeof tx);
-}
-
-/* how many of the three buffers have changed since keep */
-static uint64_t changed(void) {
-    return (memcmp(block_was, block, sizeof block) != 0) + (memcmp(rx_was, rx, sizeof rx) != 0) + (memcmp(tx_was, tx, sizeof tx) != 0);
-}
-
-#define IS(call, wanted) expect(__LINE__, call, wanted)
-#define REFUSED(n, call)                                  \
-    do {                                                  \
-        keep();                                           \
-        expect(__LINE__, call, 4ull << 16 | (n));         \
-        expect(__LINE__, changed(), 0);                   \
-    } while (0)
-
-#define DONE (0ull << 16)
-#define NONE (1ull << 16)
-#define BYTE(b) (2ull << 16 | (b))
-#define FRAME(c, d) (3ull << 16 | (c) << 8 | (d))
-#define PART(start, len) ((uint64_t)(start) << 32 | (len))
+#define FIRST rx
+#define SECOND tx
+#include "compare.h"
 
 #define B block, block_len
 #define R rx, rx_len
@@ -97,7 +64,7 @@ static void sizes(void) {
     block_len = BLOCK;
     keep();
     IS(create(8, 3, 3), DONE);
-    IS(memcmp(rx_was, rx, sizeof rx) | memcmp(tx_was, tx, sizeof tx), 0);
+    IS(stores_changed(), 0);
 }
 
 /* refusal 2 for every call but showing, on a block that is not a fitting state */
@@ -312,10 +279,5 @@ int main(void) {
     status();
     fields();
     onepass();
-    if (differ) {
-        printf("%d of %d differ\n", differ, compared);
-        return 1;
-    }
-    printf("%d compared, all as the paper says\n", compared);
-    return 0;
+    return ended("the paper");
 }

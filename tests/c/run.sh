@@ -1,17 +1,18 @@
 #!/bin/sh
-# Compiles calls.c and gaps.c against the archive and runs them: sh tests/c/run.sh [TRIPLE...]
+# Compiles the C tests against the archive and runs them: calls.c of the bridge, mailbox*.c of the mailbox, and gaps.c of the examples' notes
+# of gaps: sh tests/c/run.sh [TRIPLE...]
 # Without a word it is for this machine; for another target a cross compiler and an emulator stand in.
 # Says how many answers were compared; fails on a difference.
 set -eu
 cd "$(dirname "$0")/../.."
 . archives/tools.sh
 
-runs() { # NAME WORDS...
-    program=$1
+runs() { # SOURCE WORDS...
+    source=$1
     shift
-    "${prefix}gcc" -std=c11 -Wall -Wextra -Werror -O2 -static -Iinclude -Iexamples/c "$@" "tests/c/$program.c" "$archive" -o "$out/$program"
-    printf '%s: ' "$triple"
-    $emulator "$out/$program"
+    "${prefix}gcc" -std=c11 -Wall -Wextra -Werror -O2 -static -Iinclude -Iexamples/c "$@" "$source" "$archive" -o "$out/program"
+    printf '%s, %s: ' "$triple" "$(basename "$source")"
+    $emulator "$out/program"
 }
 
 for triple in "${@:-$own}"; do
@@ -19,7 +20,7 @@ for triple in "${@:-$own}"; do
     out=target/c/$triple
     mkdir -p "$out"
     archive=$(archive_of "$triple")
-    runs calls
-    runs gaps -DRECEIVE_LEN=4u
-    runs gaps -DRECEIVE_LEN=8u
+    for source in tests/c/calls.c tests/c/mailbox*.c; do runs "$source"; done
+    runs tests/c/gaps.c -DRECEIVE_LEN=4u
+    runs tests/c/gaps.c -DRECEIVE_LEN=8u
 done

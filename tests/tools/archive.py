@@ -1,4 +1,4 @@
-"""Faults of an archive that tests/c/archive.sh and tests/c/run.sh must find. The archives are made from a few lines of C."""
+"""Faults of an archive that tests/c/archive.sh and tests/c/run.sh must find. The objects are made from a few lines of C."""
 import os
 import platform
 import re
@@ -10,6 +10,7 @@ CALLS = ["sh", "tests/c/run.sh"]
 KEPT = "__attribute__((used)) static"
 OWN = f"{platform.machine()}-unknown-linux-gnu"
 X86 = "x86_64-unknown-linux-gnu"
+MORE = "more"
 
 # What clang is told for each target; none needs a header or a library.
 TARGETS = {
@@ -22,12 +23,13 @@ TARGETS = {
 }
 DIVIDES = "has a divide instruction"
 ASKS = "asks for these symbols"
-DIFFERS = "the header and the archive differ"
+DIFFERS = "the header and the object differ"
 
-# Code that an archive shall not have on any target, and what is said of it.
+# Code that an object shall not have on any target, and what is said of it.
 EVERYWHERE = (
     (f"extern int late(void);\n{KEPT} int x(void) {{ return late(); }}\n", ASKS),
     (f"extern int late(void) __attribute__((weak));\n{KEPT} int x(void) {{ return late(); }}\n", ASKS),
+    (f"extern int raftershim_reset(void);\n{KEPT} int x(void) {{ return raftershim_reset(); }}\n", ASKS),
     ("int late(void) { return 0; }\n", DIFFERS),
     ("int late = 7;\n", DIFFERS),
     ("__attribute__((weak)) int late(void) { return 0; }\n", DIFFERS),
@@ -39,15 +41,24 @@ LONG_DOUBLE = f"{KEPT} long double x(long double a, long double b) {{ return a /
 FLOATS = {X86: (FLOAT, DOUBLE, LONG_DOUBLE), "aarch64-unknown-linux-gnu": (FLOAT, DOUBLE), "armv7-unknown-linux-gnueabihf": (FLOAT, DOUBLE)}
 
 
-def made(room, target, more="", left_out=""):
-    """Makes an archive of functions of the header's names that answer 0, but for one left out, and of more code."""
-    names = sorted(set(re.findall(r"^uint64_t (raftershim_\w+)\(", room.text("include/raftershim.h"), re.M)) - {left_out})
-    room.write("one.c", "".join(f"long {name}(void) {{ return 0; }}\n" for name in names) + more)
-    folder = room.at(f"target/staticlib/{target}")
-    os.makedirs(folder, exist_ok=True)
-    command = f"""set -e; rm -f {folder}/libraftershim.a; clang {TARGETS[target]} -ffreestanding -O1 -c one.c -o one.o
-        llvm-ar rcs {folder}/libraftershim.a one.o; cp {folder}/libraftershim.a target/staticlib/"""
-    status, printed = room.run(["sh", "-c", command])
+def furnished(room):
+    """Puts a crate more before the others in the list of the room, with a header of one function; most faults are planted in its object."""
+    room.write("archives/crates", f"{MORE} include/{MORE}.h\n" + room.text("archives/crates"))
+    room.write(f"include/{MORE}.h", f"uint64_t raftershim_{MORE}(void);\n")
+    room.run(["sh", "-c", ". archives/tools.sh; need clang clang; need llvm llvm-ar"])
+
+
+def made(room, target, more="", left_out="", objects="*.o"):
+    """Makes an archive with an object of each crate, of functions of the header's names that answer 0, but for one left out, and of more code."""
+    folder, commands = f"target/staticlib/{target}", []
+    for crate, header in re.findall(r"^(\w+) (.*)$", room.text("archives/crates"), re.M):
+        names = sorted(set(re.findall(r"^uint64_t (raftershim_\w+)\(", room.text(header), re.M)) - {left_out})
+        code = "".join(f"long {name}(void) {{ return 0; }}\n" for name in names) + (more if crate == MORE else "")
+        if room.text(f"{folder}/{crate}.c") != code:
+            room.write(f"{folder}/{crate}.c", code)
+            commands.append(f"clang {TARGETS[target]} -ffreestanding -O1 -c {crate}.c")
+        commands.append(f"rm -f ../lib{crate}.a; llvm-ar rcs ../lib{crate}.a {crate}.o")
+    status, printed = room.run(["sh", "-c", "\n".join([f"set -e; cd {folder}; rm -f *.a", *commands, f"llvm-ar rcs libraftershim.a {objects}"])])
     if status:
         raise Missed(f"no archive could be made:\n{printed}")
 
@@ -60,31 +71,49 @@ def faults(target):
 
 
 def planted(room, target):
-    """Plants every fault in an archive for a target."""
+    """Plants every fault of an object for a target."""
     check = [*CONTENTS, target]
     made(room, target)
-    room.passes(check, "none divides, asks for nothing")
+    room.passes(check, f"{target}, {MORE}.o: 1 functions")
     for more, said in faults(target):
         made(room, target, more)
         room.finds(check, said)
-    made(room, target, left_out="raftershim_reset")
-    room.finds(check, DIFFERS)
+    for left_out in ("raftershim_reset", f"raftershim_{MORE}"):
+        made(room, target, left_out=left_out)
+        room.finds(check, DIFFERS)
+
+
+def together(room, target):
+    """Plants faults of the archive as a whole, and code that is in order."""
+    check = [*CONTENTS, target]
+    made(room, target, f"extern void *memcpy(void *, const void *, unsigned long);\n{KEPT} void *x(void *a, void *b, long n) {{ return memcpy(a, b, n); }}\n")
+    room.passes(check, "asks for memcpy")
+    made(room, target, KEPT + ' void x(void) { __asm__(".inst 0xffffffff"); }\n')
+    room.finds(check, "has code that cannot be read")
+    for objects in (f"{MORE}.o", f"*.o {MORE}.c"):
+        made(room, target, objects=objects)
+        room.finds(check, "has not one object for each crate")
+    made(room, target)
+    room.finds(check, "the headers are not one for each crate", ("include/late.h", "uint64_t raftershim_late(void);\n"))
+
+
+def called(room):
+    """Sees each C test find functions that answer 0, the other tests being empty."""
+    tests = [f"tests/c/{name}" for name in sorted(os.listdir(room.at("tests/c"))) if re.fullmatch(r"calls\.c|mailbox.*\.c", name)]
+    for test in tests:
+        room.finds(CALLS, "differ", *((other, "int main(void) { return 0; }\n") for other in tests if other != test))
 
 
 def run():
     """Plants every fault; how many."""
     with Room("tests/c", "include", "archives") as room:
-        room.run(["sh", "-c", ". archives/tools.sh; need clang clang; need llvm llvm-ar"])
+        furnished(room)
         for target in TARGETS:
             planted(room, target)
-        copies = f"extern void *memcpy(void *, const void *, unsigned long);\n{KEPT} void *x(void *a, void *b, long n) {{ return memcpy(a, b, n); }}\n"
-        made(room, "aarch64-unknown-linux-gnu", copies)
-        room.passes([*CONTENTS, "aarch64-unknown-linux-gnu"], "asks for memcpy")
-        made(room, "aarch64-unknown-linux-gnu", KEPT + ' void x(void) { __asm__(".inst 0xffffffff"); }\n')
-        room.finds([*CONTENTS, "aarch64-unknown-linux-gnu"], "has code that cannot be read")
+        together(room, "aarch64-unknown-linux-gnu")
         made(room, X86)
-        room.write("target/staticlib/libraftershim.a", "another")
+        room.write(f"target/staticlib/lib{MORE}.a", "another")
         room.finds([*CONTENTS, X86], "it is not the kit's")
         made(room, OWN)
-        room.finds(CALLS, "differ")
+        called(room)
         return room.count

@@ -4,7 +4,7 @@ import os
 from planting import ROOT, Room
 
 CHIPS = ("thumbv6m-none-eabi", "thumbv7em-none-eabi", "riscv32imc-unknown-none-elf")
-COUNT = ["awk", "-f", "tests/board/count.awk", "names", "trace"]
+COUNT = ["awk", "-v", "counted=line_byte loop_frame", "-f", "tests/board/count.awk", "names", "trace"]
 NAMES = "00000100 00000010 t work\n00000201 00000010 T raftershim_line_byte\n00000301 00000010 T raftershim_loop_frame\n"
 
 
@@ -19,11 +19,12 @@ def run():
         os.symlink(os.path.join(ROOT, "target"), room.at("target"))
         for chip in CHIPS:
             check = ["sh", "tests/board/run.sh", chip]
-            room.passes(check, "all as the paper says")
+            room.passes(check, "all as the manual says")
             room.finds(["sh", "tests/c/run.sh", chip], f"sh tests/board/run.sh {chip} runs the C test")
             room.finds(check, "1 of", ("tests/c/calls.c", "IS(frame(5, 129), FRAME(5, 130))", "IS(frame(5, 129), FRAME(5, 131))"))
+            room.finds(check, "1 of", ("tests/c/mailbox_talk.c", "DOES(frame(2, '5'), FRAME(1, '7'))", "DOES(frame(2, '5'), FRAME(0, '7'))"))
         room.write("names", NAMES)
         room.write("trace", trace(0x200, 0x100, 0x200, 0x202, 0x400, 0x102, 0x300, 0x104, 0x200, 0x106))
-        room.passes(COUNT, "a line byte: 2 instructions on average of 2, 3 at most")
-        room.finds(COUNT, "no call was seen", ("trace", trace(0x200, 0x300, 0x100, 0x200, 0x102)))
+        room.passes(COUNT, "raftershim_line_byte: 2 instructions on average of 2, 3 at most")
+        room.finds(COUNT, "no call of raftershim_loop_frame was seen", ("trace", trace(0x200, 0x300, 0x100, 0x200, 0x102)))
         return room.count

@@ -8,6 +8,7 @@ CALLS = ["sh", "tests/c/run.sh"]
 PORTS = ["sh", "examples/run.sh", "ports"]
 GAPS = "examples/c/gaps.h"
 DONGLE = "examples/dongle/main.c"
+MAILBOX = ["sh", "examples/run.sh", "mailbox"]
 
 
 def run():
@@ -19,6 +20,9 @@ def run():
         room.finds(TOOL, "dongle prints something else", ("examples/dongle/dongle.said", "stop\n", ""))
         room.finds(TOOL, "dongle prints something else", (DONGLE, "gaps_note(&gaps, block);", ""))
         room.finds(TOOL, "dongle prints something else", (DONGLE, "if (line_free())", "if (0)"))
+        room.passes(MAILBOX, "mailbox: 2 readings whole, 0 with a byte missing, as stored")
+        room.finds(MAILBOX, "> -12.: not ended", ("examples/c/mailbox.c", "== RAFTERSHIM_REFUSED) break;", "== RAFTERSHIM_REFUSED) continue;"))
+        room.finds(MAILBOX, "> 2.5: not ended", ("examples/c/mailbox.c", "text[1] == '\\0'", "0"))
         room.passes(PORTS, "ports: 6 readings whole, 6 with a byte missing, as stored")
         room.finds(PORTS, "> 25: whole", (DONGLE, "line_overran() || (came && overran_before)", "line_overran()"))
         room.finds(PORTS, "> .5: whole", (DONGLE, "if (overran || overran_before)", "if (overran)"))

@@ -8,6 +8,8 @@ BIN = f"kit/on/{platform.machine()}/toolchain/bin"
 M0 = "thumbv6m-none-eabi"
 MAKE = ["sh", "archives/make.sh", M0]
 SOURCE = "crates/one/src/lib.rt"
+OTHER = "crates/two/src/lib.rt"
+BELOW = "crates/below/specs/Lib.antt"
 IGNORED = "'x86-64' is not a recognized processor for this target (ignoring processor)"
 
 CLANG = """#!/bin/sh
@@ -22,10 +24,11 @@ case $1 in
     version) echo kit ;;
     staticlib)
         [ -z "${UNPROVED-}" ] || { echo 'a crate is not proved'; exit 1; }
-        echo proved >> proofs
+        echo "$2" >> proofs
+        rm -rf lowered
         mkdir -p target/staticlib lowered
         cd lowered
-        echo module > "${MODULE-module.bc}"
+        [ "$2" = "${WITHOUT-}" ] || echo module > module.bc
         "$RATTLE_HOME/on/$(uname -m)/toolchain/bin/clang" -c -x ir module.bc -o module.o ;;
 esac
 """
@@ -38,27 +41,32 @@ def program(room, path, text):
 
 
 def furnished(room):
-    """Puts the kit, its command and a crate into the room; the paths with and without the command."""
+    """Puts the kit, its command and three crates into the room, of which two make the archive; the paths with and without the command."""
     program(room, f"{BIN}/clang", CLANG)
     os.symlink("/usr/bin/llvm-ar", room.at(f"{BIN}/llvm-ar"))
     program(room, "bin/rt", RT)
-    room.write(SOURCE, "one")
-    room.write("crates.txt", "one:\n")
+    for path in (SOURCE, OTHER, BELOW):
+        room.write(path, "one")
+    room.write("crates.txt", "below:\none: below\ntwo:\n")
+    room.write("archives/crates", "# crates\none include/one.h\ntwo include/two.h\n")
     return f"{room.at('bin')}:/usr/bin:/bin", "/usr/bin:/bin"
 
 
 def making(room, path):
-    """The script: one proof serves every target, until a source changes; what clang says is an error."""
+    """The script: one proof of a crate serves every target, until a source of it or below it changes; what clang says is an error."""
     room.passes(MAKE, f"target/staticlib/{M0}/libraftershim.a", PATH=path)
-    room.passes(["grep", "-ae", f"--target={M0} .* -O3 .* -c -x ir .*raftershim.bc", f"target/staticlib/{M0}/libraftershim.a"])
-    counted = ["sh", "-c", "sh archives/make.sh all > said && echo $(wc -l < said) archives, $(wc -l < proofs) proofs"]
-    room.passes(counted, "7 archives, 1 proofs", PATH=path)
-    room.write(SOURCE, "two")
-    room.passes(counted, "7 archives, 2 proofs", PATH=path)
+    for crate in ("one", "two"):
+        told = f"llvm-ar p target/staticlib/{M0}/libraftershim.a {crate}.o | grep -e '--target={M0} .* -O3 .* -c -x ir .*/{crate}.bc'"
+        room.passes(["sh", "-c", told])
+    counted = ["sh", "-c", "sh archives/make.sh all > said && echo $(wc -l < said) archives, proofs of $(paste -sd ' ' proofs)"]
+    room.passes(counted, "7 archives, proofs of one two\n", PATH=path)
+    for source in (SOURCE, BELOW):
+        room.write(source, "two")
+        room.passes(counted, "one two one" + " one" * (source == BELOW) + "\n", PATH=path)
     room.passes(MAKE, PATH=path, CLANG_SAYS=IGNORED)
     room.finds(MAKE, "a warning", PATH=path, CLANG_SAYS="a warning")
     room.finds(MAKE, "a crate is not proved", (SOURCE, "three"), PATH=path, UNPROVED="1")
-    room.finds(MAKE, "no module.bc to keep", (SOURCE, "four"), ("lowered/module.bc", None), PATH=path, MODULE="other.bc")
+    room.finds(MAKE, "no module.bc to keep", (SOURCE, "four"), (OTHER, "four"), PATH=path, WITHOUT="two")
 
 
 def building(room, path, without):

@@ -1,14 +1,13 @@
--- The laws of the block: a state has one block, a block has one meaning, and which blocks are states. Assumes nothing.
+-- The laws of the block that are its own: which states are ranged, and that what is no state fits no stores. Those of any block are in codec.
+-- Assumes nothing.
 use Prim.{tt}
-use Prim.Native.Nat.{ℕ, _+_, _*_, _≤_, _<_}
-use mathlib.Core.Path.{_≡_, refl, sym, ap, _∙_}
-use mathlib.Core.Bool.{Bool, true, false, _&&_, true≢false}
+use Prim.Native.Nat.{ℕ, _<_}
+use mathlib.Core.Path.{_≡_, refl, sym}
+use mathlib.Core.Bool.{Bool, true, false, true≢false}
 use mathlib.Core.List.{List}
 use native.Mathlib.Omega.{arith}
 use lib.ListN.{length}
-use lib.Dec.{leb}
-use borrow.Author.Tests.{leb-true}
-use Rattle.branches.proofs.Branches.{and-left, and-right}
+use Rattle.codec.proofs.Laws as blocks
 use Rattle.registers.specs.RegistersFit.{values, valueIn, valueOf}
 use Rattle.registers.specs.Table.{startRegisters}
 use Rattle.registers.proofs.Fits.{fit-byte, fit-start}
@@ -17,61 +16,8 @@ use Rattle.talker.proofs.FitLaws.{fit-true}
 use Rattle.state.specs.declared.State.{State}
 use Rattle.state.specs.Sizes.{sizesObeyed, startState, fits, RxFits, TxFits}
 use Rattle.state.proofs.Fits.{Obeyed, sizes-hold, Tests, tests, rx-fits, tx-fits}
-use Rattle.block.specs.Packed.{blockLen, layout, packed, unpacked}
-use Rattle.block.specs.States.{isState, meaning, noState, fittingBlock, CountsRanged, Ranged}
-use Rattle.block.specs.Standing.{at-self}
-use Rattle.store.specs.Bytes.{Bytes}
-use Rattle.block.proofs.Same.{same-true, state-packed, means, means-none}
-
--- ---- a state has one block
-
-pub packed-length : (s : State) → length (packed s) ≡ blockLen
-unfolding packed
-packed-length s = layout .put-length s
-
-pub read-back : (s : State) → Ranged s → unpacked (packed s) ≡ s
-unfolding packed unpacked
-read-back s h = layout .get-put (layout .put s) 0 s h (at-self (layout .put s))
-
-module _ (s : State) (h : Ranged s) where
-  pub packed-is-state : isState (packed s) ≡ true
-  unfolding isState
-  packed-is-state = rw (packed-length s, read-back s h, same-true (packed s) (packed s) refl)
-
-  pub packed-means : meaning (packed s) ≡ s
-  packed-means = sym (means (packed s) true (sym packed-is-state) refl) ∙ read-back s h
-
-  pub one-block : (t : State) → Ranged t → packed s ≡ packed t → s ≡ t
-  one-block t k e = sym (read-back s h) ∙ ap unpacked e ∙ read-back t k
-
--- ---- a block has one meaning
-
-pub one-meaning : (b c : List ℕ) → isState b ≡ true → isState c ≡ true → unpacked b ≡ unpacked c → b ≡ c
-one-meaning b c p q e = sym (state-packed b p) ∙ ap packed e ∙ state-packed c q
-
--- ---- what is read from bytes is ranged, and a ranged state is packed into bytes
-
-pub unpacked-ranged : (b : List ℕ) → Bytes b → Ranged (unpacked b)
-unfolding unpacked
-unpacked-ranged b h = layout .get-ranged b 0 h
-
-pub packed-bytes : (s : State) → Ranged s → Bytes (packed s)
-unfolding packed
-packed-bytes s h = layout .put-bytes s h
-
--- ---- which blocks are states
-
--- a block is the bytes of a state that it means
-pub record IsPacked (b : List ℕ) : Type 0 where
-  pub state : State
-  pub ranged : Ranged state
-  pub bytes : b ≡ packed state
-
-pub state-is-packed : (b : List ℕ) → Bytes b → isState b ≡ true → IsPacked b
-state-is-packed b h e = record { state = unpacked b; ranged = unpacked-ranged b h; bytes = sym (state-packed b e) }
-
-pub packed-test : (b : List ℕ) → IsPacked b → isState b ≡ true
-packed-test b p = ap isState (p .bytes) ∙ packed-is-state (p .state) (p .ranged)
+use Rattle.block.specs.Packed.{layout}
+use Rattle.block.specs.States.{meaning, noState, fittingBlock, CountsRanged, Ranged}
 
 -- ---- a state that fits is ranged
 
@@ -134,9 +80,4 @@ no-state-misfits rx tx = pick (fits noState rx tx) refl
 
 -- a block is a fitting state exactly if what it means fits
 pub meaning-fits : (b : List ℕ) (rx tx : ℕ) → fits (meaning b) rx tx ≡ fittingBlock b rx tx
-unfolding fittingBlock
-meaning-fits b rx tx = pick (isState b) refl
-  where
-    pick : (t : Bool) → isState b ≡ t → fits (meaning b) rx tx ≡ (isState b && fits (unpacked b) rx tx)
-    pick true e = rw (← means b true (sym e) refl, e)
-    pick false e = rw (← means-none b false (sym e) refl, e) (no-state-misfits rx tx)
+meaning-fits b rx tx = blocks.meaning-fits layout noState (λ s. fits s rx tx) (no-state-misfits rx tx) b

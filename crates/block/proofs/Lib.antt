@@ -1,4 +1,3 @@
--- `Copied` and `Same` serve the proofs of the functions, `Laws` are the laws of the block.
-pub mod Copied
-pub mod Same
+-- `Tested` serves the proofs of the functions, `Laws` are the laws of the block.
+pub mod Tested
 pub mod Laws

@@ -1,14 +1,14 @@
 -- The packed block: the state travels as a lent block of bytes of one fixed length, each field at a fixed place. A size or a place stands in
 -- two bytes and a count in four, low byte first, a register in one byte, a flag as 1 or 0.
-use Prim.Native.Nat.{ℕ, _+_}
+use Prim.Native.Nat.{ℕ}
 use mathlib.Core.Path.{_≡_, refl}
 use mathlib.Core.Bool.{Bool, true}
 use mathlib.Core.List.{List}
 use native.Mathlib.Omega.{arith}
 use lib.ListN.{take, drop}
-use Rattle.store.specs.declared.Ring.{Ring}
 use Rattle.state.specs.declared.State.{State}
-use Rattle.block.specs.Codec.{Codec, Rows, byte, two, four, flag, field, marked, through, _▸_}
+use Rattle.codec.specs.Codec.{Codec, Rows, byte, two, four, flag, field, marked, through, _▸_}
+use Rattle.codec.specs.Blocks as blocks
 
 -- the one length of a block
 abbrev pub blockLen : ℕ
@@ -97,8 +97,8 @@ abbrev pub layout : Codec State
 layout = through (rows .codec) (rows .made) (rows .fields) (λ s. refl) (λ p. refl)
 
 -- the block of a state, and its two parts
-unfoldable pub packed : State → List ℕ
-packed s = layout .put s
+abbrev pub packed : State → List ℕ
+packed s = blocks.packed layout s
 
 abbrev pub packedHead : State → List ℕ
 packedHead s = take 27 (layout .put s)
@@ -106,13 +106,9 @@ packedHead s = take 27 (layout .put s)
 abbrev pub packedTail : State → List ℕ
 packedTail s = drop 27 (layout .put s)
 
--- the ring whose three numbers stand from i on
-abbrev pub ringAt : List ℕ → ℕ → Ring
-ringAt b i = record { cap = two .get b i; oldest = two .get b (i + 2); len = two .get b (i + 4) }
-
 -- the state that the bytes of a block are read as
 abbrev pub stateAt : List ℕ → State
 stateAt b = layout .get b 0
 
-unfoldable pub unpacked : List ℕ → State
-unpacked b = stateAt b
+abbrev pub unpacked : List ℕ → State
+unpacked b = blocks.unpacked layout b

@@ -29,8 +29,7 @@ pub fn pack(block: &mut [u8], s: State)
 {
     let head = packing::packed_head(s);
     let tail = packing::packed_tail(s);
-    bytes::copy(&head, block);
-    bytes::copy(&tail, &mut block[27..]);
+    codec::write_both(block, &head, &tail);
 }
 
 // What stands for the state of a block that is none.

@@ -1,9 +1,7 @@
 // The state that a block is read as.
 ghost use mathlib.Core.Path.{_≡_};
-ghost use Prim.Native.Nat.{_+_, _<_};
 ghost use lib.ListN.{length};
-ghost use Rattle.block.specs.Codec.{two, four};
-ghost use Rattle.block.specs.Packed.{blockLen, ringAt, stateAt, unpacked};
+ghost use Rattle.block.specs.Packed.{blockLen, stateAt, unpacked};
 use registers::Registers;
 use role::Role;
 use role::remote::Remote;
@@ -12,52 +10,8 @@ use state::Line;
 use state::Notes;
 use state::State;
 use status::Events;
-use store::Ring;
 use talker::Talker;
 use talker::Under;
-
-// A byte in more bits, here and in the next two: the caller is asked only for the place that it is read from.
-fn wide(x: u8) -> usize
-    ensures { λ r. ⌜ (r ≡ x) × (r < 256) ⌝ }
-{
-    x as usize
-}
-
-fn wide16(x: u8) -> u16
-    ensures { λ r. ⌜ (r ≡ x) × (r < 256) ⌝ }
-{
-    x as u16
-}
-
-fn wide32(x: u8) -> u32
-    ensures { λ r. ⌜ (r ≡ x) × (r < 256) ⌝ }
-{
-    x as u32
-}
-
-// The size or place in two bytes of a block from i.
-fn read(b: &[u8], i: usize) -> usize
-    requires { ⌜ i + 1 < length (now b) ⌝ }
-    ensures { λ r. ⌜ r ≡ two .get (now (b .entry)) i ⌝ }
-{
-    wide(b[i]) + 256 * wide(b[i + 1])
-}
-
-// The frame in two bytes of a block from i.
-fn read16(b: &[u8], i: usize) -> u16
-    requires { ⌜ i + 1 < length (now b) ⌝ }
-    ensures { λ r. ⌜ r ≡ two .get (now (b .entry)) i ⌝ }
-{
-    wide16(b[i]) + 256 * wide16(b[i + 1])
-}
-
-// The count in four bytes of a block from i.
-fn read32(b: &[u8], i: usize) -> u32
-    requires { ⌜ i + 3 < length (now b) ⌝ }
-    ensures { λ r. ⌜ r ≡ four .get (now (b .entry)) i ⌝ }
-{
-    wide32(b[i]) + 256 * wide32(b[i + 1]) + 65536 * wide32(b[i + 2]) + 16777216 * wide32(b[i + 3])
-}
 
 // The registers in a block.
 fn registers_at(b: &[u8]) -> Registers
@@ -91,7 +45,7 @@ fn talker_at(b: &[u8]) -> Talker
             listener: b[29] == 1,
         },
         under: Under {
-            frame: read16(b, 30),
+            frame: codec::read16(b, 30),
             finishing: b[32] == 1,
         },
     }
@@ -105,18 +59,6 @@ fn remote_at(b: &[u8]) -> Remote
     Remote {
         enabled: b[54] == 1,
         remote: b[55] == 1,
-    }
-}
-
-// The ring in a block from i.
-fn ring_at(b: &[u8], i: usize) -> Ring
-    requires { ⌜ i + 5 < length (now b) ⌝ }
-    ensures { λ r. ⌜ r ≡ ringAt (now (b .entry)) i ⌝ }
-{
-    Ring {
-        cap: read(b, i),
-        oldest: read(b, i + 2),
-        len: read(b, i + 4),
     }
 }
 
@@ -158,9 +100,9 @@ fn counts_at(b: &[u8]) -> Counts
     ensures { λ r. ⌜ r ≡ stateAt (now (b .entry)) .counts ⌝ }
 {
     Counts {
-        stored: read32(b, 15),
-        lost: read32(b, 19),
-        sent: read32(b, 23),
+        stored: codec::read32(b, 15),
+        lost: codec::read32(b, 19),
+        sent: codec::read32(b, 23),
     }
 }
 
@@ -169,12 +111,12 @@ pub fn unpack(b: &[u8]) -> State
     requires { ⌜ length (now b) ≡ blockLen ⌝ }
     ensures { λ r. ⌜ r ≡ unpacked (now (b .entry)) ⌝ }
 {
-    let margin = read(b, 1);
+    let margin = codec::read(b, 1);
     let regs = registers_at(b);
     let talker = talker_at(b);
     let remote = remote_at(b);
-    let rx = ring_at(b, 3);
-    let tx = ring_at(b, 9);
+    let rx = codec::ring_at(b, 3);
+    let tx = codec::ring_at(b, 9);
     let line = line_at(b);
     let notes = notes_at(b);
     let counts = counts_at(b);

@@ -1,16 +1,16 @@
 -- What the tests of frames tell of each other, and what an answer carries. Assumes nothing.
 use Prim.Native.Nat.{ℕ, _+_, _*_, _/_, _%_, _<_, _≤_}
 use native.Mathlib.Omega.{arith}
-use mathlib.Core.Path.{_≡_, refl, sym, ap, subst, _∙_}
-use mathlib.Core.Bool.{Bool, true, false, cond, _&&_, _||_, not, false≢true, true≢false}
-use mathlib.Core.List.{List, [], _∷_}
+use mathlib.Core.Path.{_≡_, refl, sym, subst, _∙_}
+use mathlib.Core.Bool.{Bool, true, false, cond, _&&_}
+use mathlib.Core.List.{[], _∷_}
 use lib.Dec.{eqb, leb, ltb}
-use borrow.Author.Tests.{eqb-true, eqb-false, eq-eqb, ne-eqb, ltb-true, ltb-false, lt-ltb, leb-true, leb-false, le-leb, lt-leb}
+use borrow.Author.Tests.{eqb-true, eqb-false, eq-eqb, ne-eqb, ltb-true, lt-ltb, le-leb, lt-leb}
 use Rattle.branches.proofs.Branches.{by-cond, and-left, and-right, same-test}
-use Rattle.frame.specs.Frame.{controlOf, dataOf, made, isData, isEnd, withService}
-use Rattle.answers.specs.Answers.{Said, frame}
-use Rattle.mailloop.specs.Sends.{frameOf}
-use Rattle.maillaws.specs.Sights.{counted, dataCell, dataByte, ofFrameSaid}
+use Rattle.frame.specs.Frame.{controlOf, dataOf, made, isData, withService}
+use Rattle.answers.specs.Answers.{frame}
+use Rattle.mailloop.specs.Sends.{marked, frameOf}
+use Rattle.maillaws.specs.Sights.{counted, dataCell, dataByte}
 
 -- ---- which frame it is
 
@@ -67,70 +67,35 @@ either-same false x = refl
 -- the frame of a cell, with the service bit or without
 pub cell-carried : (t : Bool) (c g : ℕ) → g ≡ cond t (withService (frameOf c)) (frameOf c) → dataCell (frame (controlOf g) (dataOf g)) ≡ counted c ∷ []
 unfolding withService
-cell-carried t c g e = subst (λ (h : ℕ). dataCell (frame (controlOf h) (dataOf h)) ≡ counted c ∷ []) (sym e) (go t (eqb (c / 256 % 2) 1) refl)
+cell-carried t c g e =
+    subst Cell (sym e)
+    (by-cond (λ (k : ℕ). Cell (cond t (withService (made k (c % 256))) (made k (c % 256)))) (marked c) 2 0
+    (λ m. let o = eqb-true (c / 256 % 2) 1 m in
+    by-cond Cell t _ _ (λ _. ending (withService (made 2 (c % 256))) (omega arith) (omega arith) (omega arith))
+    (λ _. ending (made 2 (c % 256)) (omega arith) (omega arith) (omega arith)))
+    (λ m. let o = eqb-false (c / 256 % 2) 1 m in
+    by-cond Cell t _ _ (λ _. plain (withService (made 0 (c % 256))) (omega arith) (omega arith)) (λ _. plain (made 0 (c % 256)) (omega arith) (omega arith))))
   where
-    -- the cell of a frame with this control, an end byte or not
-    plain : (k d : ℕ) → k < 2 → d < 256 → dataCell (frame ((k * 256 + d) / 256) ((k * 256 + d) % 256)) ≡ d ∷ []
-    plain k d h l =
-        let p : (k * 256 + d) / 256 ≡ k = omega arith in
-        let q : (k * 256 + d) % 256 ≡ d = omega arith in
-        rw (p, q, lt-ltb k 4 (omega arith), lt-leb 2 k h)
+    Cell : ℕ → Type 0
+    Cell g = dataCell (frame (controlOf g) (dataOf g)) ≡ counted c ∷ []
 
-    ending : (k d : ℕ) → 2 ≤ k → k < 4 → d < 256 → dataCell (frame ((k * 256 + d) / 256) ((k * 256 + d) % 256)) ≡ (d + 256) ∷ []
-    ending k d h m l =
-        let p : (k * 256 + d) / 256 ≡ k = omega arith in
-        let q : (k * 256 + d) % 256 ≡ d = omega arith in
-        rw (p, q, lt-ltb k 4 m, le-leb 2 k h)
+    ending : (g : ℕ) → g / 256 < 4 → 2 ≤ g / 256 → g % 256 + 256 ≡ c % 512 → Cell g
+    ending g h k e = rw (lt-ltb (g / 256) 4 h, le-leb 2 (g / 256) k, e)
 
-    small : c % 256 < 256
-    small = omega arith
-
-    no-one : (c / 256 % 2 ≡ 1 → ⊥) → c / 256 % 2 ≡ 0
-    no-one h = omega arith
-
-    go : (t m : Bool) → eqb (c / 256 % 2) 1 ≡ m →
-        dataCell (frame (controlOf (cond t (made (controlOf (made (cond m 2 0) (c % 256)) / 2 * 2 + 1) (dataOf (made (cond m 2 0) (c % 256)))) (made (cond m 2 0) (c % 256))))
-        (dataOf (cond t (made (controlOf (made (cond m 2 0) (c % 256)) / 2 * 2 + 1) (dataOf (made (cond m 2 0) (c % 256)))) (made (cond m 2 0) (c % 256)))))
-        ≡ counted c ∷ []
-    go true true z =
-        let o : c / 256 % 2 ≡ 1 = eqb-true (c / 256 % 2) 1 z in
-        let v : c % 256 + 256 ≡ c % 512 = omega arith in
-        let p : (2 * 256 + c % 256) / 256 / 2 * 2 + 1 ≡ 3 = omega arith in
-        let q : (2 * 256 + c % 256) % 256 ≡ c % 256 = omega arith in
-        rw (p, q) (ending 3 (c % 256) (omega arith) (omega arith) small ∙ ap (λ (n : ℕ). n ∷ []) v)
-    go true false z =
-        let o : c / 256 % 2 ≡ 0 = no-one (eqb-false (c / 256 % 2) 1 z) in
-        let v : c % 256 ≡ c % 512 = omega arith in
-        let p : (0 * 256 + c % 256) / 256 / 2 * 2 + 1 ≡ 1 = omega arith in
-        let q : (0 * 256 + c % 256) % 256 ≡ c % 256 = omega arith in
-        rw (p, q) (plain 1 (c % 256) (omega arith) small ∙ ap (λ (n : ℕ). n ∷ []) v)
-    go false true z =
-        let o : c / 256 % 2 ≡ 1 = eqb-true (c / 256 % 2) 1 z in
-        let v : c % 256 + 256 ≡ c % 512 = omega arith in
-        ending 2 (c % 256) (omega arith) (omega arith) small ∙ ap (λ (n : ℕ). n ∷ []) v
-    go false false z =
-        let o : c / 256 % 2 ≡ 0 = no-one (eqb-false (c / 256 % 2) 1 z) in
-        let v : c % 256 ≡ c % 512 = omega arith in
-        plain 0 (c % 256) (omega arith) small ∙ ap (λ (n : ℕ). n ∷ []) v
+    plain : (g : ℕ) → g / 256 < 2 → g % 256 ≡ c % 512 → Cell g
+    plain g h e = rw (lt-ltb (g / 256) 4 (omega arith), lt-leb 2 (g / 256) h, e)
 
 -- the byte of a data frame that we send, with the service bit or without
 pub byte-carried : (t : Bool) (b g : ℕ) → b < 256 → g ≡ cond t (withService (made 0 b)) (made 0 b) → dataByte (frame (controlOf g) (dataOf g)) ≡ b ∷ []
 unfolding withService
-byte-carried t b g l e = subst (λ (h : ℕ). dataByte (frame (controlOf h) (dataOf h)) ≡ b ∷ []) (sym e) (go t)
+byte-carried t b g l e =
+    subst Byte (sym e) (by-cond Byte t _ _ (λ _. seen (withService (made 0 b)) (omega arith) (omega arith)) (λ _. seen (made 0 b) (omega arith) (omega arith)))
   where
-    plain : (k : ℕ) → k < 2 → dataByte (frame ((k * 256 + b) / 256) ((k * 256 + b) % 256)) ≡ b ∷ []
-    plain k h =
-        let p : (k * 256 + b) / 256 ≡ k = omega arith in
-        let q : (k * 256 + b) % 256 ≡ b = omega arith in
-        rw (p, q, lt-ltb k 4 (omega arith))
+    Byte : ℕ → Type 0
+    Byte g = dataByte (frame (controlOf g) (dataOf g)) ≡ b ∷ []
 
-    go : (t : Bool) → dataByte (frame (controlOf (cond t (made (controlOf (made 0 b) / 2 * 2 + 1) (dataOf (made 0 b))) (made 0 b)))
-        (dataOf (cond t (made (controlOf (made 0 b) / 2 * 2 + 1) (dataOf (made 0 b))) (made 0 b)))) ≡ b ∷ []
-    go true =
-        let p : (0 * 256 + b) / 256 / 2 * 2 + 1 ≡ 1 = omega arith in
-        let q : (0 * 256 + b) % 256 ≡ b = omega arith in
-        rw (p, q) (plain 1 (omega arith))
-    go false = plain 0 (omega arith)
+    seen : (g : ℕ) → g / 256 < 4 → g % 256 ≡ b → Byte g
+    seen g h k = rw (lt-ltb (g / 256) 4 h, k)
 
 -- a frame out that is no data frame carries nothing
 pub no-cell : (k d : ℕ) → ltb k 4 ≡ false → (dataCell (frame k d) ≡ []) × (dataByte (frame k d) ≡ [])

@@ -8,6 +8,11 @@ pub mod BusMoves
 pub mod LoopMoves
 pub mod EveryMove
 pub mod Ways
+pub mod Requests
+-- `LoopRoles` has the law of the role on the loop, `BusRoles` that of the side of the bus, and `Given` what a side is given when it asks.
+pub mod LoopRoles
+pub mod BusRoles
+pub mod Given
 -- `Fetching` is the view of a fetch, `Small` says that what is sent is bytes and data frames, `FitParts` takes fitting apart, `FrameFits` is of
 -- loop frames; `Fitted` has the laws.
 pub mod Fetching
@@ -17,3 +22,15 @@ pub mod FrameFits
 pub mod Fitted
 -- `Replied` has the laws of answers and refusals.
 pub mod Replied
+-- `HeldBack` has the laws of not ready for data.
+pub mod HeldBack
+-- `RequestWaits` says that a request shows only while something waits.
+pub mod RequestWaits
+-- `StatusSent` is of the status byte on the loop.
+pub mod StatusSent
+-- `NewsKept` and `NewsRuns` are of the news.
+pub mod NewsKept
+pub mod NewsRuns
+pub mod NewsEnds
+-- `Laws` has all of them in one theorem.
+pub mod Laws

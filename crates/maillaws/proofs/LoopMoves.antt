@@ -23,18 +23,12 @@ use Rattle.mailbox.specs.Calls.{loopFrame, on, World}
 use Rattle.maillaws.specs.Sights as see
 use Rattle.maillaws.specs.Sights.{toLoop, counted, dataCell, dataByte, loopActive, fromWay}
 use Rattle.maillaws.specs.StateFits.{Fits}
+use Rattle.maillaws.proofs.Small.{news-small}
 use Rattle.maillaws.proofs.FrameTests.{frame-is, data-no-frame, other-byte, no-frame-by-control, no-frame-by-byte, either-same, cell-carried, byte-carried, no-cell}
 use Rattle.maillaws.proofs.FrameWays.{Way, Returning, Arriving, Readying, Asking, asked, isNext, isNextId, isBack, isLast, isDamaged, isHeld, isHeard, isPassed}
 use Rattle.maillaws.proofs.FrameWays.{isCleared, isObeyed, isReleased, isAssigned, isSendAsked, isTold, isFinishing, isIdAsked, isAccessory}
 use Rattle.maillaws.proofs.FrameWays.{isReady, isIdentified}
 use Rattle.maillaws.proofs.Moves.{Sight, sight, nothing, Move, isStill, isFetched, isAsked, isReturned, by-sight}
-
--- a status byte is a byte
-news-small : (n : News) → newsByte n < 256
-unfolding newsByte
-news-small n =
-    by-cond (λ (b : ℕ). b < 256) (n .request) _ _ (λ _. by-cond (λ (b : ℕ). b < 256) (n .available) _ _ (λ _. omega arith) (λ _. omega arith))
-    (λ _. by-cond (λ (b : ℕ). b < 256) (n .available) _ _ (λ _. omega arith) (λ _. omega arith))
 
 module _ (w : World) (f : ℕ) where
   -- the frame asks for what waits, and for status

@@ -112,13 +112,18 @@ frame-replied : (f : ℕ) (o : Outcome) → Framed o → Replied (on (loopFrame 
 unfolding said
 frame-replied f o g =
     subst (λ (a : Answer). Replied (on (loopFrame f)) (said a)) (sym (g .answers))
-    (record { answer = refl; taken = refl; narrow = λ i. lt-ltb (controlOf (g .out)) 8 (omega (arith, g .small)) i && lt-ltb (dataOf (g .out)) 256 (omega arith) i })
+    (record {
+      answer = refl;
+      taken = refl;
+      narrow = λ i. lt-ltb (controlOf (g .out)) 8 (omega (arith, g .small)) i && lt-ltb (dataOf (g .out)) 256 (omega arith) i;
+    })
 
 fetch-replied : (s : State) (cells : List ℕ) (o : Outcome) → Fetching s cells o → Replied (on busFetch) (said (o .answer))
 unfolding said bus-side.statusGiven
 fetch-replied s cells o isNone = record { answer = refl; taken = refl; narrow = refl }
 fetch-replied s cells o (isGiven h) = record { answer = refl; taken = refl; narrow = lt-ltb (getD (held cells (s .tobus .ring)) 0 0 % 512) 512 (omega arith) }
-fetch-replied s cells o isStatus = record { answer = refl; taken = refl; narrow = lt-ltb (newsByte (s .tobus .news)) 512 (omega (arith, news-small (s .tobus .news))) }
+fetch-replied s cells o isStatus =
+    record { answer = refl; taken = refl; narrow = lt-ltb (newsByte (s .tobus .news)) 512 (omega (arith, news-small (s .tobus .news))) }
 
 lines-small : (s : State) → s .bus .line < 8 → bus-side.cellWith (pollBits (s .bus) (s .tobus .news .request)) (s .tobus .news .request) < 512
 unfolding pollBits
@@ -142,6 +147,9 @@ replied (on busLines) w e =
       taken = refl;
       narrow = lt-ltb _ 512 (lines-small (w .state) (parts (w .tobus) (w .toloop) (w .state) (fitting busLines w e .0) .bus .line));
     }
+
+pub loop-taken : (f : ℕ) (w : World) → firstRefusal (checks (on (loopFrame f)) w) ≡ 0 → isRefusal (said (frameTaken (w .state) (w .toloop) f .answer)) ≡ false
+loop-taken f w e = frame-replied f _ (loop-framed f w e) .taken
 
 -- ---- the laws
 

@@ -12,7 +12,7 @@ use Rattle.machine.proofs.Course.{first-not}
 use Rattle.machine.proofs.Turns.{from-turns, from-kept}
 use lib.Dec.{eqb}
 use Rattle.branches.proofs.Branches.{by-cond, and-left, and-right}
-use Rattle.frame.specs.Frame.{controlOf, dataOf, isEnd}
+use Rattle.frame.specs.Frame.{controlOf, dataOf, isData, isEnd}
 use Rattle.store.specs.declared.Ring.{Ring}
 use Rattle.store.specs.Ring.{Fit, held, putRing, putBytes, dropRing}
 use Rattle.store.proofs.Laws.{held-put, held-drop, held-empty, held-length}
@@ -28,7 +28,7 @@ use Rattle.mailbox.specs.BusSide.{busCommand}
 use Rattle.mailbox.specs.Calls.{reset, loopFrame, busByte, busFetch, busClear, busLines, Call, create, show, on, World, world, Did, outcome, tobusAfter, toloopAfter, notRefused, step}
 use Rattle.mailbox.specs.Calls as calls
 use Rattle.maillaws.specs.Mailboxes.{mailbox, ByteCall}
-use Rattle.maillaws.specs.Sights.{Direction, toBus, toLoop, storeOf, ringOf, newsOf, waits, counted, taken, loopListens, cellFor, asksClear, left, clearsBy, clears}
+use Rattle.maillaws.specs.Sights.{Direction, toBus, toLoop, storeOf, ringOf, newsOf, waits, counted, taken, loopListens, busListens, cellFor, asksClear, left, clearsBy, clears}
 use Rattle.maillaws.specs.WaysKept.{through, WayKept, WaySince}
 use Rattle.maillaws.specs.WaysCleared.{Emptied, ClearsWay, SameWay, OtherStays}
 use Rattle.maillaws.proofs.Refusal.{by-refusal}
@@ -69,7 +69,7 @@ keeps d w x r n s (isPut y F h) c b ys =
     sym (append-assoc (waits d w) (y ∷ []) ys) ∙ ap (λ (l : List ℕ). l ++ ys) (sym (waits-put (storeOf d w) (ringOf d w) y (b y refl) F h))
 keeps d w x r n s (isFetched F h) c b ys = ap (λ (l : List ℕ). l ++ ys) (waits-fetched (storeOf d w) (ringOf d w) F h)
 keeps d w x r n s (isEmptied cap) c b ys = absurd (true≢false c)
-keeps d w x r n s (isAsked b m e) c b ys = refl
+keeps d w x r n s (isAsked t m e) c b ys = refl
 keeps d w x r n s (isReturned m e) c b ys = refl
 
 -- a byte with its mark, and nothing besides
@@ -82,8 +82,8 @@ only false x y h e = cc
 
 left-counted : (d : Direction) (c : Call) (w : World) (a : Said) → ByteCall c → (y : ℕ) → left d c w a ≡ y ∷ [] → counted y ≡ y
 unfolding left
-left-counted toBus (on (loopFrame f)) w a h y e = only _ (cellFor (dataOf f) (isEnd f)) y (cell-counted (dataOf f) (isEnd f) (omega arith)) e
-left-counted toLoop (on (busByte b mark)) w a h y e = only _ (cellFor b mark) y (cell-counted b mark h) e
+left-counted toBus (on (loopFrame f)) w a h y e = only (taken a && (isData f && loopListens w)) (cellFor (dataOf f) (isEnd f)) y (cell-counted (dataOf f) (isEnd f) (omega arith)) e
+left-counted toLoop (on (busByte b mark)) w a h y e = only (taken a && busListens w) (cellFor b mark) y (cell-counted b mark h) e
 left-counted toBus (create m) w a h y e = cc
 left-counted toBus (show side) w a h y e = cc
 left-counted toBus (on reset) w a h y e = cc

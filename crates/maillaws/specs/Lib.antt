@@ -13,3 +13,4 @@ pub mod NotReady
 pub mod LoopRole
 pub mod BusRole
 pub mod Laws
+pub mod Obeyed

@@ -16,9 +16,9 @@ use Rattle.answers.specs.declared.Answer.the-variants.{Refused}
 use Rattle.answers.specs.Answers.{said, refused, part, isRefusal}
 use Rattle.state.specs.Sizes.{fits}
 use Rattle.state.proofs.Fits.{rx-fits, tx-fits}
-use Rattle.block.specs.Packed.{blockLen, packed}
+use Rattle.block.specs.Packed.{blockLen, layout, packed}
 use Rattle.block.specs.States.{isState, noState, meaning}
-use Rattle.block.proofs.Same.{state-length, means-none}
+use Rattle.codec.proofs.Same.{state-length, means-none}
 use Rattle.block.proofs.Laws.{no-state-misfits}
 use Rattle.bridge.specs.Calls.{OnState, create, show, on, World, Did, world, did, handed, checks, notRefused, refusedOr, step, shown, Promised, unmade}
 use Rattle.laws.specs.OneResult.{CreatedAnywhere}
@@ -46,9 +46,9 @@ module _ (c : OnState) (b rx tx rx′ tx′ : List ℕ) (s : State) (o : Outcome
   may-write h = pick (isState b) refl
     where
       pick : (t : Bool) → isState b ≡ t → length b ≡ blockLen
-      pick true q = state-length b q
+      pick true q = state-length layout b q
       pick false q =
-          let none : s ≡ noState = m ∙ sym (means-none b false (sym q) refl) in
+          let none : s ≡ noState = m ∙ sym (means-none layout noState b false (sym q) refl) in
           let misfits : fits s (length rx) (length tx) ≡ false =
           ap (λ (x : State). fits x (length rx) (length tx)) none ∙ no-state-misfits (length rx) (length tx) in
           let answerOf : said (o .answer) ≡ refused 2 = ap (λ (d : Did). d .said) (e ∙ misfit-step c (world s rx tx) misfits) in

@@ -10,10 +10,12 @@ use borrow.Author.Tests.{eqb-true}
 use Rattle.branches.proofs.Branches.{and-left, by-cond}
 use Rattle.answers.specs.Answers.{said, done, refused, isRefusal}
 use Rattle.state.specs.Sizes.{sizesObeyed}
-use Rattle.block.specs.Packed.{blockLen}
+use Rattle.codec.specs.Blocks as blocks
+use Rattle.codec.proofs.Laws.{packed-length}
+use Rattle.codec.proofs.Same.{state-length}
+use Rattle.block.specs.Packed.{blockLen, layout}
 use Rattle.block.specs.States.{isState, fittingBlock, Ranged}
-use Rattle.block.proofs.Laws.{packed-length, meaning-fits, obeyed-ranged}
-use Rattle.block.proofs.Same.{state-length}
+use Rattle.block.proofs.Laws.{meaning-fits, obeyed-ranged}
 use Rattle.bridge.specs.Calls.{Call, create, show, on, World, checks, notRefused, refusedOr, step}
 use Rattle.laws.specs.Fitting.{Fits, SameStores}
 use Rattle.laws.proofs.Fitting.{keeps-fit, create-fits-so, stores-stay}
@@ -31,8 +33,8 @@ to-world : (l : Lent) → FitsStores l → Fits (opened l)
 to-world l e = meaning-fits (l .block) (length (l .rx)) (length (l .tx)) ∙ e
 
 fitting-length : (l : Lent) → FitsStores l → length (l .block) ≡ blockLen
-unfolding fittingBlock
-fitting-length l e = state-length (l .block) (and-left (isState (l .block)) _ e)
+unfolding blocks.fittingBlock
+fitting-length l e = state-length layout (l .block) (and-left (isState (l .block)) _ e)
 
 pub block-keeps-fit : BlockKeepsFit
 block-keeps-fit c l h e =
@@ -77,7 +79,7 @@ same-lengths : (l : Lent) → SameLengths l l
 same-lengths l = record { block = refl; rx = refl; tx = refl }
 
 other-misfits : (l : Lent) → eqb (length (l .block)) blockLen ≡ false → fittingBlock (l .block) (length (l .rx)) (length (l .tx)) ≡ false
-unfolding fittingBlock isState
+unfolding blocks.fittingBlock blocks.isState
 other-misfits l e = rw e
 
 pub lengths-stay : LengthsStay
@@ -92,7 +94,7 @@ lengths-stay c l = each c
           block =
               by-cond (λ (b : List ℕ). length b ≡ length (l .block)) (isRefusal (step c (opened l) .said)) _ _
               (λ t. refl)
-              (λ t. packed-length (step c (opened l) .world .state) ∙ sym e);
+              (λ t. packed-length layout (step c (opened l) .world .state) ∙ sym e);
           rx = s .rx;
           tx = s .tx;
         })

@@ -9,9 +9,10 @@ use lib.Dec.{eqb}
 use borrow.Author.Tests.{eqb-false, eqb-true}
 use Rattle.branches.proofs.Branches.{by-cond, cond-false}
 use Rattle.state.specs.Sizes.{fits}
-use Rattle.block.specs.Packed.{blockLen, packed}
-use Rattle.block.specs.States.{Ranged}
-use Rattle.block.proofs.Laws.{packed-length, packed-means, meaning-fits}
+use Rattle.codec.proofs.Laws.{packed-length, packed-means}
+use Rattle.block.specs.Packed.{blockLen, layout, packed}
+use Rattle.block.specs.States.{noState, Ranged}
+use Rattle.block.proofs.Laws.{meaning-fits}
 use Rattle.bridge.specs.Calls.{Call, create, show, on, World, Did, checks, notRefused, refusedOr, step, shown}
 use Rattle.answers.specs.Answers.{Said, done, none, byte, frame, refused, part, cell, lines, isRefusal}
 use Rattle.laws.proofs.Answers.{refusal-leaves}
@@ -123,7 +124,7 @@ misfit-shows-nothing side l e =
 -- ---- the C functions are the same calls
 
 opened-packed : (w : World) → Ranged (w .state) → opened (packedWorld w) ≡ w
-opened-packed w h = λ i. record { state = packed-means (w .state) h i; rx = w .rx; tx = w .tx }
+opened-packed w h = λ i. record { state = packed-means layout noState (w .state) h i; rx = w .rx; tx = w .tx }
 
 closed-packed : (w : World) (d : Did) → (isRefusal (d .said) ≡ true → d .world ≡ w) →
     closed (packedWorld w) d ≡ record { word = word (d .said); lent = packedWorld (d .world) }
@@ -144,6 +145,6 @@ same-call c w h = each c
     met c = ap (λ (x : World). closed (packedWorld w) (step c x)) (opened-packed w h) ∙ closed-packed w (step c w) (refusal-keeps c w)
 
     each : (c : Call) → cStep c (packedWorld w) ≡ record { word = answerWord c w; lent = packedWorld (step c w .world) }
-    each (create m) = rw (packed-length (w .state)) (met (create m))
+    each (create m) = rw (packed-length layout (w .state)) (met (create m))
     each (show side) = ap (λ (x : World). record { word = shownWord side x; lent = packedWorld w }) (opened-packed w h)
     each (on c) = met (on c)

@@ -6,7 +6,7 @@ use lib.ListN.{length}
 use lib.Dec.{eqb}
 use borrow.Author.Tests.{eqb-true}
 use Rattle.block.specs.Packed.{blockLen}
-use Rattle.block.specs.States.{isState, fittingBlock}
+use Rattle.codec.specs.Blocks as blocks
 use Rattle.answers.specs.Answers.{part, isRefusal}
 use Rattle.bridge.specs.Calls.{Call, create, show, on, checks, notRefused, refusedOr, step}
 use Rattle.answers.specs.Word.{word}
@@ -43,7 +43,7 @@ answers-told (on c) l h = telling l h (on c) refl (told-or (on c) (opened l) (on
 
 -- with a block of another length every call leaves the buffers as they were
 other-length : (c : Call) (l : Lent) → eqb (length (l .block)) blockLen ≡ false → cStep c l .lent ≡ l
-unfolding cStep fittingBlock isState
+unfolding cStep blocks.fittingBlock blocks.isState
 other-length (create m) l e = ap (λ (r : CDid). r .lent) (wrong-block-refused m l e)
 other-length (show side) l e = refl
 other-length (on c) l e = ap (λ (r : CDid). r .lent) (misfit-refused c l (rw e))

@@ -8,11 +8,11 @@ use lib.ListN.{length}
 use lib.Dec.{eqb}
 use borrow.Author.Tests.{eq-eqb}
 use Rattle.branches.proofs.Branches.{by-cond, cond-true}
-use Rattle.block.specs.Packed.{blockLen, packed}
-use Rattle.block.specs.States.{isState, meaning, Ranged}
+use Rattle.codec.proofs.Laws as blocks
+use Rattle.block.specs.Packed.{blockLen, layout, packed}
+use Rattle.block.specs.States.{noState, meaning, Ranged}
 use Rattle.store.specs.Bytes.{Bytes}
-use Rattle.block.proofs.Laws.{packed-length, packed-bytes, packed-means, unpacked-ranged, start-ranged}
-use Rattle.block.proofs.Same.{means, means-none}
+use Rattle.block.proofs.Laws.{start-ranged}
 use Rattle.bridge.specs.Calls.{Call, create, show, on, World, world, Did, checks, notRefused, refusedOr, step}
 use Rattle.answers.specs.Answers.{isRefusal}
 use Rattle.machine.specs.Machine.{finally}
@@ -26,11 +26,7 @@ use Rattle.raftershim.proofs.Laws.{refusal-keeps}
 
 -- what a block of bytes means is ranged, also where it is no state
 meaning-ranged : (b : List ℕ) → Bytes b → Ranged (meaning b)
-meaning-ranged b h = pick (isState b) refl
-  where
-    pick : (t : Bool) → isState b ≡ t → Ranged (meaning b)
-    pick true e = subst Ranged (means b true (sym e) refl) (unpacked-ranged b h)
-    pick false e = subst Ranged (means-none b false (sym e) refl) (start-ranged 0 0 0 (omega arith) (omega arith) (omega arith))
+meaning-ranged b h = blocks.meaning-ranged layout noState (start-ranged 0 0 0 (omega arith) (omega arith) (omega arith)) b h
 
 pub opened-typed : (l : Lent) → OfBytes l → Typed (opened l)
 opened-typed l h = record { state = meaning-ranged (l .block) (h .block); rx = h .rx }
@@ -51,14 +47,14 @@ module _ (l : Lent) (d : Did) (k : isRefusal (d .said) ≡ true → d .world ≡
       pick : (t : Bool) → isRefusal (d .said) ≡ t →
           world (meaning (cond (isRefusal (d .said)) (l .block) (packed (d .world .state)))) (d .world .rx) (d .world .tx) ≡ d .world
       pick true e = rw (e, k e)
-      pick false e = rw (e, packed-means (d .world .state) r)
+      pick false e = rw (e, blocks.packed-means layout noState (d .world .state) r)
 
   pub closed-block : length (l .block) ≡ blockLen → Bytes (l .block) → (length (closed l d .lent .block) ≡ blockLen) × Bytes (closed l d .lent .block)
   unfolding closed
   closed-block e h =
       by-cond (λ (b : List ℕ). (length b ≡ blockLen) × Bytes b) (isRefusal (d .said)) _ _
       (λ q. (e, h))
-      (λ q. (packed-length (d .world .state), packed-bytes (d .world .state) r))
+      (λ q. (blocks.packed-length layout (d .world .state), blocks.packed-bytes layout (d .world .state) r))
 
 module _ (l : Lent) (h : Whole l) where
   typed : Typed (opened l)

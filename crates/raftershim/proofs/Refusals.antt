@@ -11,7 +11,8 @@ use Rattle.answers.specs.Refusals.{check, firstRefusal}
 use Rattle.answers.specs.Answers.{Said, refused, isRefusal}
 use Rattle.state.specs.Sizes.{sizesObeyed, fits}
 use Rattle.block.specs.Packed.{blockLen}
-use Rattle.block.specs.States.{isState, fittingBlock}
+use Rattle.codec.specs.Blocks as blocks
+use Rattle.block.specs.States.{fittingBlock}
 use Rattle.block.proofs.Laws.{meaning-fits}
 use Rattle.bridge.specs.Calls.{OnState, Call, create, show, on, World, checks, step}
 use Rattle.answers.specs.Refusing.{Refuses}
@@ -65,7 +66,7 @@ refuses a k n l z e h =
 
 module _ (l : Lent) (e : eqb (length (l .block)) blockLen ≡ false) where
   misfits : fittingBlock (l .block) (length (l .rx)) (length (l .tx)) ≡ false
-  unfolding fittingBlock isState
+  unfolding blocks.fittingBlock blocks.isState
   misfits = rw e
 
   abbrev Right : Call → Type 0

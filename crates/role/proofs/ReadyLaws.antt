@@ -1,12 +1,12 @@
 -- What is known of the byte and the role where a ready frame asks something, and what ready frames keep.
 -- Assumes nothing.
-use Prim.Native.Nat.{ℕ, _+_, _≤_}
+use Prim.Native.Nat.{ℕ, _+_, _-_, _%_, _≤_}
 use native.Mathlib.Omega.{arith}
 use mathlib.Core.Path.{_≡_}
 use mathlib.Core.Bool.{true, false, _&&_, and-eq-true-iff}
-use lib.Dec.{eqb, leb}
-use borrow.Author.Tests.{eqb-true, eq-eqb, le-leb, leb-true}
-use Rattle.branches.proofs.Branches.{by-cond}
+use lib.Dec.{eqb, leb, ltb}
+use borrow.Author.Tests.{eqb-true, eq-eqb, le-leb, leb-true, ltb-true, lt-ltb}
+use Rattle.branches.proofs.Branches.{by-cond, and-left, and-right, same-test}
 use Rattle.role.specs.declared.Role.{Role}
 use Rattle.role.specs.declared.Ready.{Ready}
 use Rattle.role.specs.declared.Ready.the-variants.{Pass, Address, Data, Status, Finish}
@@ -42,7 +42,7 @@ asked r d b t s e =
     let k = and-eq-true-iff (eqb d b) (eqb (r .phase) t) .0 e in
     record { byte = eqb-true d b (k .0); phase = eqb-true (r .phase) t (k .1); rest = s }
 
-given : (r : Role) (d : ℕ) → givesAddress r d ≡ true → Given r d
+pub given : (r : Role) (d : ℕ) → givesAddress r d ≡ true → Given r d
 unfolding afterReady
 given r d e =
     let b = and-eq-true-iff (eqb (baseOf d) 128 && leb (numberOf d) 30) (eqb (r .address) 31) .0 e in
@@ -53,6 +53,22 @@ given r d e =
       free = eqb-true (r .address) 31 (b .1);
       taken = rw e;
     }
+
+-- the address that is given, by the numbers
+pub address-numbers : (r : Role) (d : ℕ) → ((leb 128 d && ltb d 159) && eqb (r .address) 31) ≡ givesAddress r d
+address-numbers r d = λ i. numbers i && eqb (r .address) 31
+  where
+    numbers : (leb 128 d && ltb d 159) ≡ (eqb (d - d % 32) 128 && leb (d % 32) 30)
+    numbers =
+        same-test (leb 128 d && ltb d 159) (eqb (d - d % 32) 128 && leb (d % 32) 30)
+        (λ h.
+        let a = leb-true 128 d (and-left (leb 128 d) (ltb d 159) h) in
+        let b = ltb-true d 159 (and-right (leb 128 d) (ltb d 159) h) in
+        λ i. eq-eqb (d - d % 32) 128 (omega arith) i && le-leb (d % 32) 30 (omega arith) i)
+        (λ h.
+        let a = eqb-true (d - d % 32) 128 (and-left (eqb (d - d % 32) 128) (leb (d % 32) 30) h) in
+        let b = leb-true (d % 32) 30 (and-right (eqb (d - d % 32) 128) (leb (d % 32) 30) h) in
+        λ i. le-leb 128 d (omega arith) i && lt-ltb d 159 (omega arith) i)
 
 passed : (r : Role) (d : ℕ) → givesAddress r d ≡ false → afterReady r d ≡ r
 unfolding afterReady

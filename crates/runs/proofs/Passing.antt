@@ -3,15 +3,15 @@ use Prim.Native.Nat.{ℕ, _+_, _-_, _%_}
 use native.Mathlib.Omega.{arith}
 use mathlib.Core.Path.{_≡_, refl, sym, _∙_}
 use mathlib.Core.Bool.{true, false, _&&_, _||_, not, or-true, true≢false, false≢true}
-use lib.Dec.{eqb, leb, ltb}
-use borrow.Author.Tests.{eqb-true, eq-eqb, leb-true, le-leb, ltb-true, lt-ltb, le-ltb}
-use Rattle.branches.proofs.Branches.{and-left, and-right, same-test}
+use lib.Dec.{eqb}
+use borrow.Author.Tests.{eqb-true, eq-eqb, ltb-true, le-ltb}
+use Rattle.branches.proofs.Branches.{and-left}
 use Rattle.answers.specs.Refusals.{firstRefusal}
 use Rattle.machine.specs.Machine.{Obeys, seen}
 use Rattle.frame.specs.Frame.{controlOf, dataOf, made}
-use Rattle.role.specs.declared.Role.{Role}
 use Rattle.role.specs.Role.{isActive}
 use Rattle.role.specs.ReadyFrames.{givesAddress}
+use Rattle.role.proofs.ReadyLaws.{address-numbers}
 use Rattle.state.specs.declared.Outcome.{Outcome}
 use Rattle.answers.specs.Answers.{Said, said, frame}
 use Rattle.state.specs.Conditions.{serviced}
@@ -19,28 +19,11 @@ use Rattle.state.specs.Conditions as state-status
 use Rattle.bridge.specs.Calls.{loopFrame, on, World, Did, checks, outcome, notRefused, step}
 use Rattle.loopside.specs.Frames.{frameTaken}
 use Rattle.laws.specs.Observers.{taken, passesOn, isAsked}
-use Rattle.laws.specs.Roles.{assigns}
 use Rattle.laws.specs.Passing.{asFrame, PassedOn, FramesPass}
 use Rattle.runs.proofs.Refusals.{if-taken}
 use Rattle.laws.proofs.Ways.{Way, Returning, Arriving, Commanding, Readying, Identifying, isNext, isBack, isLast, isDamaged, isStored}
 use Rattle.laws.proofs.Ways.{isPassed, isCleared, isObeyed, isAssigned, isSendAsked, isTold, isFinishing, isReady, isIdentified, way}
 use Rattle.runs.proofs.Steps.{answer, ours, at-call}
-
--- the address that is given, by the numbers
-pub assigns-same : (r : Role) (d : ℕ) → assigns r d ≡ givesAddress r d
-assigns-same r d = λ i. numbers i && eqb (r .address) 31
-  where
-    numbers : (leb 128 d && ltb d 159) ≡ (eqb (d - d % 32) 128 && leb (d % 32) 30)
-    numbers =
-        same-test (leb 128 d && ltb d 159) (eqb (d - d % 32) 128 && leb (d % 32) 30)
-        (λ h.
-        let a = leb-true 128 d (and-left (leb 128 d) (ltb d 159) h) in
-        let b = ltb-true d 159 (and-right (leb 128 d) (ltb d 159) h) in
-        λ i. eq-eqb (d - d % 32) 128 (omega arith) i && le-leb (d % 32) 30 (omega arith) i)
-        (λ h.
-        let a = eqb-true (d - d % 32) 128 (and-left (eqb (d - d % 32) 128) (leb (d % 32) 30) h) in
-        let b = leb-true (d % 32) 30 (and-right (eqb (d - d % 32) 128) (leb (d % 32) 30) h) in
-        λ i. le-leb 128 d (omega arith) i && lt-ltb d 159 (omega arith) i)
 
 module _ (w : World) (f : ℕ) where
   -- what is answered, by the outcome
@@ -106,8 +89,8 @@ module _ (w : World) (f : ℕ) where
               absurd (false≢true
               (sym (λ i. (r .isdata i && not (isActive (w .state .talker .role))) ||
               le-ltb 5 (controlOf f) (omega (arith, eqb-true (controlOf f) 5 (r .five))) i) ∙ h));
-          address = λ _ h. x (sym (assigns-same (w .state .talker .role) (dataOf f)) ∙ h);
-          ready = λ _ h. y (sym (assigns-same (w .state .talker .role) (dataOf f)) ∙ h);
+          address = λ _ h. x (sym (address-numbers (w .state .talker .role) (dataOf f)) ∙ h);
+          ready = λ _ h. y (sym (address-numbers (w .state .talker .role) (dataOf f)) ∙ h);
         }
 
   five-next : givesAddress (w .state .talker .role) (dataOf f) ≡ true → asFrame (made 5 (dataOf f + 1)) ≡ frame 5 (dataOf f + 1)

@@ -13,6 +13,7 @@ use Rattle.frame.specs.Frame.{controlOf, dataOf, isData}
 use Rattle.role.specs.declared.Role.{Role}
 use Rattle.role.specs.Role.{withAddress, withPhase}
 use Rattle.role.specs.ReadyFrames.{givesAddress}
+use Rattle.role.proofs.ReadyLaws.{address-numbers}
 use Rattle.store.specs.Bytes.{Bytes}
 use Rattle.reading.specs.Reading.{Sent, none, one}
 use Rattle.sending.specs.Sending.{givenOf, sendHeld}
@@ -41,7 +42,6 @@ use Rattle.runs.proofs.Sends.{seen-plain}
 use Rattle.runs.proofs.FrameKinds.{address-high, role-fits}
 use Rattle.laws.proofs.Ways.{Way, Returning, Arriving, Commanding, Readying, Identifying, isNext, isBack, isLast, isDamaged, isStored}
 use Rattle.laws.proofs.Ways.{isPassed, isCleared, isObeyed, isAssigned, isSendAsked, isTold, isFinishing, isReady, isIdentified, way}
-use Rattle.runs.proofs.Passing.{assigns-same}
 use Rattle.runs.proofs.Obeying.{obeyed-right}
 use Rattle.runs.proofs.Remote.{remote-way}
 use Rattle.runs.proofs.Untouched.{Untouched, settled-untouched, break-untouched, key-untouched, line-untouched, given-untouched, write-untouched}
@@ -125,7 +125,7 @@ module _ (w : World) (B : Bytes (heldToSend w)) (F : Fits w) (f : ℕ) where
   ready-by x y z n p q s =
       λ i.
       record {
-        address = cond (sym (assigns-same (w .state .talker .role) (dataOf f) ∙ p) i) (dataOf f - 128) (w .state .talker .role .address);
+        address = cond (sym (address-numbers (w .state .talker .role) (dataOf f) ∙ p) i) (dataOf f - 128) (w .state .talker .role .address);
         phase = cond (sym q i) (cond n 2 1) (cond (sym s i) 3 (w .state .talker .role .phase));
         listener = w .state .talker .role .listener;
       }

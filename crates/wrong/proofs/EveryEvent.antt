@@ -17,9 +17,10 @@ use Rattle.laws.specs.Events.{Event, broken, overrun, pressed, happens, bitOf, 
 use Rattle.laws.specs.StatusWay.{sentAndBack, statusBack}
 use Rattle.laws.specs.StatusTold.{place, Shows, TellsUntilBack}
 use Rattle.laws.specs.Cleared.{Clears}
+use Rattle.refuting.proofs.Apart.{alike, alike-same}
 use Rattle.wrong.specs.Trials.{sendStatus, fullNoting}
 use Rattle.wrong.specs.Broken.{Breaks}
-use Rattle.wrong.proofs.Small.{allBelow, bytes, full-bytes, byteCalls, fair-calls, alike, alike-same}
+use Rattle.wrong.proofs.Small.{allBelow, bytes, full-bytes, byteCalls, fair-calls}
 
 -- a test that holds of every event
 unfoldable pub ofEvery : (Event → Bool) → Bool

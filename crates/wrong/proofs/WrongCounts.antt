@@ -5,13 +5,14 @@ use mathlib.Core.Bool.{false}
 use mathlib.Core.List.{[], _∷_}
 use Rattle.bridge.specs.Calls.{World, on, reset, lineByte, lineBreak, loopFrame}
 use Rattle.laws.specs.Counting.{CountsGo, CountsSince, Small}
+use Rattle.refuting.proofs.Apart.{numbers-differ}
 use Rattle.wrong.specs.Trials.{full, cameIn, sendStatus, clearAll}
 use Rattle.wrong.specs.WrongSends.{swallowsThePoint}
 use Rattle.wrong.specs.WrongTelling.{losesUnnoted}
 use Rattle.wrong.specs.WrongCounts.{countsEveryCall, countsStatus, restartKeepsCounts, clearRestartsCounts}
 use Rattle.wrong.specs.Broken.{Breaks}
 use Rattle.wrong.proofs.Computing.{computes}
-use Rattle.wrong.proofs.Small.{full-bytes, are-bytes, numbers-differ}
+use Rattle.wrong.proofs.Small.{full-bytes, are-bytes}
 
 -- one byte came in
 abbrev came : World

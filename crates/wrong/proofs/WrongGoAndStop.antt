@@ -5,11 +5,13 @@ use mathlib.Core.List.{List, [], _∷_}
 use Rattle.answers.specs.Answers.{done, byte}
 use Rattle.bridge.specs.Calls.{on, reset, write, nextLineByte, World}
 use Rattle.laws.specs.LastSent.{LastKept, LastSince, OwnGiven}
+use Rattle.refuting.proofs.Apart.{answers-differ}
+use Rattle.refuting.proofs.StandsIn.{holds, no-round}
 use Rattle.wrong.specs.Trials.{cameIn, switchedOff, begunWith, oneForTheLine}
 use Rattle.wrong.specs.WrongLine.{takesDataForStop, neverRecordsSent, switchOffDropsGo, withholdsGoWhenOff}
 use Rattle.wrong.specs.Broken.{Breaks}
 use Rattle.wrong.proofs.Computing.{computes}
-use Rattle.wrong.proofs.Small.{are-bytes, holds, no-round, answers-differ}
+use Rattle.wrong.proofs.Small.{are-bytes}
 use Rattle.wrong.proofs.Written.{Turn, turn, takes, Does}
 use Rattle.wrong.proofs.Trying.{in-since, in-between}
 

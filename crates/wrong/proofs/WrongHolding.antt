@@ -9,12 +9,14 @@ use Rattle.line.specs.HoldingOff.{withHolding}
 use Rattle.bridge.specs.Calls.{on, lineByte, loopFrame}
 use Rattle.laws.specs.Demands.{NoneLost}
 use Rattle.laws.specs.Holding.{HoldingGoes}
+use Rattle.refuting.proofs.Apart.{lists-differ}
+use Rattle.refuting.proofs.StandsIn.{holds, no-round}
 use Rattle.wrong.specs.Seeing.{having}
 use Rattle.wrong.specs.Trials.{fullOf, oneToFour, cameIn, talkerCameIn, oneGone, sendData}
 use Rattle.wrong.specs.WrongHolding.{beginsLate, endsAtMargin}
 use Rattle.wrong.specs.Broken.{Breaks}
 use Rattle.wrong.proofs.Computing.{computes}
-use Rattle.wrong.proofs.Small.{are-bytes, holds, no-round, lists-differ}
+use Rattle.wrong.proofs.Small.{are-bytes}
 use Rattle.wrong.proofs.Written.{Turn, turn, takes, does, Does}
 use Rattle.wrong.proofs.Trying.{in-run}
 

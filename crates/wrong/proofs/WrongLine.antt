@@ -7,13 +7,15 @@ use Rattle.bridge.specs.Calls.{on, write, nextLineByte, loopFrame}
 use Rattle.line.specs.HoldingOff.{withHolding}
 use Rattle.laws.specs.LineBytes.{LineKept, LineSince}
 use Rattle.laws.specs.NextByte.{NextGiven, ForbiddenGoes}
+use Rattle.refuting.proofs.Apart.{lists-differ, answers-differ}
+use Rattle.refuting.proofs.StandsIn.{holds, no-round}
 use Rattle.wrong.specs.Seeing.{having}
 use Rattle.wrong.specs.Trials.{cameIn, switchedOff, forbidding, begunWith, oneForTheLine, listenerAddingEnds, clearAll}
 use Rattle.wrong.specs.WrongLine.{stuttering, leavesOutC03, withholdsGoWhenOff, dataBeforeOwn, givesWhileForbidden}
 use Rattle.wrong.specs.WrongLine.{clearKeepsForbidden, writeKeepsForbidden}
 use Rattle.wrong.specs.Broken.{Breaks}
 use Rattle.wrong.proofs.Computing.{computes}
-use Rattle.wrong.proofs.Small.{are-bytes, holds, no-round, lists-differ, answers-differ}
+use Rattle.wrong.proofs.Small.{are-bytes}
 
 -- ---- the line bytes handed out, and those held
 

@@ -6,11 +6,13 @@ use mathlib.Core.List.{[], _∷_}
 use Rattle.bridge.specs.Calls.{on, reset, lineByte, loopFrame}
 use Rattle.laws.specs.Demands.{FramesRead}
 use Rattle.laws.specs.SendRule.{FramesSince}
+use Rattle.refuting.proofs.Apart.{lists-differ}
+use Rattle.refuting.proofs.StandsIn.{holds}
 use Rattle.wrong.specs.Trials.{full, twoLines, cameIn, oneToFour, sendData, clearAll}
 use Rattle.wrong.specs.WrongSends.{impatient, repeats, swallowsThePoint, clearKeepsStore, restartKeepsStore}
 use Rattle.wrong.specs.Broken.{Breaks}
 use Rattle.wrong.proofs.Computing.{computes}
-use Rattle.wrong.proofs.Small.{full-bytes, full-holds, are-bytes, holds, lists-differ}
+use Rattle.wrong.proofs.Small.{full-bytes, full-holds, are-bytes}
 
 -- ---- the frames that are read
 

@@ -14,11 +14,14 @@ use Rattle.laws.specs.Bridges.{bridge}
 use Rattle.laws.specs.Observers.{taken}
 use Rattle.laws.specs.StatusWay.{endsWay}
 use Rattle.laws.specs.Returns.{Judged, finishes, ReturnsJudged}
-use Rattle.wrong.specs.Trials.{ring, full, oneSent, twoLines, sendData, finish, firstFrame, firstRequested}
+use Rattle.refuting.specs.SmallRings.{ring}
+use Rattle.refuting.proofs.Apart.{lists-differ, answers-differ}
+use Rattle.refuting.proofs.StandsIn.{holds, no-round}
+use Rattle.wrong.specs.Trials.{full, oneSent, twoLines, sendData, finish, firstFrame, firstRequested}
 use Rattle.wrong.specs.WrongReturns.{comparesService, recordsFrame0, damageGives64, finishesAtOnce, neverFinishes}
 use Rattle.wrong.specs.Broken.{Breaks}
 use Rattle.wrong.proofs.Computing.{computes}
-use Rattle.wrong.proofs.Small.{byteCalls, full-holds, holds, no-round, lists-differ, answers-differ}
+use Rattle.wrong.proofs.Small.{byteCalls, full-holds}
 use Rattle.wrong.proofs.Written.{Turn, turn, called, Does, saw, seenSo, leftSo}
 use Rattle.wrong.proofs.Trying.{in-between}
 

@@ -11,12 +11,15 @@ use Rattle.store.proofs.Laws.{held-at, wrap-high}
 use Rattle.bridge.specs.Calls.{on, lineByte, lineBreak, loopFrame}
 use Rattle.laws.specs.SendRule.{SendRule, NoneRemoved}
 use Rattle.laws.specs.Resuming.{EmptySendResumes}
-use Rattle.wrong.specs.Trials.{ring, full, fullOf, twoLines, pairAfterLine, pairFirst, undecided, sendData}
+use Rattle.refuting.specs.SmallRings.{ring}
+use Rattle.refuting.proofs.Apart.{lists-differ, numbers-differ}
+use Rattle.refuting.proofs.StandsIn.{holds, no-round}
+use Rattle.wrong.specs.Trials.{full, fullOf, twoLines, pairAfterLine, pairFirst, undecided, sendData}
 use Rattle.wrong.specs.WrongSends.{silent, passesAll, tired, endsNothing, removesPairsBehind, removesPairsAlways, keepsPairsAtNone, holdsOnAtNone}
 use Rattle.wrong.specs.WrongSends.{dropsOldestWhenFull, commandEmpties}
 use Rattle.wrong.specs.Broken.{Breaks, BreaksAs}
 use Rattle.wrong.proofs.Computing.{computes}
-use Rattle.wrong.proofs.Small.{bytes, full-bytes, full-holds, undecided-bytes, undecided-holds, holds, no-round, lists-differ, numbers-differ}
+use Rattle.wrong.proofs.Small.{bytes, full-bytes, full-holds, undecided-bytes, undecided-holds}
 
 -- ---- a send
 

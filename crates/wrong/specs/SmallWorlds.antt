@@ -13,9 +13,10 @@ use Rattle.state.specs.State.{withRegisters, withRemote, withRx, withTx, withCo
 use Rattle.state.specs.Conditions.{withRequest}
 use Rattle.bridge.specs.Calls.{Call, on, loopFrame, World, world}
 use Rattle.laws.specs.Events.{Event}
+use Rattle.refuting.specs.SmallRings.{ring}
 use Rattle.wrong.specs.Changing.{withRole, withUnder}
 use Rattle.wrong.specs.Seeing.{withNoted}
-use Rattle.wrong.specs.Trials.{ring, oneToFour}
+use Rattle.wrong.specs.Trials.{oneToFour}
 
 -- the bytes of a transmit store of three places
 abbrev pub transmitBytes : List ℕ

@@ -6,18 +6,14 @@ use lib.ListN.{length}
 use Rattle.frame.specs.Frame.{made}
 use Rattle.registers.specs.Table.{startRegisters}
 use Rattle.registers.specs.Writing.{written}
-use Rattle.store.specs.declared.Ring.{Ring}
 use Rattle.role.specs.Role.{startRole, addressed, activeData, activeStatus, withPhase, withListener}
 use Rattle.state.specs.Sizes.{startState}
 use Rattle.state.specs.State.{withRegisters, withRx, withTx, withLine, withCounts}
 use Rattle.bridge.specs.Calls.{World, world}
 use Rattle.laws.specs.Events.{Event}
+use Rattle.refuting.specs.SmallRings.{ring}
 use Rattle.wrong.specs.Changing.{withRole, withUnder}
 use Rattle.wrong.specs.Seeing.{having, withNoted, withForbidden}
-
--- a store of so many places that holds n bytes, the oldest at place p
-abbrev pub ring : ℕ → ℕ → ℕ → Ring
-ring cap p n = record { cap = cap; oldest = p; len = n }
 
 -- ---- on the loop: addressed talkers with the margin 1 and R10 bit 3 on, so that C00, C01 behind a byte make it an end byte
 

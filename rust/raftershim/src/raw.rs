@@ -1,4 +1,5 @@
-//! The C functions of the archive, as its header `raftershim.h` declares them.
+//! The C functions of the archive, as its headers declare them: `raftershim.h` those of the bridge,
+//! `raftershim_mailbox.h` those of the mailbox.
 //!
 //! [`Bridge`](crate::Bridge) and [`Mailbox`](crate::Mailbox) call them safely; this module is for a
 //! caller that lends buffers of its own. Every function answers a word, which

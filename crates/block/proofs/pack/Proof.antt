@@ -1,4 +1,5 @@
-use Rattle.block.proofs.Copied.{packed-copied}
+use Rattle.codec.proofs.Copied.{packed-both}
+use Rattle.block.specs.Packed.{layout}
 use borrow.Author.Needs.{needs}
 use Rattle.block.proofs.pack.Statement.{statement}
 use Rattle.block.proofs.pack.Tie as tie
@@ -10,14 +11,7 @@ pack-spec =
     (λ c κs. search needs)
     (λ c κs. search needs)
     (λ c. search needs)
-    (λ c κs. search needs)
-    (λ c. search needs)
-    (λ c. search needs)
-    (λ c. search needs)
     (λ c. search needs)
     (λ c κs. search needs)
     (λ c. search needs)
-    (λ c.
-    let p = c .before .before .before .before .before .before .before in
-    packed-copied _ _ _ _ _ _ (p .before .before .before .before .packed-head .ensures) (p .before .before .before .packed-tail .ensures) (p .before .before .before .before .before .before .pre)
-    (p .copy .ensures .1) (c .before .before .copy2 .ensures .1)))
+    (λ c. packed-both layout 27 _ _ _ _ (c .before .before .before .before .before .before .before .packed-head .ensures) (c .before .before .before .before .before .before .packed-tail .ensures) (c .before .before .write-both .ensures)))

@@ -1,4 +1,4 @@
-//! The C functions of the mailbox.
+//! The C functions of the mailbox. The page of the module above says what is asked of the buffers.
 
 extern "C" {
     /// The length in bytes that every block of a mailbox has. It is never refused.

@@ -1,4 +1,4 @@
-use Rattle.block.specs.Packed.{unpacked}
+use Rattle.codec.specs.Blocks.{unpacked}
 use borrow.Author.Needs.{needs}
 use Rattle.block.proofs.reading.unpack.Statement.{statement}
 use Rattle.block.proofs.reading.unpack.Tie as tie

@@ -1,5 +1,5 @@
 use denote.Ref.{now}
-use Rattle.block.proofs.Same.{right-met}
+use Rattle.block.proofs.Tested.{right-met}
 use borrow.Author.Needs.{needs}
 use Rattle.block.proofs.testing.right.Statement.{statement}
 use Rattle.block.proofs.testing.right.Tie as tie

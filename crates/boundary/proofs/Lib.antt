@@ -1,0 +1,2 @@
+-- `Closing` serves the proofs of the C functions.
+pub mod Closing

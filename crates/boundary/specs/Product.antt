@@ -1,0 +1,91 @@
+-- A product whose caller keeps its state in a block of bytes and lends it two stores at every call: what its C functions are made of.
+use Prim.Native.Nat.{ℕ}
+use mathlib.Core.Bool.{Bool, cond, not}
+use mathlib.Core.List.{List, [], _∷_}
+use lib.ListN.{length}
+use lib.Dec.{eqb}
+use Rattle.machine.specs.Machine.{Machine}
+use Rattle.answers.specs.Answers.{Said}
+use Rattle.answers.specs.Refusals.{Check, check}
+use Rattle.store.specs.declared.Ring.{Ring}
+use Rattle.store.specs.Ring.{run}
+use Rattle.codec.specs.Codec.{Codec}
+
+-- a state, and the two stores that are lent with it
+pub record Held (State : Type 0) : Type 0 where
+  pub state : State
+  pub first : List ℕ
+  pub second : List ℕ
+
+abbrev pub held : {State : Type 0} → State → List ℕ → List ℕ → Held State
+held s first second = record { state = s; first = first; second = second }
+
+-- a call by its kind: create is given a number and no state, show looks at a side, and every other is made on a state
+pub data Kind (OnState : Type 0) : Type 0 where
+  creating : ℕ → Kind OnState
+  showing : ℕ → Kind OnState
+  calling : OnState → Kind OnState
+
+pub record Product : Type 1 where
+  -- a state, how it stands in a block, and what stands for the state of a block that is none
+  pub State : Type 0
+  pub layout : Codec State
+  pub noState : State
+  -- the ring of each store, and whether a state fits two stores of these lengths
+  pub firstRing : State → Ring
+  pub secondRing : State → Ring
+  pub fits : State → ℕ → ℕ → Bool
+  -- a world is a state and its two stores; what the types of the code give of the numbers in a store
+  pub World : Type 0
+  pub world : Held State → World
+  pub apart : World → Held State
+  pub Stored : List ℕ → Type 0
+  -- the calls, and of what kind each is
+  pub OnState : Type 0
+  pub Call : Type 0
+  pub create : ℕ → Call
+  pub show : ℕ → Call
+  pub on : OnState → Call
+  pub kind : Call → Kind OnState
+  -- what a call answers and what it leaves
+  pub said : Call → World → Said
+  pub after : Call → World → World
+  -- what create tests of its number and the lengths of two stores, and the tests of a call on a state that fits
+  pub obeyed : ℕ → ℕ → ℕ → Bool
+  pub checksOn : OnState → State → List Check
+  -- what the types of the code give of a world and of a call
+  pub Fine : World → Type 0
+  pub Fair : Call → Type 0
+  -- what a number of kind 2 tells: a byte of the line, or one of the bus
+  pub given : ℕ → Said
+
+module _ (P : Product) where
+  -- the product as a machine
+  abbrev pub machineOf : Machine (P .World) (P .Call) Said
+  machineOf = record { Own = P .World; stands = λ w. w; answer = P .said; after = P .after; Fine = P .Fine; Fair = P .Fair }
+
+  -- the call of this kind
+  abbrev pub callOf : Kind (P .OnState) → P .Call
+  callOf (creating m) = P .create m
+  callOf (showing side) = P .show side
+  callOf (calling c) = P .on c
+
+  -- the state fits the stores that are lent with it
+  abbrev pub fitsHeld : Held (P .State) → Bool
+  fitsHeld h = P .fits (h .state) (length (h .first)) (length (h .second))
+
+  -- Sizes and refusals, showing: the longest unbroken run from the oldest on, an empty part for a misfit; side 0 is the first store, side 1 the
+  -- second, and any other side shows nothing
+  unfoldable pub shown : ℕ → Held (P .State) → List ℕ
+  shown side h =
+      cond (fitsHeld h)
+      (cond (eqb side 0) (run (h .first) (P .firstRing (h .state)))
+      (cond (eqb side 1) (run (h .second) (P .secondRing (h .state)))
+      []))
+      []
+
+  -- the checks of a call, in their order: 1 is create's and 2 is a misfit; showing has no number
+  unfoldable pub checks : Kind (P .OnState) → Held (P .State) → List Check
+  checks (creating m) h = check 1 (not (P .obeyed m (length (h .first)) (length (h .second)))) ∷ []
+  checks (showing side) h = []
+  checks (calling c) h = check 2 (not (fitsHeld h)) ∷ P .checksOn c (h .state)

@@ -1,0 +1,16 @@
+use Rattle.mailbox.specs.Calls.{busCommand}
+use Rattle.cmailbox.proofs.Closing.{may-write, written}
+use borrow.Author.Needs.{needs}
+use Rattle.cmailbox.proofs.raftershim_mailbox_bus_command.Statement.{statement}
+use Rattle.cmailbox.proofs.raftershim_mailbox_bus_command.Tie as tie
+
+pub raftershim-mailbox-bus-command-spec : {M : Type 1} → statement M
+raftershim-mailbox-bus-command-spec =
+    tie.close
+    (tie.spec
+    (λ c κs. search needs)
+    (λ c κs. search needs)
+    (λ c κs. may-write (busCommand _) _ _ _ _ _ _ _ (c .before .before .meaning .ensures) (c .before .bus-command .ensures))
+    (λ c. search needs)
+    (λ c. written (busCommand _) _ _ _ _ _ _ _ (c .before .before .before .before .before .meaning .ensures) (c .before .before .before .before .bus-command .ensures) _ _
+    (c .before .before .finished .ensures)))

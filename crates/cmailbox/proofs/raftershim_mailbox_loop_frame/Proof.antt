@@ -1,0 +1,18 @@
+use Rattle.mailbox.specs.Calls.{loopFrame}
+use Rattle.cmailbox.proofs.Closing.{may-write, written}
+use borrow.Author.Needs.{needs}
+use Rattle.cmailbox.proofs.raftershim_mailbox_loop_frame.Statement.{statement}
+use Rattle.cmailbox.proofs.raftershim_mailbox_loop_frame.Tie as tie
+
+pub raftershim-mailbox-loop-frame-spec : {M : Type 1} → statement M
+raftershim-mailbox-loop-frame-spec =
+    tie.close
+    (tie.spec
+    (λ c κs. search needs)
+    (λ c κs. search needs)
+    (λ c κs. may-write (loopFrame _) _ _ _ _ _ _ _ (c .before .before .before .before .before .meaning .ensures)
+    (c .before .before .before .loop-frame .ensures))
+    (λ c. search needs)
+    (λ c. search needs)
+    (λ c. written (loopFrame _) _ _ _ _ _ _ _ (c .before .before .before .before .before .before .before .before .meaning .ensures)
+    (c .before .before .before .before .before .before .loop-frame .ensures) _ _ (c .before .before .finished .ensures)))

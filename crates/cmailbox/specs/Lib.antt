@@ -1,0 +1,2 @@
+-- `Mailbox` is a mailbox as a product with C functions, and what each of them promises.
+pub mod Mailbox

@@ -1,0 +1,3 @@
+-- `Packed` is the layout of a mailbox's block, `States` says which blocks are states.
+pub mod Packed
+pub mod States

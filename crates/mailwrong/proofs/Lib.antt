@@ -1,0 +1,13 @@
+pub mod MailComputing
+pub mod SpoiltWays
+pub mod SpoiltFetches
+pub mod SpoiltGiving
+pub mod SpoiltClears
+pub mod SpoiltNews
+pub mod SpoiltRequests
+pub mod SpoiltHolding
+pub mod SpoiltRoles
+pub mod SpoiltBus
+pub mod SpoiltReplies
+pub mod SpoiltRefusals
+pub mod SpoiltStores

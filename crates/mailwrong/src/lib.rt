@@ -1,0 +1,1 @@
+// No function: this crate has mailboxes that are wrong, and the laws that they break.
