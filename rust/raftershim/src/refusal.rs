@@ -77,7 +77,7 @@ refusals! {
 }
 
 impl Refusal {
-    /// What stands for an answer that the header of the C functions does not describe. No refusal
+    /// What stands for an answer that the headers of the C functions do not describe. No refusal
     /// has the number 0, and the archive never gives such an answer.
     pub(crate) const UNDESCRIBED: Refusal = Refusal(0);
 
