@@ -41,14 +41,14 @@ module _ (w : World) (f : ℕ) where
   clearedBy = eqb (controlOf f) 4 && asksClear (loopListens w) (dataOf f)
 
   abbrev Goes : Outcome → Type 0
-  Goes o = Move toBus w (sight toBus (on (loopFrame f)) w (said (o .answer))) (o .state .tobus .ring) (o .state .tobus .news) (frameCells (w .state) (w .tobus) f)
+  Goes o = Move toBus w false (sight toBus (on (loopFrame f)) w (said (o .answer))) (o .state .tobus .ring) (o .state .tobus .news) (frameCells (w .state) (w .tobus) f)
 
   -- a frame that is neither
   still : (a : Said) → keptBy ≡ false → keeps (w .state) f ≡ false → clearedBy ≡ false →
-      Move toBus w (sight toBus (on (loopFrame f)) w a) (w .state .tobus .ring) (w .state .tobus .news) (frameCells (w .state) (w .tobus) f)
+      Move toBus w false (sight toBus (on (loopFrame f)) w a) (w .state .tobus .ring) (w .state .tobus .news) (frameCells (w .state) (w .tobus) f)
   unfolding left fetched told clearsBy restarts frameCells
   still a k e c =
-      subst (λ (l : List ℕ). Move toBus w (sight toBus (on (loopFrame f)) w a) (w .state .tobus .ring) (w .state .tobus .news) l)
+      subst (λ (l : List ℕ). Move toBus w false (sight toBus (on (loopFrame f)) w a) (w .state .tobus .ring) (w .state .tobus .news) l)
       (sym (ap (λ (t : Bool). cond t (putBytes (w .tobus) (w .state .tobus .ring) (cellOf f)) (w .tobus)) e))
       (by-sight toBus w _ nothing _ _ _
       (ap (λ (t : Bool). cond t (cellFor (dataOf f) (isEnd f) ∷ []) []) ((λ i. taken a && k i) ∙ and-off (taken a)))
@@ -66,30 +66,30 @@ module _ (w : World) (f : ℕ) where
         go false e = refl
 
     back : Returning (w .state) f → (a : Said) →
-        Move toBus w (sight toBus (on (loopFrame f)) w a) (w .state .tobus .ring) (w .state .tobus .news) (frameCells (w .state) (w .tobus) f)
+        Move toBus w false (sight toBus (on (loopFrame f)) w a) (w .state .tobus .ring) (w .state .tobus .news) (frameCells (w .state) (w .tobus) f)
     back r a =
         let l : loopListens w ≡ false = idle-listener (r .active) in
         still a ((λ i. isData f && l i) ∙ and-off (isData f)) ((λ i. (isData f && not (isActive (w .state .talker .role))) && l i) ∙ and-off (isData f && not (isActive (w .state .talker .role))))
         (λ i. data-not f 4 (r .isdata) (omega arith) i && asksClear (loopListens w) (dataOf f))
 
     passing : Arriving (w .state) f → loopListens w ≡ false → (a : Said) →
-        Move toBus w (sight toBus (on (loopFrame f)) w a) (w .state .tobus .ring) (w .state .tobus .news) (frameCells (w .state) (w .tobus) f)
+        Move toBus w false (sight toBus (on (loopFrame f)) w a) (w .state .tobus .ring) (w .state .tobus .news) (frameCells (w .state) (w .tobus) f)
     passing r l a =
         still a ((λ i. isData f && l i) ∙ and-off (isData f)) ((λ i. (isData f && not (isActive (w .state .talker .role))) && l i) ∙ and-off (isData f && not (isActive (w .state .talker .role))))
         (λ i. data-not f 4 (r .isdata) (omega arith) i && asksClear (loopListens w) (dataOf f))
 
     other : isData f ≡ false → eqb (controlOf f) 4 ≡ false → (a : Said) →
-        Move toBus w (sight toBus (on (loopFrame f)) w a) (w .state .tobus .ring) (w .state .tobus .news) (frameCells (w .state) (w .tobus) f)
+        Move toBus w false (sight toBus (on (loopFrame f)) w a) (w .state .tobus .ring) (w .state .tobus .news) (frameCells (w .state) (w .tobus) f)
     other d c a = still a (λ i. d i && loopListens w) (λ i. (d i && not (isActive (w .state .talker .role))) && loopListens w) (λ i. c i && asksClear (loopListens w) (dataOf f))
 
     -- one that a listener keeps
     kept-cell : Arriving (w .state) f → loopListens w ≡ true → busy (w .state) f ≡ false →
-        Move toBus w (record { left = cellOf f ∷ []; fetched = []; told = []; clears = false }) (leftIn (w .state .tobus) .ring) (leftIn (w .state .tobus) .news)
+        Move toBus w false (record { left = cellOf f ∷ []; fetched = []; told = []; clears = false }) (leftIn (w .state .tobus) .ring) (leftIn (w .state .tobus) .news)
         (frameCells (w .state) (w .tobus) f)
     unfolding frameCells leftIn
     kept-cell r l b =
         subst
-        (λ (c : List ℕ). Move toBus w (record { left = cellOf f ∷ []; fetched = []; told = []; clears = false }) (leftIn (w .state .tobus) .ring) (leftIn (w .state .tobus) .news) c)
+        (λ (c : List ℕ). Move toBus w false (record { left = cellOf f ∷ []; fetched = []; told = []; clears = false }) (leftIn (w .state .tobus) .ring) (leftIn (w .state .tobus) .news) c)
         (sym (ap (λ (t : Bool). cond t (putBytes (w .tobus) (w .state .tobus .ring) (cellOf f)) (w .tobus)) (λ i. (r .isdata i && not (r .idle i)) && l i)))
         (isPut (cellOf f) (tobus-fits (w .state) (w .tobus) (w .toloop) F) room)
       where
@@ -98,9 +98,9 @@ module _ (w : World) (f : ℕ) where
 
     -- what is seen of a frame that a listener keeps
     heard-so : Arriving (w .state) f → loopListens w ≡ true → (g : ℕ) →
-        Move toBus w (record { left = cellOf f ∷ []; fetched = []; told = []; clears = false }) (leftIn (w .state .tobus) .ring) (leftIn (w .state .tobus) .news)
+        Move toBus w false (record { left = cellOf f ∷ []; fetched = []; told = []; clears = false }) (leftIn (w .state .tobus) .ring) (leftIn (w .state .tobus) .news)
         (frameCells (w .state) (w .tobus) f) →
-        Move toBus w (sight toBus (on (loopFrame f)) w (frame (controlOf g) (dataOf g))) (leftIn (w .state .tobus) .ring) (leftIn (w .state .tobus) .news)
+        Move toBus w false (sight toBus (on (loopFrame f)) w (frame (controlOf g) (dataOf g))) (leftIn (w .state .tobus) .ring) (leftIn (w .state .tobus) .news)
         (frameCells (w .state) (w .tobus) f)
     unfolding left fetched told clearsBy restarts
     heard-so r l g m =
@@ -112,19 +112,19 @@ module _ (w : World) (f : ℕ) where
     clears-so r c = (λ i. r .four i && sym (clear-order 15 (w .state .talker .role) (dataOf f)) i) ∙ c
 
     cleared-so : Commanding f → clears (w .state) (dataOf f) ≡ true →
-        Move toBus w (sight toBus (on (loopFrame f)) w (frame (controlOf f) (dataOf f))) (emptyWay (w .state .tobus .ring .cap) .ring)
+        Move toBus w false (sight toBus (on (loopFrame f)) w (frame (controlOf f) (dataOf f))) (emptyWay (w .state .tobus .ring .cap) .ring)
         (emptyWay (w .state .tobus .ring .cap) .news) (frameCells (w .state) (w .tobus) f)
     unfolding left fetched told clearsBy restarts frameCells emptyWay
     cleared-so r c =
         subst
-        (λ (l : List ℕ). Move toBus w (sight toBus (on (loopFrame f)) w (frame (controlOf f) (dataOf f))) (emptyWay (w .state .tobus .ring .cap) .ring)
+        (λ (l : List ℕ). Move toBus w false (sight toBus (on (loopFrame f)) w (frame (controlOf f) (dataOf f))) (emptyWay (w .state .tobus .ring .cap) .ring)
         (emptyWay (w .state .tobus .ring .cap) .news) l)
         (sym (ap (λ (t : Bool). cond t (putBytes (w .tobus) (w .state .tobus .ring) (cellOf f)) (w .tobus)) (λ i. (r .isdata i && not (isActive (w .state .talker .role))) && loopListens w)))
         (by-sight toBus w _ _ _ _ _ (ap (λ (t : Bool). cond t (cellFor (dataOf f) (isEnd f) ∷ []) []) (λ i. r .isdata i && loopListens w)) refl refl (clears-so r c)
         (isEmptied (w .state .tobus .ring .cap)))
 
     asking : Asking (w .state) f → (a : Said) →
-        Move toBus w (sight toBus (on (loopFrame f)) w a) (w .state .tobus .ring) (w .state .tobus .news) (frameCells (w .state) (w .tobus) f)
+        Move toBus w false (sight toBus (on (loopFrame f)) w a) (w .state .tobus .ring) (w .state .tobus .news) (frameCells (w .state) (w .tobus) f)
     asking r a = other (r .readying .isdata) (r .readying .four) a
 
     -- every frame

@@ -32,6 +32,7 @@ use Rattle.mailbox.specs.Calls.{checks, outcome, tobusAfter, toloopAfter, notRe
 use Rattle.maillaws.specs.Sights as see
 use Rattle.maillaws.specs.Sights.{Direction, toBus, toLoop, storeOf, ringOf, newsOf, counted, loopActive, fromWay, busListens, cellFor, asksClear}
 use Rattle.maillaws.specs.StateFits.{Fits}
+use Rattle.maillaws.specs.NewsGoing.{statusBack}
 use Rattle.maillaws.proofs.Refusal.{by-refusal, fitting, frame-fitting, byte-fitting}
 use Rattle.maillaws.proofs.FrameTests.{either-same}
 use Rattle.maillaws.proofs.FrameWays.{way}
@@ -41,7 +42,7 @@ use Rattle.maillaws.proofs.Moves.{Sight, sight, nothing, Move, isStill,
 
 -- what was done, for one way
 abbrev pub Moved : Direction → Call → World → Did → Type 0
-Moved d c w x = Move d w (sight d c w (x .said)) (ringOf d (x .world)) (newsOf d (x .world)) (storeOf d (x .world))
+Moved d c w x = Move d w (statusBack d c w) (sight d c w (x .said)) (ringOf d (x .world)) (newsOf d (x .world)) (storeOf d (x .world))
 
 -- a refused call does nothing to either way
 refused-still : (d : Direction) (c : Call) (w : World) (n : ℕ) → Moved d c w (record { said = refused n; world = w })
@@ -70,7 +71,7 @@ refused-still toLoop (on busLines) w n = isStill
 
 module _ (w : World) (F : Fits w) where
   abbrev Fetched : Direction → Outcome → Type 0
-  Fetched d o = Move d w (sight d (on busFetch) w (said (o .answer))) (ringOf d (record { state = o .state; tobus = w .tobus; toloop = w .toloop }))
+  Fetched d o = Move d w false (sight d (on busFetch) w (said (o .answer))) (ringOf d (record { state = o .state; tobus = w .tobus; toloop = w .toloop }))
       (newsOf d (record { state = o .state; tobus = w .tobus; toloop = w .toloop })) (storeOf d w)
 
   -- nothing is given to the bus
@@ -92,7 +93,7 @@ module _ (w : World) (F : Fits w) where
   unfolding bus-side.statusGiven said see.left see.fetched see.told see.clearsBy see.restarts
   status-given z =
       by-sight toBus w _ _ _ _ _ refl (ap (λ (t : Bool). cond t [] (newsByte (w .state .tobus .news) ∷ [])) z)
-      (ap (λ (t : Bool). cond t (newsByte (w .state .tobus .news) ∷ []) []) z) refl (isAsked (newsByte (w .state .tobus .news)) noNews refl)
+      (ap (λ (t : Bool). cond t (newsByte (w .state .tobus .news) ∷ []) []) z) refl (isAsked (newsByte (w .state .tobus .news)) noNews refl refl)
 
   fetch-to-bus : Fetched toBus (bus-side.busFetch (w .state) (w .tobus))
   unfolding bus-side.busFetch bus-side.given fetchOf
@@ -121,7 +122,7 @@ module _ (w : World) (F : Fits w) where
   byte-to-loop b mark n = go (busListens w) refl
     where
       go : (l : Bool) → busListens w ≡ l →
-          Move toLoop w (record { left = cond l (cellFor b mark ∷ []) []; fetched = []; told = []; clears = false })
+          Move toLoop w false (record { left = cond l (cellFor b mark ∷ []) []; fetched = []; told = []; clears = false })
           (cond l (withToLoop (w .state) (leftIn (w .state .toloop))) (w .state) .toloop .ring)
           (cond l (withToLoop (w .state) (leftIn (w .state .toloop))) (w .state) .toloop .news)
           (cond l (putBytes (w .toloop) (w .state .toloop .ring) (cellFor b mark)) (w .toloop))
@@ -133,19 +134,19 @@ module _ (w : World) (F : Fits w) where
   byte-to-bus : (b : ℕ) (mark : Bool) → Moved toBus (on (busByte b mark)) w (notRefused (on (busByte b mark)) w)
   unfolding notRefused outcome tobusAfter bus-side.busByte said see.left see.fetched see.told see.clearsBy see.restarts
   byte-to-bus b mark =
-      by-cond (λ (t : State). Move toBus w nothing (t .tobus .ring) (t .tobus .news) (w .tobus)) (busListens w) _ _ (λ _. isStill) (λ _. isStill)
+      by-cond (λ (t : State). Move toBus w false nothing (t .tobus .ring) (t .tobus .news) (w .tobus)) (busListens w) _ _ (λ _. isStill) (λ _. isStill)
 
 -- a command of the bus
 command-to-bus : (c : ℕ) (w : World) → Moved toBus (on (busCommand c)) w (notRefused (on (busCommand c)) w)
 unfolding notRefused outcome tobusAfter bus-side.busCommand said see.left see.fetched see.told see.clearsBy see.restarts
 command-to-bus c w =
-    by-cond (λ (t : State). Move toBus w nothing (t .tobus .ring) (t .tobus .news) (w .tobus)) (bus.clears (w .state .bus) c) _ _ (λ _. isStill) (λ _. isStill)
+    by-cond (λ (t : State). Move toBus w false nothing (t .tobus .ring) (t .tobus .news) (w .tobus)) (bus.clears (w .state .bus) c) _ _ (λ _. isStill) (λ _. isStill)
 
 command-to-loop : (c : ℕ) (w : World) → Moved toLoop (on (busCommand c)) w (notRefused (on (busCommand c)) w)
 unfolding notRefused outcome toloopAfter bus-side.busCommand bus.clears emptyWay said see.left see.fetched see.told see.clearsBy see.restarts
 command-to-loop c w =
     by-cond
-    (λ (t : State). Move toLoop w (record { left = []; fetched = []; told = []; clears = asksClear (busListens w) c }) (t .toloop .ring) (t .toloop .news) (w .toloop))
+    (λ (t : State). Move toLoop w false (record { left = []; fetched = []; told = []; clears = asksClear (busListens w) c }) (t .toloop .ring) (t .toloop .news) (w .toloop))
     (bus.clears (w .state .bus) c) _ _
     (λ e. by-sight toLoop w _ _ _ _ _ refl refl refl (sym same ∙ e) (isEmptied (w .state .toloop .ring .cap)))
     (λ e. by-sight toLoop w _ _ _ _ _ refl refl refl (sym same ∙ e) isStill)

@@ -63,7 +63,7 @@ module _ (w : World) (f : ℕ) (e : firstRefusal (checks (on (loopFrame f)) w) �
   has-room = leb-false _ _ (sym (λ i. (l i && D i) && full (w .state .tobus .ring)) ∙ frame-fitting f w e .1 .1)
 
   -- one place stays free, by what waits and by the ring
-  one-free : holdsNow w ≡ holdsBack (w .state)
+  pub one-free : holdsNow w ≡ holdsBack (w .state)
   one-free =
       ap (λ (t : Bool). (w .state .hold .enabled && not (w .state .hold .held)) && t)
       (same-equal (length (waits toBus w) + 2) (length (w .tobus)) (room (putRing r)) 1
@@ -100,7 +100,7 @@ module _ (w : World) (f : ℕ) (e : firstRefusal (checks (on (loopFrame f)) w) �
       (λ _ q. let k : controlOf (serviced (w .state) f) ≡ 5 = cc in absurd (omega (arith, data-still))))
 
 -- a law of one call, by that call
-at-call : (P : Call → Type 0) (d : Call) → P d → (c : Call) → c ≡ d → P c
+pub at-call : (P : Call → Type 0) (d : Call) → P d → (c : Call) → c ≡ d → P c
 at-call P d p c e = subst P (sym e) p
 
 pub holds-back : Obeys (mailbox step) HoldsBack

@@ -14,6 +14,12 @@ use Rattle.maillaws.proofs.Given.{loop-given, bus-given}
 use Rattle.maillaws.proofs.HeldBack.{holds-back, released}
 use Rattle.maillaws.proofs.LoopRoles.{loop-role-goes}
 use Rattle.maillaws.proofs.BusRoles.{bus-role-goes}
+use Rattle.maillaws.proofs.StartsGiven.{starts-so, reset-gives-start}
+use Rattle.maillaws.proofs.ShowsGiven.{shows-so}
+use Rattle.maillaws.proofs.NewsGoes.{news-goes}
+use Rattle.maillaws.proofs.PollsSeen.{lines-told, identify-told}
+use Rattle.maillaws.proofs.HoldsGo.{response-goes, hold-goes}
+use Rattle.maillaws.proofs.CellPlaces.{places-go}
 
 pub all-obeyed : MailboxObeysAll
 all-obeyed =
@@ -24,4 +30,6 @@ all-obeyed =
     also news-stays also news-ends also status-told
     also request-waits toBus also request-waits toLoop also request-goes toBus also request-goes toLoop
     also loop-given also bus-given also holds-back also released also loop-role-goes also bus-role-goes
+    also starts-so also reset-gives-start also shows-so also news-goes toBus also news-goes toLoop
+    also lines-told also identify-told also response-goes also hold-goes also places-go toBus also places-go toLoop
     also tt

@@ -32,5 +32,16 @@ pub mod StatusSent
 pub mod NewsKept
 pub mod NewsRuns
 pub mod NewsEnds
+-- `StartsGiven` is of create and reset, `ShowsGiven` of what a show returns.
+pub mod StartsGiven
+pub mod ShowsGiven
+-- `NewsGoes` is of the news of both ways.
+pub mod NewsGoes
+-- `HoldsGo` is of not ready and of the loop's response to polls.
+pub mod HoldsGo
+-- `PollsSeen` is of the lines of the bus and of the identify frame.
+pub mod PollsSeen
+-- `CellPlaces` is of the places of the cells.
+pub mod CellPlaces
 -- `Laws` has all of them in one theorem.
 pub mod Laws

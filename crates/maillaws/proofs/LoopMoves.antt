@@ -2,7 +2,7 @@
 use Prim.Native.Nat.{ℕ, _+_, _*_, _/_, _%_, _<_, _≤_}
 use native.Mathlib.Omega.{arith}
 use mathlib.Core.Path.{_≡_, refl, sym, ap, subst, _∙_}
-use mathlib.Core.Bool.{Bool, true, false, cond, _&&_, _||_, not}
+use mathlib.Core.Bool.{Bool, true, false, cond, _&&_, _||_, not, true≢false}
 use mathlib.Core.List.{List, [], _∷_}
 use lib.Dec.{eqb, leb, ltb}
 use lib.ListN.{getD}
@@ -23,6 +23,7 @@ use Rattle.mailbox.specs.Calls.{loopFrame, on, World}
 use Rattle.maillaws.specs.Sights as see
 use Rattle.maillaws.specs.Sights.{toLoop, counted, dataCell, dataByte, loopActive, fromWay}
 use Rattle.maillaws.specs.StateFits.{Fits}
+use Rattle.maillaws.specs.NewsGoing.{statusBack}
 use Rattle.maillaws.proofs.Small.{news-small}
 use Rattle.maillaws.proofs.FrameTests.{frame-is, data-no-frame, other-byte, no-frame-by-control, no-frame-by-byte, either-same, cell-carried, byte-carried, no-cell}
 use Rattle.maillaws.proofs.FrameWays.{Way, Returning, Arriving, Readying, Asking, asked, isNext, isNextId, isBack, isLast, isDamaged, isHeld, isHeard, isPassed}
@@ -38,11 +39,15 @@ module _ (w : World) (f : ℕ) where
   abbrev asksStatus : Bool
   asksStatus = eqb f (made 5 97)
 
+  -- our status byte is back
+  abbrev isStatus : Bool
+  isStatus = statusBack toLoop (on (loopFrame f)) w
+
   abbrev Goes : Outcome → Type 0
-  Goes o = Move toLoop w (sight toLoop (on (loopFrame f)) w (said (o .answer))) (o .state .toloop .ring) (o .state .toloop .news) (w .toloop)
+  Goes o = Move toLoop w isStatus (sight toLoop (on (loopFrame f)) w (said (o .answer))) (o .state .toloop .ring) (o .state .toloop .news) (w .toloop)
 
   abbrev Same : Said → Type 0
-  Same a = Move toLoop w (sight toLoop (on (loopFrame f)) w a) (w .state .toloop .ring) (w .state .toloop .news) (w .toloop)
+  Same a = Move toLoop w isStatus (sight toLoop (on (loopFrame f)) w a) (w .state .toloop .ring) (w .state .toloop .news) (w .toloop)
 
   -- nothing is asked for, or nothing given
   unasked : (a : Said) → asksData ≡ false → asksStatus ≡ false → Same a
@@ -51,16 +56,17 @@ module _ (w : World) (f : ℕ) where
       by-sight toLoop w _ nothing _ _ _ refl (ap (λ (b : Bool). cond b (dataCell a) []) d) (ap (λ (b : Bool). cond b (dataByte a) []) t) refl isStill
 
   ungiven : (k d : ℕ) → ltb k 4 ≡ false → (n : News) → n .request ≡ w .state .toloop .news .request →
-      Move toLoop w (sight toLoop (on (loopFrame f)) w (frame k d)) (w .state .toloop .ring) n (w .toloop)
+      (isStatus ≡ false → n .available ≡ w .state .toloop .news .available) → (w .state .toloop .news .available ≡ false → n .available ≡ false) →
+      Move toLoop w isStatus (sight toLoop (on (loopFrame f)) w (frame k d)) (w .state .toloop .ring) n (w .toloop)
   unfolding see.left see.fetched see.told see.clearsBy see.restarts
-  ungiven k d e n q =
+  ungiven k d e n q u v =
       let c = no-cell k d e in
       by-sight toLoop w _ nothing _ _ _ refl (ap (λ (l : List ℕ). cond asksData l []) (c .0) ∙ either-same asksData [])
       (ap (λ (l : List ℕ). cond asksStatus l []) (c .1) ∙ either-same asksStatus [])
-      refl (isReturned n q)
+      refl (isReturned n q u v)
 
   quiet : (k d : ℕ) → ltb k 4 ≡ false → Same (frame k d)
-  quiet k d e = ungiven k d e (w .state .toloop .news) refl
+  quiet k d e = ungiven k d e (w .state .toloop .news) refl (λ _. refl) (λ u. u)
 
   -- a data frame that is no return
   arriving : Arriving (w .state) f → (a : Said) → Same a
@@ -98,7 +104,7 @@ module _ (w : World) (f : ℕ) where
         by-sight toLoop w _ _ _ _ _ refl (ap (λ (b : Bool). cond b (dataCell (frame (controlOf out) (dataOf out))) []) d)
         (ap (λ (b : Bool). cond b (dataByte (frame (controlOf out) (dataOf out))) []) t
         ∙ byte-carried (w .state .toloop .news .request) told out (news-small (w .state .toloop .news)) refl)
-        refl (isAsked told (sentStatus (w .state .toloop .news)) refl)
+        refl (isAsked told (sentStatus (w .state .toloop .news)) refl refl)
       where
         told : ℕ
         told = newsByte (w .state .toloop .news)
@@ -133,7 +139,9 @@ module _ (w : World) (f : ℕ) where
     unfolding sendAccessory sends ended released identify said
     frame-to-loop o (isNext r z) = send-move (return-data (r .back) z) (return-status (r .back))
     frame-to-loop o (isNextId r z) = id-move (w .state .source) (λ a. unasked a (return-id (r .back) z) (return-status (r .back)))
-    frame-to-loop o (isBack r m k) = ungiven 5 64 refl _ refl
+    frame-to-loop o (isBack r m k) =
+        ungiven 5 64 refl _ refl (λ u. absurd (true≢false (sym (λ i. (r .isdata i && m i) && k i) ∙ u)))
+        (λ u i. u i && not (eqb (dataOf (w .state .talker .under .frame) % 2) 1 && not (w .state .toloop .news .again)))
     frame-to-loop o (isLast r m k e) = quiet 5 64 refl
     frame-to-loop o (isDamaged r m) = quiet 5 65 refl
     frame-to-loop o (isHeld r l h) = arriving r _

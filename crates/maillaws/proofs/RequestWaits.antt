@@ -45,7 +45,7 @@ use Rattle.maillaws.proofs.Requests.{any-waits}
 abbrev Backed : Ring → News → Type 0
 Backed r n = n .request ≡ true → r .len ≡ 0 → ⊥
 
-backed : (d : Direction) (w : World) (x : Sight) (r : Ring) (n : News) (s : List ℕ) → Move d w x r n s → Backed (ringOf d w) (newsOf d w) → Backed r n
+backed : (d : Direction) (w : World) {t : Bool} (x : Sight) (r : Ring) (n : News) (s : List ℕ) → Move d w t x r n s → Backed (ringOf d w) (newsOf d w) → Backed r n
 backed d w x r n s isStill b = b
 backed d w x r n s (isPut y F h) b = λ e z. let q : ringOf d w .len + 1 ≡ 0 = sym (ring-len (ringOf d w) h) ∙ z in omega arith
 backed d w x r n s (isFetched F h) b =
@@ -55,8 +55,8 @@ backed d w x r n s (isFetched F h) b =
     let one : ringOf d w .len ≡ 1 → ⊥ = eqb-false (ringOf d w .len) 1 k in
     h (omega arith))
 backed d w x r n s (isEmptied cap) b = λ e. absurd (false≢true e)
-backed d w x r n s (isAsked t m q) b = λ e. absurd (false≢true (sym q ∙ e))
-backed d w x r n s (isReturned m q) b = λ e z. b (sym q ∙ e) z
+backed d w x r n s (isAsked g m q _) b = λ e. absurd (false≢true (sym q ∙ e))
+backed d w x r n s (isReturned m q _ _) b = λ e z. b (sym q ∙ e) z
 
 run-backed : (d : Direction) (cs : List Call) (w : World) → Backed (ringOf d w) (newsOf d w) →
     Backed (ringOf d (finally (mailbox step) cs w)) (newsOf d (finally (mailbox step) cs w))

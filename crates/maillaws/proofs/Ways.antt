@@ -62,15 +62,15 @@ waits-fetched s r F h =
 
 -- ---- every call
 
-keeps : (d : Direction) (w : World) (x : Sight) (r : Ring) (n : News) (s : List ℕ) → Move d w x r n s → x .clears ≡ false → ((y : ℕ) → x .left ≡ y ∷ [] → counted y ≡ y) →
+keeps : (d : Direction) (w : World) {b : Bool} (x : Sight) (r : Ring) (n : News) (s : List ℕ) → Move d w b x r n s → x .clears ≡ false → ((y : ℕ) → x .left ≡ y ∷ [] → counted y ≡ y) →
     (ys : List ℕ) → waits d w ++ (x .left ++ ys) ≡ x .fetched ++ (map counted (held s r) ++ ys)
 keeps d w x r n s isStill c b ys = refl
 keeps d w x r n s (isPut y F h) c b ys =
     sym (append-assoc (waits d w) (y ∷ []) ys) ∙ ap (λ (l : List ℕ). l ++ ys) (sym (waits-put (storeOf d w) (ringOf d w) y (b y refl) F h))
 keeps d w x r n s (isFetched F h) c b ys = ap (λ (l : List ℕ). l ++ ys) (waits-fetched (storeOf d w) (ringOf d w) F h)
 keeps d w x r n s (isEmptied cap) c b ys = absurd (true≢false c)
-keeps d w x r n s (isAsked t m e) c b ys = refl
-keeps d w x r n s (isReturned m e) c b ys = refl
+keeps d w x r n s (isAsked t m e _) c b ys = refl
+keeps d w x r n s (isReturned m e _ _) c b ys = refl
 
 -- a byte with its mark, and nothing besides
 cell-counted : (b : ℕ) (mark : Bool) → b < 256 → counted (cellFor b mark) ≡ cellFor b mark
@@ -115,14 +115,14 @@ way-kept d cs w h k n = from-turns (through d) (mailbox step) cs w (turns d cs w
 -- ---- clears
 
 -- a clear leaves nothing that waits and nothing that is told
-emptied : (d : Direction) (w : World) (x : Sight) (r : Ring) (n : News) (s : List ℕ) → Move d w x r n s → x .clears ≡ true →
+emptied : (d : Direction) (w : World) {b : Bool} (x : Sight) (r : Ring) (n : News) (s : List ℕ) → Move d w b x r n s → x .clears ≡ true →
     (map counted (held s r) ≡ []) × ((n .request ≡ false) × (n .available ≡ false))
 emptied d w x r n s isStill c = absurd (false≢true c)
 emptied d w x r n s (isPut y F h) c = absurd (false≢true c)
 emptied d w x r n s (isFetched F h) c = absurd (false≢true c)
 emptied d w x r n s (isEmptied cap) c = (ap (map counted) (held-empty (storeOf d w) cap), (refl, refl))
-emptied d w x r n s (isAsked b m e) c = absurd (false≢true c)
-emptied d w x r n s (isReturned m e) c = absurd (false≢true c)
+emptied d w x r n s (isAsked t m e _) c = absurd (false≢true c)
+emptied d w x r n s (isReturned m e _ _) c = absurd (false≢true c)
 
 pub clear-moved : (d : Direction) (c : Call) (w : World) → clears d c w (step c w .said) ≡ true → Emptied d (step c w .world)
 clear-moved d c w e =

@@ -12,6 +12,12 @@ use Rattle.maillaws.specs.Giving.{LoopGiven, BusGiven}
 use Rattle.maillaws.specs.NotReady.{HoldsBack, Released}
 use Rattle.maillaws.specs.LoopRole.{LoopRoleGoes}
 use Rattle.maillaws.specs.BusRole.{BusRoleGoes}
+use Rattle.maillaws.specs.MailStarts.{StartsSo, ResetGivesStart}
+use Rattle.maillaws.specs.MailShows.{ShowsSo}
+use Rattle.maillaws.specs.NewsGoing.{NewsGo}
+use Rattle.maillaws.specs.PollsTold.{LinesTold, IdentifyTold, ResponseGoes}
+use Rattle.maillaws.specs.HoldGoing.{HoldGoes}
+use Rattle.maillaws.specs.MailPlaces.{PlacesGo}
 
 abbrev pub laws : List Law
 laws =
@@ -22,4 +28,6 @@ laws =
     ∷ NewsStays ∷ NewsEnds ∷ StatusTold
     ∷ RequestWaits toBus ∷ RequestWaits toLoop ∷ RequestGoes toBus ∷ RequestGoes toLoop
     ∷ LoopGiven ∷ BusGiven ∷ HoldsBack ∷ Released ∷ LoopRoleGoes ∷ BusRoleGoes
+    ∷ StartsSo ∷ ResetGivesStart ∷ ShowsSo ∷ NewsGo toBus ∷ NewsGo toLoop
+    ∷ LinesTold ∷ IdentifyTold ∷ ResponseGoes ∷ HoldGoes ∷ PlacesGo toBus ∷ PlacesGo toLoop
     ∷ []

@@ -12,5 +12,11 @@ pub mod Giving
 pub mod NotReady
 pub mod LoopRole
 pub mod BusRole
+pub mod MailStarts
+pub mod MailShows
+pub mod NewsGoing
+pub mod PollsTold
+pub mod HoldGoing
+pub mod MailPlaces
 pub mod Laws
 pub mod Obeyed

@@ -40,7 +40,7 @@ abbrev pub keepsDamaged : Call → World → Did
 keepsDamaged = leaving (λ c w v. cond (damaged w c) (withRing toLoop (putBack (ringOf toLoop v)) v) v)
 
 -- only the newest cell
-abbrev newestOf : Ring → Ring
+abbrev pub newestOf : Ring → Ring
 newestOf r = record { cap = r .cap; oldest = wrap (r .cap) (r .oldest + (r .len - 1)); len = 1 }
 
 -- hands over the newest of the way d first
