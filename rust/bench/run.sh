@@ -1,5 +1,6 @@
 #!/bin/sh
-# Counts the instructions of the archive beside the plain model and beside a peer written for speed, on three works, and prints Markdown:
+# Counts the instructions of the archive beside the plain model, on works of the bridge and of the mailbox, and for the bridge beside a
+# peer written for speed too, and prints Markdown:
 # sh rust/bench/run.sh [--target TRIPLE] [--limit 1.5]   (without a target: this machine's own)
 # Fails if a side ever answers otherwise or leaves other bytes, and with a limit if the archive takes more than that many times the
 # model's instructions on any work.
@@ -8,7 +9,8 @@ cd "$(dirname "$0")/../.."
 . archives/tools.sh
 here=rust/bench
 work=target/bench
-works='meter print status'
+# The works of the bridge, and one for each way through the mailbox.
+works='meter print status to-bus to-loop'
 stores='64 1024 32768'
 # The rounds of the two counts whose difference is taken, with as many digits each: they take the same to read. With a store of 64 the
 # places come round several times in between.
@@ -55,7 +57,7 @@ compare() {
 counts() {
     for job in $works; do
         for store in $stores; do
-            for side in archive model peer idle; do
+            for side in $($emulator "$bench" sides "$job"); do
                 for rounds in $few $many; do
                     # shellcheck disable=SC2086 # no word where there is no emulator
                     line=$(sh "$here/count.sh" $emulator "$bench" "$side" "$job" "$store" "$rounds")
@@ -69,16 +71,19 @@ counts() {
 mkdir -p "$work"
 compare
 counts > "$work/counts"
-echo "Instructions on $triple, counted by $tool, of archive, model and peer behind the same block boundary. The loop that calls them is"
-echo 'not counted. Bytes are those handed out on the other side, for status the polls. The margin is an eighth of the store, at most 1024.'
+echo "Instructions on $triple, counted by $tool, of archive, model and peer behind the same block boundary. The mailbox has no peer. The"
+echo 'loop that calls them is not counted. Bytes are those handed out on the other side, for status the polls. The margin of the bridge is'
+echo 'an eighth of the store, at most 1024.'
 echo
 status=0
 awk -v limit="$limit" -v smallest="${stores%% *}" -v largest="${stores##* }" -f "$here/table.awk" "$work/counts" || status=1
 text=$(llvm-size -A "$(archive_of "$triple")" | awk '$1 ~ /^\.text/ { sum += $2 } END { print sum + 0; exit !sum }')
 echo "- Code of the archive: $text bytes."
-for side in archive model; do
-    deepest=$($emulator "$bench" stack "$side")
-    echo "- Deepest stack of a call, its return address included, $side: $deepest."
+for machine in 'bridge meter' 'mailbox to-bus'; do
+    for side in archive model; do
+        deepest=$($emulator "$bench" stack "${machine#* }" "$side")
+        echo "- Deepest stack of a call of the ${machine% *}, its return address included, $side: $deepest."
+    done
 done
 echo '- The stores and the block are zeroed once before a run, not between rounds.'
 exit "$status"

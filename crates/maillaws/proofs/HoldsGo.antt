@@ -108,7 +108,10 @@ module _ (w : World) (f : ℕ) (e : firstRefusal (checks (on (loopFrame f)) w) �
   hearing D l t h = (rw (D, l, one-free w f e D l ∙ h), rw (data-not f 4 D (omega arith)))
 
   commanding : Commanding f → Goes (record { enabled = eqb (dataOf f) 15 && loopListens w; held = false; frame = 0 }) (responseAfter (w .state) (dataOf f))
-  commanding r = (rw (r .isdata, r .four), response-right w (dataOf f) ∙ sym (ap (λ (t : Bool). cond t (responseBy w (dataOf f)) (w .state .response)) (r .four)))
+  commanding r = (
+    rw (r .isdata, r .four),
+    response-right w (dataOf f) ∙ sym (ap (λ (t : Bool). cond t (responseBy w (dataOf f)) (w .state .response)) (r .four)),
+  )
 
   -- any other frame, by whether it releases
   other : isData f ≡ false → eqb (controlOf f) 4 ≡ false → (t : Bool) → (eqb f (made 5 66) && w .state .hold .held) ≡ t →

@@ -139,7 +139,9 @@ module _ (w : World) (f : ℕ) where
     unfolding sendAccessory sends ended released identify said
     frame-to-loop o (isNext r z) = send-move (return-data (r .back) z) (return-status (r .back))
     frame-to-loop o (isNextId r z) = id-move (w .state .source) (λ a. unasked a (return-id (r .back) z) (return-status (r .back)))
-    frame-to-loop o (isBack r m k) = ungiven 5 64 refl _ refl (λ u. absurd (true≢false (sym (λ i. (r .isdata i && m i) && k i) ∙ u))) (λ u i. u i && not (eqb (dataOf (w .state .talker .under .frame) % 2) 1 && not (w .state .toloop .news .again)))
+    frame-to-loop o (isBack r m k) =
+        ungiven 5 64 refl _ refl (λ u. absurd (true≢false (sym (λ i. (r .isdata i && m i) && k i) ∙ u)))
+        (λ u i. u i && not (eqb (dataOf (w .state .talker .under .frame) % 2) 1 && not (w .state .toloop .news .again)))
     frame-to-loop o (isLast r m k e) = quiet 5 64 refl
     frame-to-loop o (isDamaged r m) = quiet 5 65 refl
     frame-to-loop o (isHeld r l h) = arriving r _

@@ -33,12 +33,12 @@ pub data Move (d : Direction) (w : World) (back : Bool) : Sight → Ring → New
   isStill : Move d w back nothing (ringOf d w) (newsOf d w) (storeOf d w)
   -- a cell is left
   isPut : (x : ℕ) → Fit (storeOf d w) (ringOf d w) → ringOf d w .len < ringOf d w .cap →
-      Move d w back (record { left = x ∷ []; fetched = []; told = []; clears = false }) (putRing (ringOf d w)) (cond (eqb (ringOf d w .len) 0) come (newsOf d w))
-      (putBytes (storeOf d w) (ringOf d w) x)
+      Move d w back (record { left = x ∷ []; fetched = []; told = []; clears = false }) (putRing (ringOf d w))
+      (cond (eqb (ringOf d w .len) 0) come (newsOf d w)) (putBytes (storeOf d w) (ringOf d w) x)
   -- the oldest is fetched
   isFetched : Fit (storeOf d w) (ringOf d w) → (ringOf d w .len ≡ 0 → ⊥) →
-      Move d w back (record { left = []; fetched = counted (getD (held (storeOf d w) (ringOf d w)) 0 0) ∷ []; told = []; clears = false }) (dropRing (ringOf d w) 1)
-      (cond (eqb (ringOf d w .len) 1) noNews (newsOf d w)) (storeOf d w)
+      Move d w back (record { left = []; fetched = counted (getD (held (storeOf d w) (ringOf d w)) 0 0) ∷ []; told = []; clears = false })
+      (dropRing (ringOf d w) 1) (cond (eqb (ringOf d w .len) 1) noNews (newsOf d w)) (storeOf d w)
   -- it is cleared
   isEmptied : (cap : ℕ) → Move d w back (record { left = []; fetched = []; told = []; clears = true }) (emptyRing cap) noNews (storeOf d w)
   -- the status byte of the side that fetches is given
@@ -49,7 +49,8 @@ pub data Move (d : Direction) (w : World) (back : Bool) : Sight → Ring → New
       (newsOf d w .available ≡ false → n .available ≡ false) → Move d w back nothing (ringOf d w) n (storeOf d w)
 
 -- a move by what is seen, part by part
-pub by-sight : (d : Direction) (w : World) {back : Bool} (p q : Sight) (r : Ring) (n : News) (s : List ℕ) → p .left ≡ q .left → p .fetched ≡ q .fetched → p .told ≡ q .told →
+pub by-sight : (d : Direction) (w : World) {back : Bool} (p q : Sight) (r : Ring) (n : News) (s : List ℕ) →
+    p .left ≡ q .left → p .fetched ≡ q .fetched → p .told ≡ q .told →
     p .clears ≡ q .clears → Move d w back q r n s → Move d w back p r n s
 by-sight d w {back} p q r n s el ef et ec m =
     subst (λ (x : Sight). Move d w back x r n s) (sym (λ i. record { left = el i; fetched = ef i; told = et i; clears = ec i })) m

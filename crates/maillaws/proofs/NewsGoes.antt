@@ -76,7 +76,15 @@ module _ (d : Direction) (w : World) (b : Bool) where
   told-so x r n s (isEmptied cap) =
       record { begins = no; asked = no; spent = no; kept = no; cleared = λ e. refl; back = λ a e m. refl; stays = λ a t c e u. absurd (true≢false e) }
   told-so x r n s (isAsked g m q p) =
-      record { begins = no; asked = λ e. p; spent = no; kept = no; cleared = no; back = λ a e z. p ∙ none-told d was z; stays = λ a t c e u. absurd (true≢false t) }
+      record {
+        begins = no;
+        asked = λ e. p;
+        spent = no;
+        kept = no;
+        cleared = no;
+        back = λ a e z. p ∙ none-told d was z;
+        stays = λ a t c e u. absurd (true≢false t);
+      }
   told-so x r n s (isReturned m q p z) =
       record { begins = no; asked = no; spent = no; kept = no; cleared = no; back = λ a e y. z y; stays = λ a t c e u. p u }
 

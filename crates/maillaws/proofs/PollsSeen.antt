@@ -98,7 +98,8 @@ module _ (w : World) (f : ℕ) (e : firstRefusal (checks (on (loopFrame f)) w) �
       ap (λ (o : Outcome). said (o .answer)) is-identify
       ∙ out-right (w .state .toloop .news .request) (controlOf f) (joined (w .state .response) (w .state .toloop .news .request) (dataOf f)) high
       (omega (arith, ltb-false 2047 f (frame-fitting f w e .1 .0)))
-      (joined-small (w .state .response) (w .state .toloop .news .request) (dataOf f) (loop-line (w .state) (w .tobus) (w .toloop) (frame-fitting f w e .0)) (omega arith))
+      (joined-small (w .state .response) (w .state .toloop .news .request) (dataOf f)
+      (loop-line (w .state) (w .tobus) (w .toloop) (frame-fitting f w e .0)) (omega arith))
       ∙ ap (frame (cond (w .state .toloop .news .request) 7 (controlOf f))) (joined-right (w .state .response) (w .state .toloop .news .request) (dataOf f))
 
 pub identify-told : Obeys (mailbox step) IdentifyTold

@@ -31,7 +31,8 @@ pub record NewsRight (d : Direction) (s : Saw) : Type 0 where
   pub kept : any (of (fetched d) s) ≡ true → any (waits d (s .after)) ≡ true → newsOf d (s .after) .available ≡ newsOf d (s .before) .available
   pub cleared : of (clears d) s ≡ true → newsOf d (s .after) .available ≡ false
   -- a status byte that is back begins nothing
-  pub back : of (comes d) s ≡ false → statusBack d (s .call) (s .before) ≡ true → newsOf d (s .before) .available ≡ false → newsOf d (s .after) .available ≡ false
+  pub back : of (comes d) s ≡ false → statusBack d (s .call) (s .before) ≡ true → newsOf d (s .before) .available ≡ false →
+      newsOf d (s .after) .available ≡ false
   -- and no other call changes it
   pub stays : of (comes d) s ≡ false → any (of (told d) s) ≡ false → any (of (fetched d) s) ≡ false → of (clears d) s ≡ false →
       statusBack d (s .call) (s .before) ≡ false → newsOf d (s .after) .available ≡ newsOf d (s .before) .available

@@ -1,31 +1,31 @@
 //! All sides in step: every answer, the block and both stores, compared after every call.
 
 use crate::desk::Desk;
+use crate::machine::Machine;
 use crate::round::{Round, Step};
-use crate::side::Side;
 
 /// Makes one call on every side, and tells the difference if there is one.
-fn same(desks: &mut [Desk; 3], step: &Step) -> Result<(), String> {
+fn same<M: Machine>(desks: &mut [Desk<M>], step: &Step<M::Call>) -> Result<(), String> {
     let call = step.call;
-    let [archive, model, peer] = desks;
-    let answers = [archive.call(call), model.call(call), peer.call(call)];
-    if answers != [step.answer; 3] {
+    let answers: Vec<u64> = desks.iter_mut().map(|desk| desk.call(call)).collect();
+    if answers.iter().any(|&answer| answer != step.answer) {
         return Err(format!("{call:?}: the answers are {answers:x?}"));
     }
-    if archive.bytes() != model.bytes() || archive.bytes() != peer.bytes() {
+    if desks.iter().any(|desk| !desk.same(&desks[0])) {
         return Err(format!("{call:?}: the blocks or stores differ"));
     }
     Ok(())
 }
 
 /// Makes the set-up and the rounds on every side, and gives how many calls were compared.
-pub fn calls(
-    sides: [Side; 3],
+pub fn calls<M: Machine>(
+    sides: Vec<M::Side>,
     store: usize,
-    round: &Round,
+    round: &Round<M::Call>,
     rounds: usize,
 ) -> Result<usize, String> {
-    let mut desks = sides.map(|side| Desk::new(side, store));
+    let desks = sides.into_iter().map(|side| Desk::new(side, store));
+    let mut desks: Vec<Desk<M>> = desks.collect();
     for step in &round.set_up {
         same(&mut desks, step)?;
     }
@@ -40,34 +40,56 @@ pub fn calls(
 #[cfg(test)]
 mod tests {
     use super::*;
+    use crate::bridge::{self, Bridge};
+    use crate::mailbox::{self, Mailbox};
     use crate::round::written_down;
-    use crate::side::{ARCHIVE, IDLE, MODEL, PEER};
-    use crate::works::Work;
 
-    /// What is compared for the meter with this side as the third.
-    fn beside(side: Side) -> Result<usize, String> {
-        let round = written_down(Work::Meter, 64);
-        calls([ARCHIVE, MODEL, side], 64, &round, 3)
+    /// What is compared for the first work of a machine with this side beside its own.
+    fn beside<M: Machine>(side: M::Side) -> Result<usize, String> {
+        let round = written_down::<M>(M::WORKS[0].1, 64);
+        let mut sides = M::answering();
+        sides.push(side);
+        calls::<M>(sides, 64, &round, 3)
     }
 
     #[test]
-    fn a_side_that_differs_is_found() {
-        assert!(beside(PEER).is_ok());
+    fn a_bridge_that_differs_is_found() {
+        let (peer, idle) = (bridge::peer::SIDE, bridge::IDLE);
+        assert!(beside::<Bridge>(peer).is_ok());
         // A line byte is answered as it should be, and is not stored.
-        let quiet = Side {
-            line_byte: IDLE.line_byte,
-            ..PEER
+        let quiet = bridge::Side {
+            line_byte: idle.line_byte,
+            ..peer
         };
-        let told = beside(quiet).expect_err("a byte is missing");
+        let told = beside::<Bridge>(quiet).expect_err("a byte is missing");
         assert_eq!(told, "LineByte(50): the blocks or stores differ");
-        let mute = Side {
-            loop_frame: IDLE.loop_frame,
-            ..PEER
+        let mute = bridge::Side {
+            loop_frame: idle.loop_frame,
+            ..peer
         };
-        let told = beside(mute).expect_err("a frame is missing");
+        let told = beside::<Bridge>(mute).expect_err("a frame is missing");
         assert!(
             told.starts_with("LoopFrame(1409): the answers are"),
             "{told}"
         );
+    }
+
+    #[test]
+    fn a_mailbox_that_differs_is_found() {
+        let (model, idle) = (mailbox::model::SIDE, mailbox::IDLE);
+        assert!(beside::<Mailbox>(model).is_ok());
+        // A command is answered as it should be, and is not heeded.
+        let deaf = mailbox::Side {
+            bus_command: idle.bus_command,
+            ..model
+        };
+        let told = beside::<Mailbox>(deaf).expect_err("a command is missing");
+        assert_eq!(told, "Command(71): the blocks or stores differ");
+        let mute = mailbox::Side {
+            bus_fetch: idle.bus_fetch,
+            ..model
+        };
+        let told = beside::<Mailbox>(mute).expect_err("a byte is missing");
+        assert!(told.starts_with("Fetch: the answers are"), "{told}");
     }
 }

@@ -1,30 +1,15 @@
 //! How deep a call goes: it runs on a painted stack of its own, and the lowest word that is not
 //! paint any more tells.
 
-use crate::call::Call;
 use crate::desk::Desk;
+use crate::machine::Machine;
 use crate::round;
-use crate::side::Side;
-use crate::works::Work;
 use std::arch::asm;
 
 /// The words of a painted stack: far more than any call needs.
 const WORDS: usize = 8192;
 /// A word that no call writes by chance.
 const PAINT: u64 = 0xA5C3_5A3C_96E1_690F;
-
-/// The calls that no work makes, and frames of the other kinds.
-const OTHERS: [Call; 9] = [
-    Call::Create(8),
-    Call::WriteRegister(11, 8),
-    Call::Break,
-    Call::LineByte(17),
-    Call::Show(0),
-    Call::Show(1),
-    Call::LoopFrame(4 << 8 | 20),
-    Call::LoopFrame(6 << 8),
-    Call::Reset,
-];
 
 /// Two words where C wants the top of its stack: at a multiple of 16 bytes.
 #[derive(Clone, Copy)]
@@ -86,7 +71,7 @@ unsafe fn call_on(top: *mut Pair, function: usize, numbers: &[u64; 8]) {
 
 /// Makes a call on a painted stack. Gives the bytes it used below the numbers that C passes on the
 /// stack: its return address, where that stands on the stack, and everything under it.
-fn used(desk: &mut Desk, call: Call) -> usize {
+fn used<M: Machine>(desk: &mut Desk<M>, call: M::Call) -> usize {
     let (function, numbers) = desk.passed(call);
     let mut stack = vec![Pair([PAINT; 2]); WORDS / 2];
     let top = stack.len() - 1;
@@ -100,14 +85,15 @@ fn used(desk: &mut Desk, call: Call) -> usize {
 
 /// The most bytes of stack that a call of a side uses, over a round of every work and all other
 /// calls, and the call that used them.
-pub fn deepest(side: Side) -> (usize, Option<Call>) {
+pub fn deepest<M: Machine>(side: M::Side) -> (usize, Option<M::Call>) {
     let store = 64;
     let mut deepest = (0, None);
-    for work in [Work::Meter, Work::Print, Work::Status] {
-        let round = round::written_down(work, store);
-        let mut desk = Desk::new(side, store);
+    for (_, work) in M::WORKS {
+        let round = round::written_down::<M>(*work, store);
+        let mut desk = Desk::<M>::new(side, store);
         let steps = round.set_up.iter().chain(&round.steps);
-        for call in steps.map(|step| step.call).chain(OTHERS) {
+        let others = M::OTHERS.iter().copied();
+        for call in steps.map(|step| step.call).chain(others) {
             let bytes = used(&mut desk, call);
             if bytes > deepest.0 {
                 deepest = (bytes, Some(call));

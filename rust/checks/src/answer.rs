@@ -1,13 +1,19 @@
 //! Answers written by hand, and answers in words.
 
+use mailbox_model::boundary::LINES;
 use model::boundary::{self, kind, value};
 
 pub const DONE: u64 = boundary::DONE << 16;
 pub const NONE: u64 = boundary::NONE << 16;
 
-/// A line byte.
+/// A line byte, or a byte for the bus without the end mark.
 pub const fn byte(byte: u8) -> u64 {
     boundary::BYTE << 16 | byte as u64
+}
+
+/// A byte for the bus with the end mark.
+pub const fn end(end: u8) -> u64 {
+    byte(end) | 256
 }
 
 /// A frame, written "control,data".
@@ -20,15 +26,52 @@ pub const fn refused(number: u64) -> u64 {
     boundary::REFUSED << 16 | number
 }
 
+/// The bus lines: whether SRQ is on, and the answer to a parallel poll.
+pub const fn lines(srq: bool, poll: u8) -> u64 {
+    LINES << 16 | (srq as u64) << 8 | poll as u64
+}
+
 /// An answer in words; with a reserved bit set the bare number, because whole numbers are compared.
 pub fn in_words(answer: u64) -> String {
     let value = value(answer);
     match (answer >> 24, kind(answer)) {
         (0, boundary::DONE) if value == 0 => "done".into(),
         (0, boundary::NONE) if value == 0 => "none".into(),
-        (0, boundary::BYTE) => format!("byte {value}"),
+        (0, boundary::BYTE) if value < 256 => format!("byte {value}"),
+        (0, boundary::BYTE) if value < 512 => format!("byte {} with the end mark", value & 255),
         (0, boundary::FRAME) => format!("frame {}", script::FrameName(value as u32)),
         (0, boundary::REFUSED) => format!("refused {value}"),
+        (0, LINES) if value < 256 => format!("poll lines {value}, no SRQ"),
+        (0, LINES) if value < 512 => format!("poll lines {}, SRQ", value & 255),
         _ => format!("{answer:#x}"),
+    }
+}
+
+#[cfg(test)]
+mod tests {
+    use super::*;
+
+    #[test]
+    fn each_answer_has_its_own_words() {
+        let answers = [
+            DONE,
+            NONE,
+            byte(7),
+            end(7),
+            framed(5, 64),
+            refused(13),
+            lines(false, 4),
+            lines(true, 4),
+            byte(7) | 1 << 24,
+            byte(7) | 1 << 9,
+            DONE | 1,
+            6 << 16,
+        ];
+        let words = answers.map(in_words);
+        for (i, one) in words.iter().enumerate() {
+            assert!(words[..i].iter().all(|other| other != one), "{one}");
+        }
+        assert_eq!(words[3], "byte 7 with the end mark");
+        assert_eq!(words[7], "poll lines 4, SRQ");
     }
 }

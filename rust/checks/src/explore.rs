@@ -1,148 +1,153 @@
 //! Every state that an alphabet of calls can reach on tiny stores, the shortest path first.
 
 use crate::answer::in_words;
-use crate::call::Call;
-use crate::implementation::Implementation;
+use crate::implementation::Both;
 use crate::lent::Lent;
-use crate::seen::{seen, Seen};
-use crate::watch::Watch;
+use crate::machine::{Machine, Made, Watcher};
+use crate::tally::Tally;
 use crate::written::{told, Written};
-use model::boundary::{kind, value, REFUSED};
-use model::{block, Bridge};
+use model::boundary::{kind, REFUSED};
 use std::collections::{HashSet, VecDeque};
 use std::fmt;
 
 /// A call, or a frame that depends on the one under way.
 #[derive(Clone, Copy, Debug)]
-pub enum Letter {
-    Make(Call),
+pub enum Letter<C> {
+    Make(C),
     /// The frame under way with these bits changed: 0 is its correct return.
     Back(u16),
 }
 
 /// What to explore.
-pub struct Plan<'a> {
+pub struct Plan<'a, M: Machine> {
     /// The two that are compared.
-    pub both: [Implementation; 2],
-    pub rx_len: usize,
-    pub tx_len: usize,
-    pub margin: u32,
+    pub both: Both<M>,
+    pub lens: [usize; 2],
+    /// The number that create takes.
+    pub number: u32,
     /// Calls from create to the first state; none of them is refused.
-    pub start: &'a [Call],
-    pub letters: &'a [Letter],
+    pub start: &'a [M::Call],
+    pub letters: &'a [Letter<M::Call>],
     /// No state is taken up any more once so many transitions are made.
     pub limit: usize,
 }
 
 /// What was met, so that a reader sees that nothing was empty.
-#[derive(Default)]
-pub struct Found {
+pub struct Found<M: Machine> {
     pub states: usize,
-    pub transitions: usize,
     /// Whether every state that can be reached was reached.
     pub complete: bool,
-    pub sent: usize,
-    pub lost: usize,
-    pub added: usize,
-    pub status_back: usize,
-    pub status_gone: usize,
-    /// By number.
-    pub refused: [usize; 9],
+    /// Of all transitions.
+    pub tally: Tally<M>,
 }
 
-/// Room for a block and both stores.
-const ROOM: usize = block::LEN + 9;
-/// The three counts. They would make every state new, so they are 0 in all
-/// states that are taken up; each transition is held to what it adds to them.
-const COUNTS: std::ops::Range<usize> = 15..27;
+/// Room for a block.
+const BLOCK: usize = 56;
+/// Room for a store.
+const CELLS: usize = 6;
 
-/// A state: block and stores in one piece, and what the watcher of a run that led here knows.
+/// Block and stores.
 #[derive(Clone, Copy, PartialEq, Eq, Hash)]
-struct Node {
-    bytes: [u8; ROOM],
-    watch: Watch,
+struct Lasting<C> {
+    block: [u8; BLOCK],
+    stores: [[C; CELLS]; 2],
 }
 
-struct Search<'a> {
-    plan: &'a Plan<'a>,
-    known: HashSet<Node>,
-    queue: VecDeque<(Node, usize)>,
-    /// For every state the one it was reached from, and by which call.
-    paths: Vec<(usize, Call)>,
-    found: Found,
+/// A state, and what the watcher of a run that led here knows.
+#[derive(Clone, Copy, PartialEq, Eq, Hash)]
+struct Node<M: Machine> {
+    lasting: Lasting<M::Cell>,
+    watch: M::Watch,
 }
 
-/// Explores by a plan. A difference or a broken demand is told with the shortest script to it.
-pub fn explore(plan: &Plan) -> Result<Found, String> {
+struct Search<'a, M: Machine> {
+    plan: &'a Plan<'a, M>,
+    known: HashSet<Node<M>>,
+    queue: VecDeque<(Node<M>, usize)>,
+    /// For every state but the first the one it was reached from, and by which call.
+    paths: Vec<(usize, M::Call)>,
+    tally: Tally<M>,
+}
+
+/// Explores by a plan. A difference or a broken law is told with the shortest script to it.
+pub fn explore<M: Machine>(plan: &Plan<M>) -> Result<Found<M>, String> {
     let first = plan.first();
     let mut search = Search {
         plan,
         known: HashSet::from([first]),
         queue: VecDeque::from([(first, 0)]),
-        paths: vec![(0, Call::Next)],
-        found: Found::default(),
+        paths: Vec::new(),
+        tally: Tally::default(),
     };
     while let Some((node, number)) = search.queue.pop_front() {
-        if search.found.transitions >= plan.limit {
+        if search.tally.calls >= plan.limit {
             search.queue.push_front((node, number));
             break;
         }
         search.take_up(&node, number)?;
     }
-    search.found.states = search.known.len();
-    search.found.complete = search.queue.is_empty();
-    Ok(search.found)
+    Ok(Found {
+        states: search.known.len(),
+        complete: search.queue.is_empty(),
+        tally: search.tally,
+    })
 }
 
-impl Search<'_> {
+impl<M: Machine> Search<'_, M> {
     /// Makes every call of the alphabet on a state.
-    fn take_up(&mut self, node: &Node, number: usize) -> Result<(), String> {
-        let before = state(&node.bytes);
+    fn take_up(&mut self, node: &Node<M>, number: usize) -> Result<(), String> {
+        let before = self.plan.state(&node.lasting);
         for letter in self.plan.letters {
             let call = match *letter {
-                Letter::Make(call) => call,
-                Letter::Back(change) => Call::Frame((before.under_way ^ change).into()),
+                Letter::Make(call) => Some(call),
+                Letter::Back(change) => M::back(&before, change),
+            };
+            let call = match call {
+                Some(call) => call,
+                None => continue,
             };
             let step = self.plan.step(node, &before, call);
-            let (next, answer, event) =
+            let (next, answer, rows) =
                 step.map_err(|finding| told(&finding, &self.script(number, call)))?;
-            self.found.note(call, answer, event);
+            self.tally.note(call, answer, rows);
             if self.known.insert(next) {
-                self.queue.push_back((next, self.paths.len()));
                 self.paths.push((number, call));
+                self.queue.push_back((next, self.paths.len()));
             }
         }
         Ok(())
     }
 
     /// The script that leads to a state, and then this call.
-    fn script(&self, mut number: usize, last: Call) -> Written {
+    fn script(&self, mut number: usize, last: M::Call) -> Written<M> {
         let mut calls = vec![last];
         while number != 0 {
-            calls.push(self.paths[number].1);
-            number = self.paths[number].0;
+            calls.push(self.paths[number - 1].1);
+            number = self.paths[number - 1].0;
         }
         calls.extend(self.plan.start.iter().rev());
-        let plan = self.plan;
-        let mut script = Written::created(plan.rx_len, plan.tx_len, plan.margin);
+        let mut script = Written::created(self.plan.lens, self.plan.number);
         calls.iter().rev().for_each(|&call| script.add(call));
         script
     }
 }
 
-impl Plan<'_> {
+impl<M: Machine> Plan<'_, M> {
     /// The state at which the exploration starts.
-    fn first(&self) -> Node {
-        let mut bytes = [0; ROOM];
-        let mut same = bytes;
+    fn first(&self) -> Node<M> {
+        let mut lasting = Lasting {
+            block: [0; BLOCK],
+            stores: [[M::Cell::default(); CELLS]; 2],
+        };
+        let mut same = lasting;
         let [ours, theirs] = self.both;
-        let created = (ours.create)(self.lend(&mut bytes), self.margin);
-        assert_eq!(created, (theirs.create)(self.lend(&mut same), self.margin));
-        assert!(created == 0 && bytes == same, "create: {created:#x}");
-        let watch = Watch::starting(&state(&bytes));
-        let mut node = Node { bytes, watch };
+        let created = (ours.create)(self.lend(&mut lasting), self.number);
+        assert_eq!(created, (theirs.create)(self.lend(&mut same), self.number));
+        assert!(created == 0 && lasting == same, "create: {created:#x}");
+        let watch = M::Watch::starting(&self.state(&lasting), self.stores(&lasting));
+        let mut node = Node { lasting, watch };
         for &call in self.start {
-            let step = self.step(&node, &state(&node.bytes), call);
+            let step = self.step(&node, &self.state(&node.lasting), call);
             let (next, answer, _) = step.unwrap_or_else(|finding| panic!("{call}: {finding}"));
             assert_ne!(kind(answer), REFUSED, "{call}");
             node = next;
@@ -150,80 +155,87 @@ impl Plan<'_> {
         node
     }
 
-    /// The block and the stores in these bytes.
-    fn lend<'b>(&self, bytes: &'b mut [u8; ROOM]) -> Lent<'b> {
-        let (block, rest) = bytes.split_at_mut(block::LEN);
-        let (rx, rest) = rest.split_at_mut(self.rx_len);
-        let tx = &mut rest[..self.tx_len];
-        Lent { block, rx, tx }
+    /// The buffers that stand here.
+    fn lend<'b>(&self, lasting: &'b mut Lasting<M::Cell>) -> Lent<'b, M::Cell> {
+        let [one, other] = &mut lasting.stores;
+        Lent {
+            block: &mut lasting.block[..M::BLOCK_LEN],
+            stores: [&mut one[..self.lens[0]], &mut other[..self.lens[1]]],
+        }
+    }
+
+    fn stores<'b>(&self, lasting: &'b Lasting<M::Cell>) -> [&'b [M::Cell]; 2] {
+        let [one, other] = &lasting.stores;
+        [&one[..self.lens[0]], &other[..self.lens[1]]]
+    }
+
+    /// The state that stands here: calls leave nothing else.
+    fn state(&self, lasting: &Lasting<M::Cell>) -> M::State {
+        M::state(&lasting.block[..M::BLOCK_LEN]).expect("a call leaves a state")
     }
 
     /// One transition: both compared, then what they did held to the history.
-    fn step(&self, node: &Node, before: &Bridge, call: Call) -> Result<(Node, u64, Seen), String> {
-        let (mut next, mut same) = (*node, node.bytes);
+    fn step(
+        &self,
+        node: &Node<M>,
+        before: &M::State,
+        call: M::Call,
+    ) -> Result<(Node<M>, u64, u32), String> {
+        let (mut next, mut same) = (*node, node.lasting);
         let [ours, theirs] = self.both;
-        let answer = (ours.call)(self.lend(&mut next.bytes), call);
+        let answer = (ours.call)(self.lend(&mut next.lasting), call);
         let second = (theirs.call)(self.lend(&mut same), call);
         let (one, other) = (ours.name, theirs.name);
         if answer != second {
             let (ours, theirs) = (in_words(answer), in_words(second));
             return Err(format!("{one} {ours}, {other} {theirs}"));
         }
-        if let Some(place) = (0..ROOM).find(|&i| next.bytes[i] != same[i]) {
-            let (ours, theirs) = (next.bytes[place], same[place]);
-            return Err(format!("place {place}: {one} {ours}, {other} {theirs}"));
+        if next.lasting != same {
+            let place = next.lasting.first_difference::<M>(&same);
+            return Err(format!("{one} and {other} differ: {place}"));
         }
-        let shows = matches!(call, Call::Show(_));
-        if (shows || kind(answer) == REFUSED) && next.bytes != node.bytes {
+        let quiet = M::shows(call) || kind(answer) == REFUSED;
+        if quiet && next.lasting != node.lasting {
             return Err("refused or shown, yet changed".into());
         }
-        let event = seen(before, call, answer);
-        let stores = next.bytes[block::LEN..].split_at(self.rx_len);
-        let stores = (stores.0, &stores.1[..self.tx_len]);
-        next.watch
-            .note(before, event, &state(&next.bytes), stores)?;
-        if let Call::Show(side) = call {
-            next.watch.shown(side, answer, stores)?;
-        }
-        next.bytes[COUNTS].fill(0);
-        Ok((next, answer, event))
+        let rows = next.watch.note(&Made {
+            before,
+            call,
+            answer,
+            after: &self.state(&next.lasting),
+            stores: self.stores(&next.lasting),
+        })?;
+        M::forget_counts(&mut next.lasting.block[..M::BLOCK_LEN]);
+        Ok((next, answer, rows))
     }
 }
 
-/// The state in the bytes of a node: calls leave nothing else there.
-fn state(bytes: &[u8; ROOM]) -> Bridge {
-    block::unpack(&bytes[..block::LEN]).expect("a call leaves a state")
-}
-
-impl Found {
-    fn note(&mut self, call: Call, answer: u64, event: Seen) {
-        self.transitions += 1;
-        match event {
-            Seen::Sent(_) => self.sent += 1,
-            Seen::Lost => self.lost += 1,
-            Seen::Added(..) => self.added += 1,
-            Seen::StatusBack => self.status_back += 1,
-            Seen::StatusGone => self.status_gone += 1,
-            _ => {}
+impl<C: PartialEq + fmt::Display> Lasting<C> {
+    /// Names the first place that differs.
+    fn first_difference<M: Machine>(&self, other: &Lasting<C>) -> String {
+        if let Some(place) = (0..BLOCK).find(|&i| self.block[i] != other.block[i]) {
+            let (ours, theirs) = (self.block[place], other.block[place]);
+            return format!("block place {place}: {ours} and {theirs}");
         }
-        if kind(answer) == REFUSED && !matches!(call, Call::Show(_)) {
-            self.refused[value(answer) as usize] += 1;
+        let places = (0..2).flat_map(|store| (0..CELLS).map(move |place| (store, place)));
+        let mut pairs = places.map(|(s, i)| (s, i, &self.stores[s][i], &other.stores[s][i]));
+        match pairs.find(|(_, _, ours, theirs)| ours != theirs) {
+            Some((store, place, ours, theirs)) => {
+                format!("{} place {place}: {ours} and {theirs}", M::STORES[store])
+            }
+            None => "nothing".into(),
         }
     }
 }
 
-impl fmt::Display for Found {
+impl<M: Machine> fmt::Display for Found<M> {
     fn fmt(&self, f: &mut fmt::Formatter) -> fmt::Result {
-        let (sent, lost, added) = (self.sent, self.lost, self.added);
-        let (back, gone) = (self.status_back, self.status_gone);
-        write!(
+        let (states, transitions) = (self.states, self.tally.calls);
+        let reached = if self.complete { "all" } else { "first" };
+        writeln!(
             f,
-            "{sent} frames sent, {lost} bytes lost, {added} frames kept for the line, "
+            "{reached} {states} states, {transitions} transitions compared"
         )?;
-        write!(f, "{back} status bytes back, {gone} damaged or forgotten")?;
-        for (number, count) in self.refused.iter().enumerate().filter(|row| *row.1 > 0) {
-            write!(f, ", refused {number}: {count}")?;
-        }
-        Ok(())
+        write!(f, "{}", self.tally)
     }
 }

@@ -1,78 +1,104 @@
-//! The three buffers that a caller lends, in one piece of memory with guards around each.
+//! The three buffers that a caller lends, with guards around each.
+
+use crate::machine::Cell;
 
 /// The three buffers of one call.
-pub struct Lent<'a> {
+pub struct Lent<'a, C> {
     pub block: &'a mut [u8],
-    pub rx: &'a mut [u8],
-    pub tx: &'a mut [u8],
+    pub stores: [&'a mut [C]; 2],
 }
 
-/// Bytes before, between and after the buffers, which no call may write.
-const GUARD: usize = 16;
-const GUARD_BYTE: u8 = 0xa5;
-
-/// Owns three buffers; two are equal if all bytes are, the guards too.
-#[derive(Clone, Debug, PartialEq, Eq)]
-pub struct Buffers {
-    bytes: Vec<u8>,
-    lengths: [usize; 3],
-}
-
-impl Buffers {
-    /// Buffers that hold these bytes.
-    pub fn holding(block: &[u8], rx: &[u8], tx: &[u8]) -> Buffers {
-        let mut bytes = vec![GUARD_BYTE; GUARD];
-        for part in [block, rx, tx] {
-            bytes.extend_from_slice(part);
-            bytes.extend_from_slice(&[GUARD_BYTE; GUARD]);
+impl<C> Lent<'_, C> {
+    /// The same buffers once more.
+    pub fn again(&mut self) -> Lent<'_, C> {
+        let [one, other] = &mut self.stores;
+        Lent {
+            block: self.block,
+            stores: [one, other],
         }
-        let lengths = [block.len(), rx.len(), tx.len()];
-        Buffers { bytes, lengths }
+    }
+}
+
+/// Cells before and after each buffer, which no call may write.
+const GUARD: usize = 16;
+
+/// A buffer between its guards.
+#[derive(Clone, Debug, PartialEq, Eq)]
+struct Guarded<C>(Vec<C>);
+
+impl<C: Cell> Guarded<C> {
+    fn holding(cells: &[C]) -> Guarded<C> {
+        let guard = [C::GUARD; GUARD];
+        Guarded([&guard, cells, &guard].concat())
+    }
+
+    fn cells(&self) -> &[C] {
+        &self.0[GUARD..self.0.len() - GUARD]
+    }
+
+    fn lend(&mut self) -> &mut [C] {
+        let end = self.0.len() - GUARD;
+        &mut self.0[GUARD..end]
+    }
+
+    /// Names the first place that differs from another of the same length, if there is one.
+    fn first_difference(&self, name: &str, other: &Guarded<C>) -> Option<String> {
+        let (ours, theirs) = (self.cells(), other.cells());
+        match (0..ours.len()).find(|&i| ours[i] != theirs[i]) {
+            Some(place) => {
+                let (one, other) = (ours[place], theirs[place]);
+                Some(format!("{name} place {place}: {one} and {other}"))
+            }
+            None => (self != other).then(|| format!("a place outside of the {name}")),
+        }
+    }
+}
+
+/// Owns three buffers; two are equal if all places are, the guards too.
+#[derive(Clone, Debug, PartialEq, Eq)]
+pub struct Buffers<C: Cell> {
+    block: Guarded<u8>,
+    stores: [Guarded<C>; 2],
+}
+
+impl<C: Cell> Buffers<C> {
+    /// Buffers that hold these.
+    pub fn holding(block: &[u8], stores: [&[C]; 2]) -> Buffers<C> {
+        Buffers {
+            block: Guarded::holding(block),
+            stores: stores.map(Guarded::holding),
+        }
     }
 
     /// The buffers as a call takes them.
-    pub fn lend(&mut self) -> Lent<'_> {
-        let [block_len, rx_len, tx_len] = self.lengths;
-        let (block, rest) = self.bytes[GUARD..].split_at_mut(block_len);
-        let (rx, rest) = rest[GUARD..].split_at_mut(rx_len);
-        let tx = &mut rest[GUARD..GUARD + tx_len];
-        Lent { block, rx, tx }
+    pub fn lend(&mut self) -> Lent<'_, C> {
+        let [one, other] = &mut self.stores;
+        Lent {
+            block: self.block.lend(),
+            stores: [one.lend(), other.lend()],
+        }
     }
 
     pub fn block(&self) -> &[u8] {
-        self.part(0)
+        self.block.cells()
     }
 
-    pub fn rx(&self) -> &[u8] {
-        self.part(1)
+    pub fn stores(&self) -> [&[C]; 2] {
+        let [one, other] = &self.stores;
+        [one.cells(), other.cells()]
     }
 
-    pub fn tx(&self) -> &[u8] {
-        self.part(2)
-    }
-
-    fn part(&self, index: usize) -> &[u8] {
-        let before: usize = self.lengths[..index].iter().sum();
-        let start = GUARD * (index + 1) + before;
-        &self.bytes[start..start + self.lengths[index]]
-    }
-
-    /// Names the first byte that differs from others with the same lengths.
-    pub fn first_difference(&self, others: &Buffers) -> Option<String> {
+    /// Names the first place that differs from others with the same lengths. The stores have these
+    /// names.
+    pub fn first_difference(&self, others: &Buffers<C>, names: [&str; 2]) -> Option<String> {
         if self == others {
             return None;
         }
-        let parts = [
-            ("block", self.block(), others.block()),
-            ("receive store", self.rx(), others.rx()),
-            ("transmit store", self.tx(), others.tx()),
-        ];
-        for (name, ours, theirs) in parts {
-            if let Some(place) = (0..ours.len()).find(|&i| ours[i] != theirs[i]) {
-                let (one, other) = (ours[place], theirs[place]);
-                return Some(format!("{name} place {place}: {one} and {other}"));
-            }
-        }
-        Some("a byte outside of the buffers".into())
+        let [one, other] = &self.stores;
+        let [their_one, their_other] = &others.stores;
+        let block = self.block.first_difference("block", &others.block);
+        block
+            .or_else(|| one.first_difference(names[0], their_one))
+            .or_else(|| other.first_difference(names[1], their_other))
     }
 }

@@ -1,31 +1,29 @@
-//! What the tests share: the archive's C functions and the model, side by side on equal buffers,
-//! draws at random, a watcher that holds both to demand 3 by history of its own, and the history of
-//! a line that holds the crate's meter to the readings that it was.
+//! What the tests share: two implementations of a machine side by side on equal buffers, draws at
+//! random, watchers that hold both to the laws by history of their own, and the history of a line
+//! that holds the crate's meter to the readings that it was.
 //!
-//! The tests are in the folder `tests`, each with a word at its top; all print what they counted:
-//! `cargo test -p raftershim-checks -- --nocapture`.
-
-#[macro_use]
-mod behind;
+//! A machine is the bridge or the mailbox. What is said of any machine stands here, what one of them
+//! is in its own folder. The tests are in the folder `tests`, each with a word at its top; all print
+//! what they counted: `cargo test -p raftershim-checks -- --nocapture`.
 
 pub mod answer;
-pub mod archive;
-pub mod call;
+pub mod bridge;
+pub mod damage;
+pub mod draw;
+pub mod drive;
+pub mod edges;
 pub mod explore;
-pub mod history;
+pub mod few;
 pub mod implementation;
 pub mod lent;
+pub mod machine;
+pub mod mailbox;
 pub mod pair;
+pub mod part;
 pub mod planted;
 pub mod played;
-pub mod promises;
 pub mod random;
-pub mod rule;
-pub mod run;
-pub mod second;
-pub mod seen;
+pub mod runs;
 pub mod shrink;
-pub mod third;
-pub mod told;
-pub mod watch;
+pub mod tally;
 pub mod written;

@@ -1,72 +1,72 @@
 //! Two implementations side by side, compared after every call.
 
 use crate::answer::in_words;
-use crate::call::Call;
-use crate::implementation::{Implementation, BOTH};
+use crate::implementation::{Both, Implementation};
 use crate::lent::Buffers;
+use crate::machine::Machine;
 use crate::written::{told, Written};
 use model::boundary::{kind, REFUSED};
-use model::{block, Bridge};
 
 /// Two implementations on equal buffers, and what they were asked.
-pub struct Pair {
-    ours: Implementation,
-    theirs: Implementation,
-    our_buffers: Buffers,
-    their_buffers: Buffers,
+pub struct Pair<M: Machine> {
+    ours: Implementation<M>,
+    theirs: Implementation<M>,
+    our_buffers: Buffers<M::Cell>,
+    their_buffers: Buffers<M::Cell>,
     /// What they were asked so far.
-    written: Written,
+    written: Written<M>,
 }
 
-impl Pair {
+impl<M: Machine> Pair<M> {
     /// Fresh stores of these lengths and a state created for them, by archive and model.
-    pub fn create(rx_len: usize, tx_len: usize, margin: u32) -> Pair {
-        Pair::created(BOTH, rx_len, tx_len, margin)
+    pub fn create(one: usize, other: usize, number: u32) -> Pair<M> {
+        Pair::created(M::BOTH, [one, other], number)
     }
 
     /// As `create`, by these two implementations.
-    pub fn created(both: [Implementation; 2], rx_len: usize, tx_len: usize, margin: u32) -> Pair {
-        let blank = [0; block::LEN];
-        let mut pair = Pair::of(both, &blank, &vec![0; rx_len], &vec![0; tx_len]);
-        pair.written = Written::created(rx_len, tx_len, margin);
-        let created = pair.recreate(margin);
+    pub fn created(both: Both<M>, lens: [usize; 2], number: u32) -> Pair<M> {
+        let stores = lens.map(|len| vec![M::Cell::default(); len]);
+        let blank = vec![0; M::BLOCK_LEN];
+        let mut pair = Pair::of(both, &blank, [&stores[0], &stores[1]]);
+        pair.written = Written::created(lens, number);
+        let created = pair.recreate(number);
         assert_eq!(created, Ok(0), "the sizes are obeyed");
         pair
     }
 
-    /// Archive and model on buffers that hold these bytes, whatever they mean.
-    pub fn holding(block: &[u8], rx: &[u8], tx: &[u8]) -> Pair {
-        Pair::of(BOTH, block, rx, tx)
+    /// Archive and model on buffers that hold these, whatever they mean.
+    pub fn holding(block: &[u8], one: &[M::Cell], other: &[M::Cell]) -> Pair<M> {
+        Pair::of(M::BOTH, block, [one, other])
     }
 
     /// As `holding`, by these two implementations.
-    pub fn of(both: [Implementation; 2], block: &[u8], rx: &[u8], tx: &[u8]) -> Pair {
+    pub fn of(both: Both<M>, block: &[u8], stores: [&[M::Cell]; 2]) -> Pair<M> {
         let [ours, theirs] = both;
-        let buffers = Buffers::holding(block, rx, tx);
+        let buffers = Buffers::holding(block, stores);
         Pair {
             ours,
             theirs,
             our_buffers: buffers.clone(),
             their_buffers: buffers,
-            written: Written::holding(block, rx, tx),
+            written: Written::holding(block, stores),
         }
     }
 
     /// Creates a state in the buffers as they are.
-    pub fn recreate(&mut self, margin: u32) -> Result<u64, String> {
-        let ours = (self.ours.create)(self.our_buffers.lend(), margin);
+    pub fn recreate(&mut self, number: u32) -> Result<u64, String> {
+        let ours = (self.ours.create)(self.our_buffers.lend(), number);
         if kind(ours) == REFUSED {
             self.same_buffers("refused, yet ")?;
         }
-        let theirs = (self.theirs.create)(self.their_buffers.lend(), margin);
+        let theirs = (self.theirs.create)(self.their_buffers.lend(), number);
         self.compared(ours, theirs)
     }
 
     /// Makes a call on both sides: its answer, or a sentence that says what differs.
-    pub fn call(&mut self, call: Call) -> Result<u64, String> {
+    pub fn call(&mut self, call: M::Call) -> Result<u64, String> {
         self.written.add(call);
         let ours = (self.ours.call)(self.our_buffers.lend(), call);
-        if matches!(call, Call::Show(_)) || kind(ours) == REFUSED {
+        if M::shows(call) || kind(ours) == REFUSED {
             // The other is not asked yet, so its buffers are those of before the call.
             self.same_buffers("refused or shown, yet ")?;
         }
@@ -74,15 +74,18 @@ impl Pair {
         self.compared(ours, theirs)
     }
 
+    /// Makes a call of which only the comparison counts.
+    pub fn ask(&mut self, call: M::Call) -> u64 {
+        self.call(call)
+            .unwrap_or_else(|finding| panic!("{finding}"))
+    }
+
     /// Makes a call whose answer was written down beforehand.
-    pub fn expect(&mut self, call: Call, answer: u64) {
-        match self.call(call) {
-            Ok(given) if given == answer => {}
-            Ok(given) => {
-                let finding = format!("{}, not {}", in_words(given), in_words(answer));
-                panic!("{}", self.told(&finding))
-            }
-            Err(finding) => panic!("{finding}"),
+    pub fn expect(&mut self, call: M::Call, answer: u64) {
+        let given = self.ask(call);
+        if given != answer {
+            let finding = format!("{}, not {}", in_words(given), in_words(answer));
+            panic!("{}", self.told(&finding))
         }
     }
 
@@ -98,7 +101,8 @@ impl Pair {
     }
 
     fn same_buffers(&self, sentence: &str) -> Result<(), String> {
-        match self.our_buffers.first_difference(&self.their_buffers) {
+        let theirs = &self.their_buffers;
+        match self.our_buffers.first_difference(theirs, M::STORES) {
             None => Ok(()),
             Some(place) => Err(self.told(&format!("{sentence}{place}"))),
         }
@@ -114,18 +118,18 @@ impl Pair {
         self.written.asked()
     }
 
-    /// The calls so far as a script for replay.
+    /// The calls so far as a script.
     pub fn script(&self) -> String {
         self.written.to_string()
     }
 
     /// The state, if the block is one; both sides have the same.
-    pub fn state(&self) -> Option<Bridge> {
-        block::unpack(self.our_buffers.block())
+    pub fn state(&self) -> Option<M::State> {
+        M::state(self.our_buffers.block())
     }
 
     /// The buffers of the first implementation; those of the other are equal.
-    pub fn buffers(&self) -> &Buffers {
+    pub fn buffers(&self) -> &Buffers<M::Cell> {
         &self.our_buffers
     }
 }

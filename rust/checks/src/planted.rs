@@ -1,79 +1,72 @@
-//! Wrong implementations, each the model with one fault planted: the checks must find every one.
+//! Faults that any machine can have, planted in its model: the checks must find every one.
 
-use crate::call::Call;
-use crate::implementation::{Implementation, MODEL};
+use crate::implementation::Implementation;
 use crate::lent::Lent;
-use crate::second;
+use crate::machine::Machine;
 use model::boundary::{kind, REFUSED};
-use model::{block, Bridge};
 
 /// The model with this way to make calls.
-const fn planted(call: fn(Lent, Call) -> u64) -> Implementation {
+pub const fn planted<M: Machine>(call: fn(Lent<M::Cell>, M::Call) -> u64) -> Implementation<M> {
     Implementation {
         name: "planted",
-        create: MODEL.create,
+        create: M::BOTH[1].create,
         call,
     }
 }
 
-/// A lost byte sets no overrun bit: the fault by which a point was lost unheard.
-pub const SILENT_LOSS: Implementation = planted(|lent, call| {
-    changed(lent, call, |before, after| {
-        if after.lost != before.lost {
-            after.overrun_seen = before.overrun_seen;
-        }
-    })
-});
+/// Makes a call as the model does.
+pub fn right<M: Machine>(lent: Lent<M::Cell>, call: M::Call) -> u64 {
+    (M::BOTH[1].call)(lent, call)
+}
 
-/// The frames sent stop being counted at the largest number, which no run from create reaches.
-pub const STUCK_COUNT: Implementation = planted(|lent, call| {
-    changed(lent, call, |before, after| {
-        if before.sent == u32::MAX && !matches!(call, Call::Reset) {
-            after.sent = before.sent;
-        }
-    })
-});
-
-/// A frame that is refused as busy still ends the remote state.
-pub const REFUSED_YET_CHANGED: Implementation = planted(|lent, call| {
-    let Lent { block, rx, tx } = lent;
-    let answer = second::call(Lent { block, rx, tx }, call);
-    if answer == REFUSED << 16 | 4 && block.len() == block::LEN {
-        block[block::LEN - 1] ^= 1;
+/// A call that is refused as busy still changes this flag of the block.
+pub fn refused_yet_changed<M: Machine, const PLACE: usize>(
+    mut lent: Lent<M::Cell>,
+    call: M::Call,
+) -> u64 {
+    let answer = right::<M>(lent.again(), call);
+    if answer == REFUSED << 16 | 4 && lent.block.len() == M::BLOCK_LEN {
+        lent.block[PLACE] ^= 1;
     }
     answer
-});
+}
 
-/// The last place of the receive store is never written.
-pub const LAST_PLACE_UNWRITTEN: Implementation = planted(|lent, call| {
-    let Lent { block, rx, tx } = lent;
-    let last = rx.last().copied();
-    let answer = second::call(Lent { block, rx, tx }, call);
-    if let (Some(place), Some(byte)) = (rx.last_mut(), last) {
-        *place = byte;
+/// The last place of this store is never written.
+pub fn last_place_unwritten<M: Machine, const STORE: usize>(
+    mut lent: Lent<M::Cell>,
+    call: M::Call,
+) -> u64 {
+    let last = lent.stores[STORE].last().copied();
+    let answer = right::<M>(lent.again(), call);
+    if let (Some(place), Some(cell)) = (lent.stores[STORE].last_mut(), last) {
+        *place = cell;
     }
     answer
-});
+}
 
-/// Blocks of version 0 are taken as ours.
-pub const ANOTHER_VERSION_TAKEN: Implementation = planted(|lent, call| {
-    let Lent { block, rx, tx } = lent;
-    if let Some(version @ 0) = block.first_mut() {
-        *version = block::VERSION;
+/// Blocks of this version are taken as ours.
+pub fn version_taken<M: Machine, const VERSION: u8>(lent: Lent<M::Cell>, call: M::Call) -> u64 {
+    if let Some(version) = lent.block.first_mut() {
+        if *version == VERSION {
+            *version = M::VERSION;
+        }
     }
-    second::call(Lent { block, rx, tx }, call)
-});
+    right::<M>(lent, call)
+}
 
 /// Makes a call as the model does and then changes the state, given the state before the call. A
 /// call that is refused or shows is left alone.
-fn changed(lent: Lent, call: Call, change: impl FnOnce(&Bridge, &mut Bridge)) -> u64 {
-    let Lent { block, rx, tx } = lent;
-    let before = block::unpack(block);
-    let answer = second::call(Lent { block, rx, tx }, call);
-    let quiet = matches!(call, Call::Show(_)) || kind(answer) == REFUSED;
-    if let (Some(before), Some(mut after), false) = (before, block::unpack(block), quiet) {
+pub fn changed<M: Machine>(
+    mut lent: Lent<M::Cell>,
+    call: M::Call,
+    change: impl FnOnce(&M::State, &mut M::State),
+) -> u64 {
+    let before = M::state(lent.block);
+    let answer = right::<M>(lent.again(), call);
+    let quiet = M::shows(call) || kind(answer) == REFUSED;
+    if let (Some(before), Some(mut after), false) = (before, M::state(lent.block), quiet) {
         change(&before, &mut after);
-        block.copy_from_slice(&block::pack(&after));
+        M::pack(&after, lent.block);
     }
     answer
 }

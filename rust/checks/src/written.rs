@@ -1,40 +1,37 @@
-//! What was asked, written as a script for replay.
+//! What was asked, written down so that it can be had again.
 
-use crate::call::Call;
-use model::block;
-use script::{Call as Line, Script};
+use crate::machine::Machine;
 use std::fmt;
 
-/// The beginning of a run and its calls so far. It is printed as a script.
+/// The beginning of a run and its calls so far. It is printed with a call in each line.
 #[derive(Clone, Debug)]
-pub struct Written {
-    beginning: Beginning,
-    calls: Vec<Call>,
+pub struct Written<M: Machine> {
+    beginning: Beginning<M::Cell>,
+    calls: Vec<M::Call>,
 }
 
 /// How a run begins.
 #[derive(Clone, Debug)]
-enum Beginning {
-    /// With create.
-    Created([u32; 3]),
-    /// With these bytes in the block, the receive store and the transmit store.
-    Holding([Vec<u8>; 3]),
+pub enum Beginning<C> {
+    /// With create on fresh stores of these lengths, and the number that create takes.
+    Created([usize; 2], u32),
+    /// With what these hold, whatever it means: the block and the stores.
+    Holding(Vec<u8>, [Vec<C>; 2]),
 }
 
-impl Written {
+impl<M: Machine> Written<M> {
     /// A run that begins with create.
-    pub fn created(rx_len: usize, tx_len: usize, margin: u32) -> Written {
-        let sizes = [rx_len as u32, tx_len as u32, margin];
-        Written::beginning(Beginning::Created(sizes))
+    pub fn created(lens: [usize; 2], number: u32) -> Written<M> {
+        Written::beginning(Beginning::Created(lens, number))
     }
 
     /// A run that begins with these buffers, whatever they mean.
-    pub fn holding(block: &[u8], rx: &[u8], tx: &[u8]) -> Written {
-        let buffers = [block, rx, tx].map(<[u8]>::to_vec);
-        Written::beginning(Beginning::Holding(buffers))
+    pub fn holding(block: &[u8], stores: [&[M::Cell]; 2]) -> Written<M> {
+        let stores = stores.map(<[M::Cell]>::to_vec);
+        Written::beginning(Beginning::Holding(block.to_vec(), stores))
     }
 
-    fn beginning(beginning: Beginning) -> Written {
+    fn beginning(beginning: Beginning<M::Cell>) -> Written<M> {
         Written {
             beginning,
             calls: Vec::new(),
@@ -42,7 +39,7 @@ impl Written {
     }
 
     /// Adds a call.
-    pub fn add(&mut self, call: Call) {
+    pub fn add(&mut self, call: M::Call) {
         self.calls.push(call);
     }
 
@@ -52,56 +49,15 @@ impl Written {
     }
 }
 
-impl fmt::Display for Written {
+impl<M: Machine> fmt::Display for Written<M> {
     fn fmt(&self, f: &mut fmt::Formatter) -> fmt::Result {
-        match &self.beginning {
-            Beginning::Created(sizes) => writeln!(f, "{}", create(*sizes))?,
-            Beginning::Holding([block, rx, tx]) => match made(block, rx, tx) {
-                Some(script) => write!(f, "{script}")?,
-                // A script has no call that leads there.
-                None => writeln!(f, "# stores of {}, {}; block {block:?}", rx.len(), tx.len())?,
-            },
-        }
+        M::begins(&self.beginning, f)?;
         self.calls.iter().try_for_each(|call| writeln!(f, "{call}"))
     }
 }
 
-fn create([receive, transmit, margin]: [u32; 3]) -> Line {
-    Line::Create {
-        receive,
-        transmit,
-        margin,
-    }
-}
-
-/// The script that makes these buffers, if the block is a state that fits the stores: it fills both
-/// stores from their first place on, and restores the block.
-fn made(block: &[u8], rx: &[u8], tx: &[u8]) -> Option<Script> {
-    let state = block::unpack(block).filter(|state| state.fits(rx.len(), tx.len()))?;
-    let mut calls = vec![create([
-        rx.len() as u32,
-        tx.len() as u32,
-        state.margin as u32,
-    ])];
-    // Without the protocol go and stop are stored too.
-    let (number, value) = (11, 0);
-    calls.push(Line::Register { number, value });
-    calls.extend(
-        rx.chunks(LINE_BYTES)
-            .map(|bytes| Line::Line(bytes.to_vec())),
-    );
-    // Address 0, and listen: data frames are then added as they are.
-    calls.extend([5 << 8 | 128, 4 << 8 | 32].map(Line::Frame));
-    calls.extend(tx.iter().map(|&byte| Line::Frame(byte.into())));
-    calls.push(Line::Restore(block.to_vec()));
-    Some(calls.into_iter().collect())
-}
-
-/// How many bytes are written in one line.
-const LINE_BYTES: usize = 64;
-
 /// A finding, and the script that leads to it.
-pub fn told(finding: &str, script: &Written) -> String {
+pub fn told<M: Machine>(finding: &str, script: &Written<M>) -> String {
     format!("{finding}, {AFTER}{script}")
 }
 

@@ -4,15 +4,10 @@
 use model::block::{LEN, VERSION};
 use model::boundary::{kind, value, REFUSED};
 use raftershim_checks::answer::{framed, refused, DONE};
-use raftershim_checks::archive;
-use raftershim_checks::call::{frame, Call};
-use raftershim_checks::pair::Pair;
-
-/// Makes a call of which only the comparison with the model counts.
-fn ask(pair: &mut Pair, call: Call) -> u64 {
-    pair.call(call)
-        .unwrap_or_else(|finding| panic!("{finding}"))
-}
+use raftershim_checks::bridge::archive;
+use raftershim_checks::bridge::call::{frame, Call};
+use raftershim_checks::bridge::Pair;
+use raftershim_checks::edges::every_byte_at_every_value;
 
 #[test]
 fn sizes_of_create() {
@@ -84,7 +79,7 @@ fn every_frame_and_frames_that_do_not_exist() {
     let mut pair = Pair::create(4, 3, 1);
     let (mut taken, mut none) = (0, 0);
     for number in 0..2048 {
-        assert_ne!(kind(ask(&mut pair, Call::Frame(number))), REFUSED);
+        assert_ne!(kind(pair.ask(Call::Frame(number))), REFUSED);
         taken += 1;
     }
     let beyond = [1 << 16, 1 << 16 | 0x560, 1 << 31, u32::MAX - 1, u32::MAX];
@@ -110,12 +105,9 @@ fn sides_that_do_not_exist() {
     println!("edges, show: 2 sides, {neither} that are neither");
 }
 
-/// Whether these buffers hold a state that fits: then no call is refused 2, and else every call is.
-fn fits(block: &[u8], rx: &[u8], tx: &[u8]) -> bool {
-    let mut pair = Pair::holding(block, rx, tx);
-    for side in 0..2 {
-        ask(&mut pair, Call::Show(side));
-    }
+#[test]
+fn every_byte_of_the_block_at_every_value() {
+    let mut counts = [0; 2];
     let calls = [
         Call::Break,
         frame(0, 9),
@@ -123,34 +115,16 @@ fn fits(block: &[u8], rx: &[u8], tx: &[u8]) -> bool {
         Call::Line(13),
         Call::Reset,
     ];
-    let misfits = calls.map(|call| ask(&mut pair, call) == refused(2));
-    assert_eq!(misfits, [misfits[0]; 5], "{}", pair.script());
-    !misfits[0]
-}
-
-#[test]
-fn every_byte_of_the_block_at_every_value() {
-    let (mut states, mut misfits) = (0, 0);
     // The second has room for a margin of 1,025.
     for (rx_len, tx_len) in [(4, 3), (2052, 300)] {
         let mut good = Pair::create(rx_len, tx_len, 1);
         for call in [frame(5, 129), frame(4, 33), frame(2, 65), Call::Line(50)] {
-            ask(&mut good, call);
+            good.ask(call);
         }
-        let buffers = good.buffers();
-        let mut block = buffers.block().to_vec();
-        for place in 0..LEN {
-            for byte in 0..=255 {
-                block[place] = byte;
-                if fits(&block, buffers.rx(), buffers.tx()) {
-                    states += 1;
-                } else {
-                    misfits += 1;
-                }
-            }
-            block[place] = buffers.block()[place];
-        }
+        let [states, misfits] = every_byte_at_every_value(&good, &calls);
+        counts = [counts[0] + states, counts[1] + misfits];
     }
+    let [states, misfits] = counts;
     assert!(states > 0 && misfits > 0);
     println!("edges, blocks: {states} are states that fit, {misfits} refused 2 by every call");
 }
@@ -159,13 +133,14 @@ fn every_byte_of_the_block_at_every_value() {
 fn another_version_is_refused_by_every_call_but_create() {
     let mut good = Pair::create(4, 3, 1);
     for call in [frame(5, 129), frame(4, 33), frame(2, 65), Call::Line(50)] {
-        ask(&mut good, call);
+        good.ask(call);
     }
     let (buffers, mut others) = (good.buffers(), 0);
+    let [rx, tx] = buffers.stores();
     for version in (0..=255).filter(|&version| version != VERSION) {
         let mut block = buffers.block().to_vec();
         block[0] = version;
-        let mut pair = Pair::holding(&block, buffers.rx(), buffers.tx());
+        let mut pair = Pair::holding(&block, rx, tx);
         for side in 0..2 {
             pair.expect(Call::Show(side), 0);
         }
@@ -200,10 +175,10 @@ fn lengths_other_than_recorded() {
                 other.resize(block_len, 0);
                 let mut pair = Pair::holding(&other, &vec![0; rx_len], &vec![0; tx_len]);
                 let fits = (rx_len, tx_len, block_len) == (4, 3, 56);
-                let answer = ask(&mut pair, Call::Next);
+                let answer = pair.ask(Call::Next);
                 assert_eq!(answer == refused(2), !fits);
                 for call in [Call::Reset, Call::Register(3, 99), Call::Frame(2048)] {
-                    let answer = ask(&mut pair, call);
+                    let answer = pair.ask(call);
                     assert_eq!(kind(answer) == REFUSED && value(answer) == 2, !fits);
                 }
                 fit += usize::from(fits);

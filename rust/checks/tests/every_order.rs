@@ -6,18 +6,19 @@
 //! transition answer, block and both stores are compared, and demand 3 is held by a history that
 //! is carried beside the bridge.
 
-use raftershim_checks::call::{frame, Call};
-use raftershim_checks::explore::{explore, Found, Letter, Plan};
-use raftershim_checks::implementation::{BOTH, MODEL};
-use raftershim_checks::planted;
+use raftershim_checks::bridge::call::{frame, Call};
+use raftershim_checks::bridge::{planted, TheBridge, MODEL};
+use raftershim_checks::explore::{explore, Letter, Plan};
+use raftershim_checks::machine::Machine;
 use raftershim_checks::played::play;
+use raftershim_checks::tally::Tally;
 use raftershim_checks::written::script_in;
 use script::Script;
 use Call::{Break, Frame, Key, Line, Next, Register, Reset, Show};
 use Letter::{Back, Make};
 
 /// A correct return, one with another service bit, and two damaged ones.
-const RETURNS: [Letter; 4] = [Back(0), Back(1 << 8), Back(1), Back(2 << 8)];
+const RETURNS: [Letter<Call>; 4] = [Back(0), Back(1 << 8), Back(1), Back(2 << 8)];
 /// Address 1, then addressed to talk or to listen.
 const ASSIGN: Call = frame(5, 129);
 const TALK: Call = frame(4, 65);
@@ -45,24 +46,26 @@ fn first_states() -> usize {
 }
 
 /// Explores on a transmit store of 3 with these calls and all returns, and prints what was found.
-fn run(name: &str, receive: (usize, u32), start: &[Call], calls: &[Call], limit: usize) -> Found {
-    let letters: Vec<Letter> = calls.iter().copied().map(Make).chain(RETURNS).collect();
+fn run(
+    name: &str,
+    receive: (usize, u32),
+    start: &[Call],
+    calls: &[Call],
+    limit: usize,
+) -> Tally<TheBridge> {
+    let letters: Vec<Letter<Call>> = calls.iter().copied().map(Make).chain(RETURNS).collect();
     let found = explore(&Plan {
-        both: BOTH,
-        rx_len: receive.0,
-        tx_len: 3,
-        margin: receive.1,
+        both: TheBridge::BOTH,
+        lens: [receive.0, 3],
+        number: receive.1,
         start,
         letters: &letters,
         limit,
     })
     .unwrap_or_else(|told| panic!("{name}: {told}"));
-    let (states, transitions) = (found.states, found.transitions);
-    let reached = if found.complete { "all" } else { "first" };
-    println!("every order, {name}: {reached} {states} states, {transitions} transitions compared");
-    println!("    {found}");
+    println!("every order, {name}: {found}");
     assert!(found.complete || limit < EVERY_STATE);
-    found
+    found.tally
 }
 
 #[test]
@@ -77,7 +80,7 @@ fn reading_off() {
         &[&bytes[..], &calls].concat(),
         EVERY_STATE,
     );
-    assert!(found.sent > 0 && found.lost > 0);
+    found.assert_met(&["frames sent", "bytes lost"]);
 }
 
 #[test]
@@ -91,7 +94,7 @@ fn reading_off_a_pair_of_equal_bytes() {
         &calls,
         EVERY_STATE,
     );
-    assert!(found.sent > 0 && found.lost > 0);
+    found.assert_met(&["frames sent", "bytes lost"]);
 }
 
 #[test]
@@ -109,7 +112,11 @@ fn status_under_way() {
         IDENTIFY,
     ];
     let found = run("status under way", (4, 1), &start, &calls, EVERY_STATE);
-    assert!(found.lost > 0 && found.status_back > 0 && found.status_gone > 0);
+    found.assert_met(&[
+        "bytes lost",
+        "status bytes back",
+        "status bytes damaged or forgotten",
+    ]);
 }
 
 #[test]
@@ -133,7 +140,8 @@ fn listening() {
         &[&roles[..], &calls].concat(),
         EVERY_STATE,
     );
-    assert!(found.added > 0 && found.refused[4] > 0);
+    found.assert_met(&["frames kept for the line"]);
+    found.assert_refusals(&[4]);
 }
 
 #[test]
@@ -152,7 +160,7 @@ fn roles() {
     ];
     let calls = [&addresses[..], &talking, &listening, &both].concat();
     let found = run("roles", (4, 1), &start, &calls, EVERY_STATE);
-    assert!(found.refused[3] > 0 && found.refused[4] > 0);
+    found.assert_refusals(&[3, 4]);
 }
 
 #[test]
@@ -173,7 +181,7 @@ fn requests_by_break_overrun_and_key() {
     let calls = [&enable[..], &refused, &calls].concat();
     let name = "requests by break, overrun and key";
     let found = run(name, (4, 1), &[ASSIGN, TALK], &calls, EVERY_STATE);
-    assert!(found.refused[5..].iter().all(|&count| count > 0));
+    found.assert_refusals(&[5, 6, 7, 8]);
 }
 
 #[test]
@@ -201,7 +209,7 @@ fn requests_by_the_stores() {
         &calls,
         EVERY_STATE,
     );
-    assert!(found.sent > 0 && found.status_back > 0);
+    found.assert_met(&["frames sent", "status bytes back"]);
 }
 
 #[test]
@@ -210,7 +218,7 @@ fn holding_off() {
     let calls = [SEND, Register(11, 0), Register(11, 8), CLEAR];
     let calls = [&line[..], &calls].concat();
     let found = run("holding off", (4, 1), &[ASSIGN, TALK], &calls, EVERY_STATE);
-    assert!(found.sent > 0 && found.lost > 0);
+    found.assert_met(&["frames sent", "bytes lost"]);
 }
 
 #[test]
@@ -228,7 +236,7 @@ fn holding_off_with_more_room() {
     ];
     let calls = [&line[..], &calls].concat();
     let found = run("holding off, store 6", (6, 2), &start, &calls, EVERY_STATE);
-    assert!(found.sent > 0 && found.lost > 0);
+    found.assert_met(&["frames sent", "bytes lost"]);
 }
 
 #[test]
@@ -239,7 +247,7 @@ fn reading_off_with_more_room() {
     let calls = [&bytes[..], &calls].concat();
     let name = "reading off and status, store 6";
     let found = run(name, (6, 2), &start, &calls, first_states());
-    assert!(found.sent > 0 && found.status_back > 0);
+    found.assert_met(&["frames sent", "status bytes back"]);
 }
 
 #[test]
@@ -280,7 +288,11 @@ fn all_together() {
     ];
     let calls = [&line[..], &roles, &frames, &writes, &more].concat();
     let found = run("all together", (6, 2), &[], &calls, first_states());
-    assert!(found.sent > 0 && found.added > 0 && found.status_back > 0);
+    found.assert_met(&[
+        "frames sent",
+        "frames kept for the line",
+        "status bytes back",
+    ]);
 }
 
 #[test]
@@ -288,9 +300,8 @@ fn a_planted_fault_is_found_by_the_shortest_way() {
     let calls = [Line(50), Line(51), SEND, Next, Key];
     let told = explore(&Plan {
         both: [planted::SILENT_LOSS, MODEL],
-        rx_len: 4,
-        tx_len: 3,
-        margin: 1,
+        lens: [4, 3],
+        number: 1,
         start: &[ASSIGN, TALK],
         letters: &calls.map(Make),
         limit: EVERY_STATE,
@@ -300,5 +311,5 @@ fn a_planted_fault_is_found_by_the_shortest_way() {
     // Create, address, talk, the bytes that fill the store and the one that is lost.
     assert_eq!(script.steps.len(), 3 + 4 + 1, "{told}");
     assert!(play([planted::SILENT_LOSS, MODEL], &script).is_err());
-    assert!(play(BOTH, &script).is_ok());
+    assert!(play(TheBridge::BOTH, &script).is_ok());
 }

@@ -3,8 +3,8 @@
 
 use model::boundary::value;
 use raftershim_checks::answer::{framed, DONE};
-use raftershim_checks::call::{frame, Call};
-use raftershim_checks::pair::Pair;
+use raftershim_checks::bridge::call::{frame, Call};
+use raftershim_checks::bridge::Pair;
 
 /// Status bit 5.
 const OVERRUN: u64 = 1 << 5;

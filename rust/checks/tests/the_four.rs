@@ -3,8 +3,8 @@
 //! every order of meter bytes, loop frames and key presses. Answers are written from the paper.
 
 use raftershim_checks::answer::{byte, framed, refused, DONE, NONE};
-use raftershim_checks::call::{frame, Call};
-use raftershim_checks::pair::Pair;
+use raftershim_checks::bridge::call::{frame, Call};
+use raftershim_checks::bridge::Pair;
 use Call::{Key, Line, Next, Register};
 
 const SEND: Call = frame(5, 96);

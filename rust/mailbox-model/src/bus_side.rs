@@ -1,8 +1,9 @@
 //! The HP-IB side: its fields, its commands, and what it hands over to the bus.
 
 use crate::cell::Cell;
+use crate::loop_side::{ADDRESSED, IDLE};
 use crate::news::News;
-use crate::poll::Response;
+use crate::poll::BusResponse;
 use crate::state::{bus_address_obeyed, Mailbox};
 
 /// The state of the bus side, the way to it aside.
@@ -10,40 +11,42 @@ use crate::state::{bus_address_obeyed, Mailbox};
 pub struct BusSide {
     /// 0 to 30, and never changed.
     pub address: u8,
-    pub talker: bool,
+    /// Talker phase, 0 or 1.
+    pub talker: u8,
     pub listener: bool,
     pub serial_poll: bool,
     /// Whether the status byte was handed over since the last command or interface clear.
     pub status_read: bool,
     /// Whether the next command may set the poll response.
     pub configuring: bool,
-    pub poll: Response,
+    pub poll: BusResponse,
 }
 
 impl BusSide {
     pub(crate) fn start(address: u8) -> BusSide {
         BusSide {
             address,
-            talker: false,
+            talker: IDLE,
             listener: false,
             serial_poll: false,
             status_read: false,
             configuring: false,
-            poll: Response::OFF,
+            poll: BusResponse::OFF,
         }
     }
 
     pub(crate) fn fits(&self) -> bool {
         bus_address_obeyed(u32::from(self.address))
             && self.poll.fits()
-            && !(self.talker && self.listener)
+            && self.talker <= ADDRESSED
+            && !(self.talker != IDLE && self.listener)
     }
 
     /// 31 ends listening, our address begins it and ends talking, another does nothing.
     fn listen_address(&mut self, n: u8) {
         if n == self.address {
             self.listener = true;
-            self.talker = false;
+            self.talker = IDLE;
         } else if n == 31 {
             self.listener = false;
         }
@@ -51,8 +54,9 @@ impl BusSide {
 
     /// Our address begins talking and ends listening, any other ends talking.
     fn talk_address(&mut self, n: u8) {
-        self.talker = n == self.address;
-        if self.talker {
+        self.talker = IDLE;
+        if n == self.address {
+            self.talker = ADDRESSED;
             self.listener = false;
         }
     }
@@ -64,7 +68,7 @@ impl BusSide {
         self.configuring = false;
         self.status_read = false;
         if pending {
-            self.poll.on = false;
+            self.poll = BusResponse::OFF;
         }
         pending
     }
@@ -72,7 +76,7 @@ impl BusSide {
     /// Interface clear.
     pub(crate) fn clear(&mut self) {
         self.attention();
-        self.talker = false;
+        self.talker = IDLE;
         self.listener = false;
         self.serial_poll = false;
     }
@@ -85,12 +89,12 @@ impl Mailbox {
         let pending = side.attention();
         match command {
             // Clears: what the bus itself has left, and nothing else.
-            20 => self.clear_for_loop(),
-            4 if side.listener => self.clear_for_loop(),
+            20 => self.to_loop.clear(),
+            4 if side.listener => self.to_loop.clear(),
             // Parallel poll.
             5 if side.listener => side.configuring = true,
-            21 => side.poll.on = false,
-            96..=111 if pending => side.poll = Response::of_bus_code(command - 96),
+            21 => side.poll = BusResponse::OFF,
+            96..=111 if pending => side.poll = BusResponse::of_code(command - 96),
             // Serial poll.
             24 => side.serial_poll = true,
             25 => side.serial_poll = false,
@@ -108,7 +112,7 @@ impl Mailbox {
     /// What a talker hands over: what waits, or in serial poll mode the status byte once.
     pub(crate) fn handed_over(&mut self, to_bus: &[u16]) -> Option<Cell> {
         let side = &mut self.bus_side;
-        if !side.talker {
+        if side.talker == IDLE {
             return None;
         }
         if !side.serial_poll {

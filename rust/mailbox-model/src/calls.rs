@@ -72,7 +72,7 @@ impl Mailbox {
             return BUSY;
         }
         if self.bus_side.listener {
-            self.leave_for_loop(to_loop, Cell { byte, mark });
+            self.to_loop.leave(to_loop, Cell { byte, mark });
         }
         Answer::Done
     }
@@ -108,7 +108,7 @@ impl Mailbox {
         let srq = self.to_bus.news.request;
         Answer::Lines {
             srq,
-            poll: self.bus_side.poll.on_bus(srq),
+            poll: self.bus_side.poll.lines(srq),
         }
     }
 

@@ -6,10 +6,14 @@
 //! that of the way to the bus first; a call that never writes a store borrows it unchangeably.
 //!
 //! In states that calls never reach the fields decide, each by itself.
+//!
+//! `block` packs a state into its bytes, and `boundary` has the calls as the C functions take them.
 
 #![forbid(unsafe_code)]
 
 mod answer;
+pub mod block;
+pub mod boundary;
 mod bus_side;
 mod calls;
 mod cell;
@@ -30,7 +34,7 @@ pub use loop_side::{
     LoopSide, ACTIVE_DATA, ACTIVE_STATUS, ADDRESSED, DEVICE_ID, HOME, IDLE, UNASSIGNED,
 };
 pub use news::News;
-pub use poll::Response;
+pub use poll::{BusResponse, LoopResponse};
 pub use ring::{Ring, LARGEST};
 pub use state::Mailbox;
 pub use way::Way;

@@ -1,7 +1,7 @@
 //! What commands of the loop do. They all go on unchanged.
 
 use crate::loop_side::{LoopSide, ADDRESSED, HOME, IDLE, UNASSIGNED};
-use crate::poll::Response;
+use crate::poll::LoopResponse;
 use crate::state::Mailbox;
 
 impl LoopSide {
@@ -40,7 +40,8 @@ impl LoopSide {
             self.stop_sending();
         }
         // The byte of the held frame is stored already and stays.
-        self.held = None;
+        self.holds = false;
+        self.held = 0;
         self.not_ready = command == 15 && self.listener;
     }
 }
@@ -56,9 +57,9 @@ impl Mailbox {
             20 => self.to_bus.clear(),
             4 if side.listener => self.to_bus.clear(),
             // Parallel poll.
-            128..=143 if side.listener => side.poll = Response::of_loop_code(command - 128),
-            5 if side.listener => side.poll.on = false,
-            21 => side.poll.on = false,
+            128..=143 if side.listener => side.poll = LoopResponse::of_code(command - 128),
+            5 if side.listener => side.poll = LoopResponse::OFF,
+            21 => side.poll = LoopResponse::OFF,
             144 => {
                 side.talker = IDLE;
                 side.listener = false;

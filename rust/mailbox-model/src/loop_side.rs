@@ -2,7 +2,7 @@
 
 use crate::cell::Cell;
 use crate::frame::{is_data, NOT_READY, SERVICE};
-use crate::poll::Response;
+use crate::poll::LoopResponse;
 use crate::state::Mailbox;
 
 /// Talker phase: not addressed to talk.
@@ -32,18 +32,18 @@ pub struct LoopSide {
     pub listener: bool,
     /// Our data frame under way; 0 when there is none.
     pub under_way: u16,
-    /// Where the frame under way is from: 0 the store, n the device ID of which n bytes are sent.
-    /// 10 is also the accessory ID, after which nothing follows either.
+    /// Where the last frame was from that is not status: 0 the store, n the device ID of which n
+    /// bytes are sent. 10 is also the accessory ID, after which nothing follows either.
     pub source: u8,
     /// Whether sending ends after the frame under way.
     pub finishing: bool,
     /// Whether not ready is enabled.
     pub not_ready: bool,
-    /// The data frame that we hold back, with the service bit that it came with.
-    pub held: Option<u16>,
-    /// Whether something came into the empty way since the last status byte was sent.
-    pub again: bool,
-    pub poll: Response,
+    /// Whether we hold a data frame back.
+    pub holds: bool,
+    /// That frame, with the service bit that it came with; 0 when there is none.
+    pub held: u16,
+    pub poll: LoopResponse,
 }
 
 impl LoopSide {
@@ -55,9 +55,9 @@ impl LoopSide {
         source: 0,
         finishing: false,
         not_ready: false,
-        held: None,
-        again: false,
-        poll: Response::OFF,
+        holds: false,
+        held: 0,
+        poll: LoopResponse::OFF,
     };
 
     pub(crate) fn fits(&self) -> bool {
@@ -65,7 +65,7 @@ impl LoopSide {
             && self.talker <= ACTIVE_STATUS
             && is_data(self.under_way)
             && usize::from(self.source) <= DEVICE_ID.len()
-            && self.held.map_or(true, is_data)
+            && is_data(self.held)
             && self.poll.fits()
             && !(self.talker != IDLE && self.listener)
     }
@@ -93,7 +93,7 @@ impl Mailbox {
                 frame
             }
             5 => self.ready(to_loop, data, service),
-            6 | 7 => frame | service | self.loop_side.poll.on_loop(requested),
+            6 | 7 => frame | service | self.loop_side.poll.bits(requested),
             _ if self.loop_side.is_active() => self.returned(to_loop, frame, service),
             _ => self.heard(to_bus, frame, service),
         }
@@ -106,8 +106,9 @@ impl Mailbox {
         }
         self.to_bus.leave(to_bus, Cell::of_frame(frame));
         let side = &mut self.loop_side;
-        if side.not_ready && side.held.is_none() && self.to_bus.ring.room() == 1 {
-            side.held = Some(frame);
+        if side.not_ready && !side.holds && self.to_bus.ring.room() == 1 {
+            side.holds = true;
+            side.held = frame;
             return NOT_READY;
         }
         frame | service

@@ -11,18 +11,22 @@ const ALL_SENT: u8 = DEVICE_ID.len() as u8;
 
 impl LoopSide {
     /// A frame of ours goes out.
-    fn send(&mut self, talker: u8, source: u8, frame: u16, service: u16) -> u16 {
+    fn send(&mut self, talker: u8, frame: u16, service: u16) -> u16 {
         self.talker = talker;
-        self.source = source;
         self.under_way = frame;
         self.finishing = false;
         frame | service
     }
 
-    /// Addressed, not active, and no frame under way.
+    /// A frame of ours goes out that is not status.
+    fn send_from(&mut self, source: u8, frame: u16, service: u16) -> u16 {
+        self.source = source;
+        self.send(ACTIVE_DATA, frame, service)
+    }
+
+    /// Addressed, not active, and no frame under way. The source stays.
     pub(crate) fn stop_sending(&mut self) {
         self.talker = ADDRESSED;
-        self.source = 0;
         self.under_way = 0;
         self.finishing = false;
     }
@@ -35,17 +39,19 @@ impl LoopSide {
     /// The next byte of the device ID, of which so many are sent, or the end.
     fn send_id(&mut self, sent: u8, service: u16) -> u16 {
         match DEVICE_ID.get(usize::from(sent)) {
-            Some(&byte) => self.send(ACTIVE_DATA, sent + 1, u16::from(byte), service),
+            Some(&byte) => self.send_from(sent + 1, u16::from(byte), service),
             None => self.sending_over(),
         }
     }
 
     /// 5,66: our own has come round and the held frame goes out, or another's makes us finish.
     fn not_ready_came(&mut self, service: u16) -> u16 {
-        if let Some(frame) = self.held.take() {
-            return frame | service;
+        if self.holds {
+            self.holds = false;
+            return std::mem::take(&mut self.held) | service;
         }
-        if self.is_active() {
+        // After a status byte nothing follows anyhow.
+        if self.talker == ACTIVE_DATA {
             self.finishing = true;
         }
         NOT_READY
@@ -62,7 +68,7 @@ impl Mailbox {
             96 if asked => self.send_data(to_loop, service),
             97 if asked => self.send_status(service),
             98 if asked => side.send_id(0, service),
-            99 if asked => side.send(ACTIVE_DATA, ALL_SENT, u16::from(ACCESSORY_ID), service),
+            99 if asked => side.send_from(ALL_SENT, u16::from(ACCESSORY_ID), service),
             128..=158 if side.address == UNASSIGNED => {
                 side.address = data - 128;
                 READY | u16::from(data + 1)
@@ -91,8 +97,8 @@ impl Mailbox {
 
     /// The oldest byte that waits for the loop is fetched and sent, or the sending is over.
     fn send_data(&mut self, to_loop: &[u16], service: u16) -> u16 {
-        match self.fetch_for_loop(to_loop) {
-            Some(cell) => self.loop_side.send(ACTIVE_DATA, 0, cell.frame(), service),
+        match self.to_loop.fetch(to_loop) {
+            Some(cell) => self.loop_side.send_from(0, cell.frame(), service),
             None => self.loop_side.sending_over(),
         }
     }
@@ -101,14 +107,14 @@ impl Mailbox {
     fn send_status(&mut self, service: u16) -> u16 {
         let status = u16::from(self.to_loop.news.status());
         self.to_loop.news.request = false;
-        self.loop_side.again = false;
-        self.loop_side.send(ACTIVE_STATUS, 0, status, service)
+        self.to_loop.news.again = false;
+        self.loop_side.send(ACTIVE_STATUS, status, service)
     }
 
     /// The status byte has come back unchanged: bit 0 ends if it was shown and not set again since.
     fn status_arrived(&mut self) {
         let shown = self.loop_side.under_way & 1 != 0;
-        if shown && !self.loop_side.again {
+        if shown && !self.to_loop.news.again {
             self.to_loop.news.available = false;
         }
     }

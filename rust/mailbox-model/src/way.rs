@@ -3,7 +3,6 @@
 use crate::cell::Cell;
 use crate::news::News;
 use crate::ring::Ring;
-use crate::state::Mailbox;
 
 /// A way, and what the side that fetches from it is told.
 #[derive(Clone, Copy, Debug, PartialEq, Eq, Hash)]
@@ -44,24 +43,5 @@ impl Way {
 
     pub(crate) fn clear(&mut self) {
         *self = Way::empty(self.ring.capacity);
-    }
-}
-
-/// The way to the loop has a note beside its news: whether they came after the last status byte.
-impl Mailbox {
-    pub(crate) fn leave_for_loop(&mut self, store: &mut [u16], cell: Cell) {
-        self.loop_side.again |= self.to_loop.is_empty();
-        self.to_loop.leave(store, cell);
-    }
-
-    pub(crate) fn fetch_for_loop(&mut self, store: &[u16]) -> Option<Cell> {
-        let cell = self.to_loop.fetch(store)?;
-        self.loop_side.again &= !self.to_loop.is_empty();
-        Some(cell)
-    }
-
-    pub(crate) fn clear_for_loop(&mut self) {
-        self.to_loop.clear();
-        self.loop_side.again = false;
     }
 }

@@ -1,43 +1,17 @@
 //! Faults that are planted on purpose: the draws find each, and the script that is told is short,
 //! is read as it was printed, and leads to the same difference again.
 
-use crate::counts::Counts;
-use crate::draw::{Difference, Draws};
-use crate::runs::{Kind, FROM_CREATE, FROM_STATES, ON_DAMAGED};
-use raftershim_checks::implementation::{Implementation, MODEL};
-use raftershim_checks::planted;
-use raftershim_checks::played::play;
-use raftershim_checks::written::script_in;
-use script::{Call, Script};
+use crate::again::read_again;
+use crate::Kind;
+use raftershim_checks::bridge::{planted, TheBridge, MODEL};
+use raftershim_checks::implementation;
+use script::Call;
 
-/// The first difference between a planted fault and the model in the runs of a kind.
-fn found(fault: Implementation, kind: Kind) -> Option<Difference> {
-    let draws = Draws {
-        runs: kind.runs,
-        seed: 0,
-    };
-    (kind.difference)([fault, MODEL], draws, &mut Counts::default())
-}
+type Implementation = implementation::Implementation<TheBridge>;
 
-/// A finding without the script that leads to it.
-fn without_script(told: &str) -> &str {
-    let script = script_in(told).expect("a script is told");
-    &told[..told.len() - script.len()]
-}
-
-/// Reads the script that was told, which is printed again as it was, shows the same difference, and
-/// is played by replay to its end. Gives the lengths of its stores.
+/// Reads the script that was told again. Gives the lengths of its stores.
 fn stores_of(fault: Implementation, told: &str) -> (usize, usize) {
-    let printed = script_in(told).expect("a script is told");
-    let script: Script = printed.parse().expect("it has no mistake");
-    assert_eq!(script.to_string(), printed);
-    let again = play([fault, MODEL], &script).expect_err("it differs again");
-    assert_eq!(without_script(&again), without_script(told));
-    let counts = replay::run::run(&mut printed.as_bytes(), &mut Vec::new()).expect("it is played");
-    assert_eq!(
-        (counts.calls, counts.not_played),
-        (script.steps.len() as u64, 0)
-    );
+    let script = read_again(fault, told);
     match script.steps[0].call {
         Call::Create {
             receive, transmit, ..
@@ -49,7 +23,9 @@ fn stores_of(fault: Implementation, told: &str) -> (usize, usize) {
 #[test]
 fn a_byte_that_is_lost_silently() {
     let fault = planted::SILENT_LOSS;
-    let found = found(fault, FROM_CREATE).expect("it is found");
+    let found = Kind::FROM_CREATE
+        .found([fault, MODEL])
+        .expect("it is found");
     let (receive, _) = stores_of(fault, &found.told);
     // Nothing is left but the bytes that fill the store and the one that is lost.
     assert_eq!(found.steps, receive + 1, "{}", found.told);
@@ -59,7 +35,9 @@ fn a_byte_that_is_lost_silently() {
 #[test]
 fn a_place_that_is_not_written() {
     let fault = planted::LAST_PLACE_UNWRITTEN;
-    let found = found(fault, FROM_CREATE).expect("it is found");
+    let found = Kind::FROM_CREATE
+        .found([fault, MODEL])
+        .expect("it is found");
     let (receive, _) = stores_of(fault, &found.told);
     assert_eq!(found.steps, receive, "{}", found.told);
 }
@@ -67,7 +45,9 @@ fn a_place_that_is_not_written() {
 #[test]
 fn a_refused_call_that_changes_the_state() {
     let fault = planted::REFUSED_YET_CHANGED;
-    let found = found(fault, FROM_CREATE).expect("it is found");
+    let found = Kind::FROM_CREATE
+        .found([fault, MODEL])
+        .expect("it is found");
     assert!(found
         .told
         .starts_with("refused or shown, yet block place 55"));
@@ -79,8 +59,10 @@ fn a_refused_call_that_changes_the_state() {
 #[test]
 fn a_count_that_stops_at_its_largest_number() {
     let fault = planted::STUCK_COUNT;
-    assert!(found(fault, FROM_CREATE).is_none());
-    let found = found(fault, FROM_STATES).expect("it is found");
+    assert!(Kind::FROM_CREATE.found([fault, MODEL]).is_none());
+    let found = Kind::FROM_STATES
+        .found([fault, MODEL])
+        .expect("it is found");
     // Its script fills the stores and restores the block.
     stores_of(fault, &found.told);
     // Talk and send data, at most.
@@ -91,7 +73,10 @@ fn a_count_that_stops_at_its_largest_number() {
 #[test]
 fn a_block_of_another_version_that_is_taken() {
     let fault = planted::ANOTHER_VERSION_TAKEN;
-    assert!(found(fault, FROM_CREATE).is_none() && found(fault, FROM_STATES).is_none());
-    let found = found(fault, ON_DAMAGED).expect("it is found");
+    assert!(
+        Kind::FROM_CREATE.found([fault, MODEL]).is_none()
+            && Kind::FROM_STATES.found([fault, MODEL]).is_none()
+    );
+    let found = Kind::ON_DAMAGED.found([fault, MODEL]).expect("it is found");
     assert!(found.steps <= 1, "{}", found.told);
 }

@@ -1,9 +1,9 @@
 //! Long runs of what can happen, drawn at random, on stores of many sizes.
 
 use crate::both::{our_meter, Both, Counts, Letter, OurMeter, Sizes};
+use raftershim_checks::bridge::told::Reader;
 use raftershim_checks::random::Random;
 use raftershim_checks::shrink::shrunk;
-use raftershim_checks::told::Reader;
 
 /// Sizes of which each bound is met.
 fn sizes(random: &mut Random) -> Sizes {

@@ -1,9 +1,9 @@
 //! A reader of a meter beside the history of its line, compared after every act.
 
 use raftershim::{Answer, Meter, Notes, Stores};
-use raftershim_checks::call::{frame, Call};
-use raftershim_checks::history::History;
-use raftershim_checks::told::{Act, Reader, Told, Worth};
+use raftershim_checks::bridge::call::{frame, Call};
+use raftershim_checks::bridge::history::History;
+use raftershim_checks::bridge::told::{Act, Reader, Told, Worth};
 use std::fmt;
 
 /// What can happen at a desk with a meter.

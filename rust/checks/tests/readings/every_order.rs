@@ -1,7 +1,7 @@
 //! Every order of a few letters, up to a length, on tiny stores.
 
 use crate::both::{our_meter, Both, Counts, Letter, Sizes};
-use raftershim_checks::told::Reader;
+use raftershim_checks::bridge::told::Reader;
 use Letter::{
     AskData, AskStatus, Back, Break, Clear, Gap, Key, Line, LineEnd, Next, Read, Register, Reset,
 };

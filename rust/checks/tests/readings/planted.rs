@@ -4,7 +4,7 @@ use crate::at_random::runs;
 use crate::both::{our_meter, OurMeter, Sizes};
 use crate::every_order::{go_through, BYTES_AND_READS, PORT_GAPS};
 use raftershim::{Answer, BLOCK_LEN};
-use raftershim_checks::told::{Act, Reader, Told, Worth};
+use raftershim_checks::bridge::told::{Act, Reader, Told, Worth};
 
 /// The crate's meter, with what it tells made wrong.
 #[derive(Clone)]

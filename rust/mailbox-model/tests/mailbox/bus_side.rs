@@ -1,7 +1,7 @@
 //! How the bus side reads its messages: polls, clears, bytes taken and fetched, the lines.
 
 use crate::world::{byte, end, lines, World, BUS};
-use raftershim_mailbox_model::{Answer, Response};
+use raftershim_mailbox_model::{Answer, BusResponse};
 
 type W = World<3, 3>;
 
@@ -45,15 +45,15 @@ fn srq_ends_by_the_reading_of_the_status_byte_and_not_by_the_address() {
 fn a_pending_configure_takes_the_next_command_alone() {
     let mut w = W::new();
     w.orders(&[LISTEN, 5, 99]);
-    let (on, line, sense) = (true, 3, true);
-    assert_eq!(w.mailbox.bus_side.poll, Response { on, line, sense });
+    let (on, line) = (true, 3);
+    assert_eq!(w.mailbox.bus_side.poll, BusResponse { on, line });
     let before = w;
     w.orders(&[96, 112]);
     assert_eq!(w, before);
     w.orders(&[5, 112]);
-    assert!(!w.mailbox.bus_side.poll.on);
-    w.orders(&[5, 0, 96]);
-    assert!(!w.mailbox.bus_side.poll.on);
+    assert_eq!(w.mailbox.bus_side.poll, BusResponse::OFF);
+    w.orders(&[5, 99, 5, 0, 96]);
+    assert_eq!(w.mailbox.bus_side.poll, BusResponse::OFF);
 }
 
 #[test]
@@ -63,9 +63,8 @@ fn a_command_that_is_not_secondary_ends_the_response_and_acts_as_usual() {
         w.orders(&[5, 98]);
         let mut plain = w;
         w.orders(&[5, command]);
-        assert!(!w.mailbox.bus_side.poll.on);
         plain.orders(&[command]);
-        plain.mailbox.bus_side.poll.on = false;
+        plain.mailbox.bus_side.poll = BusResponse::OFF;
         assert_eq!(w, plain);
     }
 }
@@ -85,9 +84,9 @@ fn interface_clear_ends_roles_serial_poll_and_a_pending_configure() {
     }
     w.orders(&[5]);
     w.bus_clear();
-    assert!(!w.mailbox.bus_side.poll.on);
+    assert_eq!(w.mailbox.bus_side.poll, BusResponse::OFF);
     w.orders(&[98]);
-    assert!(!w.mailbox.bus_side.poll.on);
+    assert_eq!(w.mailbox.bus_side.poll, BusResponse::OFF);
 }
 
 #[test]

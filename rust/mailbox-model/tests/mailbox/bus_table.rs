@@ -1,7 +1,7 @@
 //! A test for each row of the manual's table of HP-IB messages in mailbox mode.
 
 use crate::world::{World, BUS};
-use raftershim_mailbox_model::{Answer, BusSide};
+use raftershim_mailbox_model::{Answer, BusResponse, BusSide, ADDRESSED, IDLE};
 
 type W = World<3, 3>;
 
@@ -13,6 +13,15 @@ fn after(commands: &[u8]) -> BusSide {
     let mut w = W::new();
     w.orders(commands);
     w.mailbox.bus_side
+}
+
+/// The phase of one that is talker, or is not.
+fn phase(talker: bool) -> u8 {
+    if talker {
+        ADDRESSED
+    } else {
+        IDLE
+    }
 }
 
 #[test]
@@ -37,7 +46,7 @@ fn listen_address() {
     for n in 0..31 {
         assert_eq!(after(&[32 + n]).listener, n == BUS);
         assert!(after(&[LISTEN, 32 + n]).listener);
-        assert_eq!(after(&[TALK, 32 + n]).talker, n != BUS);
+        assert_eq!(after(&[TALK, 32 + n]).talker, phase(n != BUS));
     }
 }
 
@@ -46,13 +55,13 @@ fn parallel_poll_configure() {
     assert!(after(&[LISTEN, 5]).configuring);
     assert!(!after(&[5]).configuring);
     assert!(!after(&[TALK, 5]).configuring);
-    assert!(!after(&[LISTEN, 5, 96, 5, 0]).poll.on);
+    assert_eq!(after(&[LISTEN, 5, 97, 5, 0]).poll, BusResponse::OFF);
 }
 
 #[test]
 fn parallel_poll_disable() {
     for code in 112..128 {
-        assert!(!after(&[LISTEN, 5, 96, 5, code]).poll.on);
+        assert_eq!(after(&[LISTEN, 5, 97, 5, code]).poll, BusResponse::OFF);
         assert!(after(&[LISTEN, 5, 96, code]).poll.on);
     }
 }
@@ -61,7 +70,7 @@ fn parallel_poll_disable() {
 fn parallel_poll_enable() {
     for code in 0..16 {
         let poll = after(&[LISTEN, 5, 96 + code]).poll;
-        assert!(poll.on && poll.sense);
+        assert!(poll.on);
         assert_eq!(poll.line, code % 8);
         assert!(!after(&[LISTEN, 96 + code]).poll.on);
     }
@@ -69,8 +78,8 @@ fn parallel_poll_enable() {
 
 #[test]
 fn parallel_poll_unconfigure() {
-    assert!(!after(&[LISTEN, 5, 96, 21]).poll.on);
-    assert!(!after(&[LISTEN, 5, 96, 63, 21]).poll.on);
+    assert_eq!(after(&[LISTEN, 5, 97, 21]).poll, BusResponse::OFF);
+    assert_eq!(after(&[LISTEN, 5, 97, 63, 21]).poll, BusResponse::OFF);
 }
 
 #[test]
@@ -85,8 +94,8 @@ fn selected_device_clear() {
 #[test]
 fn talk_address() {
     for n in 0..31 {
-        assert_eq!(after(&[64 + n]).talker, n == BUS);
-        assert_eq!(after(&[TALK, 64 + n]).talker, n == BUS);
+        assert_eq!(after(&[64 + n]).talker, phase(n == BUS));
+        assert_eq!(after(&[TALK, 64 + n]).talker, phase(n == BUS));
         assert_eq!(after(&[LISTEN, 64 + n]).listener, n != BUS);
     }
 }
@@ -94,12 +103,12 @@ fn talk_address() {
 #[test]
 fn unlisten() {
     assert!(!after(&[LISTEN, 63]).listener);
-    assert!(after(&[TALK, 63]).talker);
+    assert_eq!(after(&[TALK, 63]).talker, ADDRESSED);
 }
 
 #[test]
 fn untalk() {
-    assert!(!after(&[TALK, 95]).talker);
+    assert_eq!(after(&[TALK, 95]).talker, IDLE);
     assert!(after(&[LISTEN, 95]).listener);
 }
 

@@ -56,20 +56,20 @@ fn holds_in<const B: usize, const L: usize>(alphabet: &[Call], states: usize) {
 
 #[test]
 fn stores_of_one_cell() {
-    holds_in::<1, 1>(&[&COMMON[..], &MORE[..]].concat(), 216_960);
+    holds_in::<1, 1>(&[&COMMON[..], &MORE[..]].concat(), 410_824);
 }
 
 #[test]
 fn two_cells_to_the_bus() {
-    holds_in::<2, 1>(&COMMON, 41_886);
+    holds_in::<2, 1>(&COMMON, 59_652);
 }
 
 #[test]
 fn two_cells_to_the_loop() {
-    holds_in::<1, 2>(&COMMON, 40_312);
+    holds_in::<1, 2>(&COMMON, 53_444);
 }
 
 #[test]
 fn two_cells_each_way() {
-    holds_in::<2, 2>(&COMMON, 321_606);
+    holds_in::<2, 2>(&COMMON, 453_864);
 }

@@ -1,12 +1,13 @@
 //! Which states fit, and that every call is total on those that do.
 
-use crate::world::{lines, World};
-use raftershim_mailbox_model::{Answer, Mailbox, News, Part, Response, LARGEST};
+use crate::draw::Draw;
+use crate::world::World;
+use raftershim_mailbox_model::{Answer, Mailbox, Part, LARGEST};
 
 type Small = World<2, 1>;
 
 /// Each changes one thing in a fresh state, after which it does not fit.
-const MISFITS: [fn(&mut Mailbox); 19] = [
+const MISFITS: [fn(&mut Mailbox); 21] = [
     |m| m.to_bus.ring.capacity = 1,
     |m| m.to_loop.ring.capacity = 2,
     |m| m.to_bus.ring.oldest = 2,
@@ -17,14 +18,16 @@ const MISFITS: [fn(&mut Mailbox); 19] = [
     |m| m.loop_side.talker = 4,
     |m| m.loop_side.source = 11,
     |m| m.loop_side.under_way = 1024,
-    |m| m.loop_side.held = Some(1024),
+    |m| m.loop_side.held = 1024,
+    |m| (m.loop_side.holds, m.loop_side.held) = (true, 1024),
     |m| m.loop_side.poll.line = 8,
     |m| (m.loop_side.talker, m.loop_side.listener) = (1, true),
     |m| (m.loop_side.talker, m.loop_side.listener) = (2, true),
     |m| (m.loop_side.talker, m.loop_side.listener) = (3, true),
     |m| m.bus_side.address = 31,
     |m| m.bus_side.poll.line = 8,
-    |m| (m.bus_side.talker, m.bus_side.listener) = (true, true),
+    |m| m.bus_side.talker = 2,
+    |m| (m.bus_side.talker, m.bus_side.listener) = (1, true),
     |m| (m.to_bus.ring.capacity, m.to_bus.ring.held) = (3, 3),
 ];
 
@@ -68,68 +71,6 @@ fn a_recorded_size_that_create_refuses_is_a_misfit() {
     }
 }
 
-/// Numbers that look random and are the same every time.
-struct Draw(u64);
-
-impl Draw {
-    /// A number below `below`.
-    fn below(&mut self, below: u64) -> u64 {
-        self.0 = self.0.wrapping_mul(6364136223846793005).wrapping_add(1);
-        (self.0 >> 33) % below
-    }
-
-    fn flag(&mut self) -> bool {
-        self.below(2) == 1
-    }
-
-    fn news(&mut self) -> News {
-        News {
-            request: self.flag(),
-            available: self.flag(),
-        }
-    }
-
-    fn response(&mut self) -> Response {
-        Response {
-            on: self.flag(),
-            line: self.below(8) as u8,
-            sense: self.flag(),
-        }
-    }
-
-    /// Any fitting state, reached by calls or not, and any cells.
-    fn world(&mut self) -> Small {
-        let mut w = Small::new();
-        let m = &mut w.mailbox;
-        m.to_bus.ring.oldest = self.below(2) as usize;
-        m.to_bus.ring.held = self.below(3) as usize;
-        m.to_loop.ring.held = self.below(2) as usize;
-        (m.to_bus.news, m.to_loop.news) = (self.news(), self.news());
-        let side = &mut m.loop_side;
-        side.address = [15, 31, self.below(31) as u8][self.below(3) as usize];
-        side.talker = self.below(4) as u8;
-        side.listener = side.talker == 0 && self.flag();
-        side.under_way = self.below(1024) as u16;
-        side.source = self.below(11) as u8;
-        side.finishing = self.flag();
-        side.not_ready = self.flag();
-        side.held = Some(self.below(1024) as u16).filter(|_| self.flag());
-        side.again = self.flag();
-        side.poll = self.response();
-        let side = &mut m.bus_side;
-        side.address = self.below(31) as u8;
-        side.talker = self.flag();
-        side.listener = !side.talker && self.flag();
-        side.serial_poll = self.flag();
-        side.status_read = self.flag();
-        side.configuring = self.flag();
-        side.poll = self.response();
-        w.to_bus = [self.below(1 << 16) as u16, self.below(1 << 16) as u16];
-        w.to_loop = [self.below(1 << 16) as u16];
-        w
-    }
-}
-
 #[test]
 fn every_call_is_total_on_fitting_states_and_keeps_them_fitting() {
     let mut draw = Draw(1);
@@ -162,10 +103,12 @@ fn every_call_is_total_on_fitting_states_and_keeps_them_fitting() {
 fn a_held_frame_is_released_before_finishing_is_considered() {
     let mut w = Small::new();
     let side = &mut w.mailbox.loop_side;
-    (side.talker, side.under_way, side.held) = (2, 50, Some(256 + 51));
+    (side.talker, side.under_way) = (2, 50);
+    (side.holds, side.held) = (true, 256 + 51);
     assert_eq!(w.frame(5, 66), Answer::Frame(256 + 51));
     assert!(!w.mailbox.loop_side.finishing);
-    assert_eq!(w.mailbox.loop_side.held, None);
+    let side = w.mailbox.loop_side;
+    assert_eq!((side.holds, side.held), (false, 0));
     assert_eq!(w.frame(5, 66), Answer::Frame(5 << 8 | 66));
     assert!(w.mailbox.loop_side.finishing);
 }
@@ -182,13 +125,25 @@ fn a_sending_starts_unfinished_whatever_was_before_it() {
 }
 
 #[test]
-fn the_bus_answers_a_poll_in_the_positive_sense_whatever_the_field_says() {
-    let mut w = Small::new();
-    w.mailbox.bus_side.poll = Response {
-        on: true,
-        line: 2,
-        sense: false,
-    };
-    assert_eq!(w.lines(), lines(false, 0));
-    assert_eq!(w.left_by_loop(&[1]).lines(), lines(true, 4));
+fn not_ready_makes_data_finish_and_passes_a_status_byte() {
+    for (talker, finishing) in [(0, false), (1, false), (2, true), (3, false)] {
+        let mut w = Small::new();
+        (w.mailbox.loop_side.talker, w.mailbox.loop_side.under_way) = (talker, 65);
+        assert_eq!(w.frame(5, 66), Answer::Frame(5 << 8 | 66));
+        assert_eq!(w.mailbox.loop_side.finishing, finishing);
+    }
+}
+
+#[test]
+fn a_command_forgets_the_frame_of_an_active_talker_alone() {
+    for (talker, left) in [(0, 77), (1, 77), (2, 0), (3, 0)] {
+        let mut w = Small::new();
+        let side = &mut w.mailbox.loop_side;
+        (side.talker, side.under_way, side.source) = (talker, 77, 5);
+        (side.finishing, side.held) = (true, 88);
+        w.commands(&[0]);
+        let side = w.mailbox.loop_side;
+        let forgotten = (side.under_way, side.finishing, side.source, side.held);
+        assert_eq!(forgotten, (left, left != 0, 5, 0));
+    }
 }

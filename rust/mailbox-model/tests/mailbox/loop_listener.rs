@@ -1,7 +1,7 @@
 //! How the loop side reads its messages: listening, not ready, and parallel polls.
 
 use crate::world::{f, World, BUS};
-use raftershim_mailbox_model::{Answer, Response};
+use raftershim_mailbox_model::{Answer, LoopResponse};
 
 type W = World<3, 3>;
 
@@ -115,7 +115,7 @@ fn clears_addresses_and_interface_clear_leave_the_poll_setting() {
     w.commands(&[47, 141]);
     let set = w.mailbox.loop_side.poll;
     let (on, line, sense) = (true, 5, true);
-    assert_eq!(set, Response { on, line, sense });
+    assert_eq!(set, LoopResponse { on, line, sense });
     w.commands(&[20, 4, 15, 144, 154, 79, 47, 63, 95]);
     w.frame(5, 128);
     w.commands(&[5, 128, 143]);

@@ -70,7 +70,9 @@ fn every_command_makes_an_active_talker_merely_addressed() {
             let sent = w.mailbox.loop_side.under_way;
             w.commands(&[command]);
             let side = w.mailbox.loop_side;
-            assert_eq!((side.talker, side.under_way, side.source), (1, 0, 0));
+            assert_eq!((side.talker, side.under_way), (1, 0));
+            // The source stays.
+            assert_eq!(side.source, [0, 0, 1, 10][ready as usize - 96]);
             // The forgotten frame passes, with the bit of a request that still shows.
             let service = if ready == 97 { 0 } else { 256 };
             assert_eq!(w.whole_frame(sent.into()), Answer::Frame(sent | service));

@@ -1,7 +1,9 @@
 //! A test for each row of the manual's table of HP-IL messages in mailbox mode.
 
 use crate::world::{f, World, BUS};
-use raftershim_mailbox_model::{Answer, LoopSide, ADDRESSED, DEVICE_ID, IDLE, UNASSIGNED};
+use raftershim_mailbox_model::{
+    Answer, LoopResponse, LoopSide, ADDRESSED, DEVICE_ID, IDLE, UNASSIGNED,
+};
 
 type W = World<3, 3>;
 
@@ -55,7 +57,7 @@ fn listen_address() {
 
 #[test]
 fn parallel_poll_disable() {
-    assert!(!after(&[35, 136, 5]).poll.on);
+    assert_eq!(after(&[35, 137, 5]).poll, LoopResponse::OFF);
     assert!(after(&[35, 136, 63, 5]).poll.on);
 }
 
@@ -73,8 +75,8 @@ fn parallel_poll_enable() {
 
 #[test]
 fn parallel_poll_unconfigure() {
-    assert!(!after(&[35, 136, 63, 21]).poll.on);
-    assert!(!after(&[35, 136, 21]).poll.on);
+    assert_eq!(after(&[35, 137, 63, 21]).poll, LoopResponse::OFF);
+    assert_eq!(after(&[35, 137, 21]).poll, LoopResponse::OFF);
 }
 
 #[test]

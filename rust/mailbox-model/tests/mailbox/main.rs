@@ -1,8 +1,10 @@
 //! The mailbox model held to its rules: point by point, row by row of the manual's two tables of
 //! messages, and in every order of calls on tiny stores.
 
+mod block;
 mod bus_side;
 mod bus_table;
+mod draw;
 mod every_order;
 mod fitting;
 mod history;

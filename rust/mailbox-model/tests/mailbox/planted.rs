@@ -151,7 +151,7 @@ fn news_that_come_while_status_is_under_way_and_are_forgotten() {
     let forgets: Wrong = |w, call| {
         let answer = right(w, call);
         if matches!(call, Call::Byte(..)) && answer == Answer::Done {
-            w.mailbox.loop_side.again = false;
+            w.mailbox.to_loop.news.again = false;
         }
         answer
     };

@@ -37,7 +37,13 @@ fn the_request_of_the_loop_ends_when_status_is_sent() {
     assert_eq!(w.frame(6, 0), f(7, 0));
     assert_eq!(w.frame(5, 97), f(1, 65));
     assert_eq!(w.frame(6, 0), f(6, 0));
-    assert!(w.mailbox.to_loop.news.available);
+    let (request, available, again) = (false, true, false);
+    let left = News {
+        request,
+        available,
+        again,
+    };
+    assert_eq!(w.mailbox.to_loop.news, left);
 }
 
 #[test]
@@ -106,7 +112,7 @@ fn a_status_byte_that_did_not_show_bit_0_never_ends_it() {
     // A state that calls never reach: set, not shown, and no note of it.
     w.frame(5, 97);
     w.mailbox.loop_side.under_way = 64;
-    assert!(!w.mailbox.loop_side.again);
+    assert!(!w.mailbox.to_loop.news.again);
     assert_eq!(w.echo(), f(5, 64));
     assert!(w.mailbox.to_loop.news.available);
 }
@@ -124,7 +130,6 @@ fn news_end_when_the_way_becomes_empty() {
     for mut w in [fetched, cleared] {
         assert_eq!(w.mailbox.to_bus.news, News::NONE);
         assert_eq!(w.mailbox.to_loop.news, News::NONE);
-        assert!(!w.mailbox.loop_side.again);
         assert_eq!(w.lines(), lines(false, 0));
         assert_eq!(w.frame(6, 0), f(6, 0));
     }

@@ -1,0 +1,36 @@
+//! A bridge in plain Rust behind the boundary of the C functions.
+
+/// Create and the other calls of a crate, as functions of the lent buffers.
+macro_rules! behind {
+    ($boundary:path) => {
+        use crate::bridge::call::Call;
+        use crate::bridge::Lent;
+        use $boundary as boundary;
+
+        /// Creates a state in the block.
+        pub fn create(lent: Lent, margin: u32) -> u64 {
+            let [rx, tx] = lent.stores;
+            boundary::create(lent.block, rx, tx, margin)
+        }
+
+        /// Makes a call.
+        pub fn call(lent: Lent, call: Call) -> u64 {
+            let Lent {
+                block,
+                stores: [rx, tx],
+            } = lent;
+            match call {
+                Call::Next => boundary::next_line_byte(block, rx, tx),
+                Call::Line(byte) => boundary::line_byte(block, rx, tx, byte),
+                Call::Frame(frame) => boundary::loop_frame(block, rx, tx, frame),
+                Call::Break => boundary::line_break(block, rx, tx),
+                Call::Key => boundary::key(block, rx, tx),
+                Call::Register(number, value) => {
+                    boundary::write_register(block, rx, tx, number, value)
+                }
+                Call::Reset => boundary::reset(block, rx, tx),
+                Call::Show(side) => boundary::show(block, rx, tx, side),
+            }
+        }
+    };
+}

@@ -1,0 +1,82 @@
+//! The history of one run, kept whole, and demand 3 read literally against it.
+
+use super::promises::Promises;
+use super::rule::Rule;
+use super::seen::{seen, Seen};
+use super::watch::counted;
+use super::TheBridge;
+use crate::machine::{Made, Watcher};
+use model::{Bridge, Ring};
+
+/// What a run's watcher writes down.
+pub struct Run {
+    /// Bytes held for the loop at the start, then all accepted.
+    accepted: Vec<u8>,
+    /// Data frames sent from the receive store, the service bit aside.
+    sent: Vec<u16>,
+    /// Bytes held for the line at the start, then all added.
+    added: Vec<u8>,
+    /// Line bytes handed out, our own go and stop aside.
+    handed_out: Vec<u8>,
+    promises: Promises,
+}
+
+/// The bytes that a ring holds, oldest first.
+fn held(ring: Ring, store: &[u8]) -> Vec<u8> {
+    let place = |i| store[(ring.oldest + i) % store.len()];
+    (0..ring.held).map(place).collect()
+}
+
+impl Watcher<TheBridge> for Run {
+    fn starting(state: &Bridge, [rx, tx]: [&[u8]; 2]) -> Run {
+        Run {
+            accepted: held(state.receive, rx),
+            sent: Vec::new(),
+            added: held(state.transmit, tx),
+            handed_out: Vec::new(),
+            promises: Promises::starting(state),
+        }
+    }
+
+    /// Writes down a call. A register write, a device clear and a reset end the run that demand 3
+    /// speaks of: it is held to the demand as it was before them, and the next one starts. None of
+    /// the three writes a store.
+    fn note(&mut self, made: &Made<TheBridge>) -> Result<u32, String> {
+        let (before, after) = (made.before, made.after);
+        let event = seen(before, made.call, made.answer);
+        match event {
+            Seen::Accepted(byte) => self.accepted.push(byte),
+            Seen::Sent(frame) => self.sent.push(frame),
+            Seen::Added(bytes, len) => self.added.extend_from_slice(&bytes[..len]),
+            Seen::HandedOut(byte) => self.handed_out.push(byte),
+            Seen::Register | Seen::DeviceClear | Seen::Reset => {
+                self.check(before, made.stores)?;
+                let promises = self.promises;
+                *self = Run::starting(after, made.stores);
+                self.promises = promises;
+            }
+            _ => {}
+        }
+        counted(event, before, after)?;
+        self.promises.note(before, event, after)?;
+        Ok(event.rows())
+    }
+
+    /// "The data frames sent from the receive store, followed by those the reading rule gives for
+    /// the bytes still held, are those it gives for the bytes held at the start and then all
+    /// accepted"; and what was handed out, then what is held for the line, are the bytes added.
+    fn check(&self, state: &Bridge, [rx, tx]: [&[u8]; 2]) -> Result<(), String> {
+        let rule = Rule::of(&state.registers);
+        let mut frames = self.sent.clone();
+        frames.extend(rule.frames(&held(state.receive, rx)));
+        if frames != rule.frames(&self.accepted) {
+            return Err("frames sent and held are not those of the bytes accepted".into());
+        }
+        let mut line = self.handed_out.clone();
+        line.extend(held(state.transmit, tx));
+        if line != self.added {
+            return Err("line bytes given and held are not those added".into());
+        }
+        Ok(())
+    }
+}

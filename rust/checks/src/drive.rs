@@ -1,0 +1,76 @@
+//! Drives a pair through a run.
+
+use crate::machine::{Machine, Made, Watcher};
+use crate::pair::Pair;
+use crate::random::Random;
+use crate::runs::Drawable;
+use crate::tally::Tally;
+
+/// What a step does: a call that may depend on the state of the moment.
+pub trait What<M: Machine>: Copy {
+    /// The call in this state, if it is done this often already in a row.
+    fn call(self, state: &M::State, done: u8) -> M::Call;
+}
+
+/// A step: a thing that is often done several times in a row.
+#[derive(Clone, Copy, Debug)]
+pub struct Step<W> {
+    what: W,
+    /// How often it is done already in this row.
+    done: u8,
+}
+
+/// The steps of so many rows, from one on and below a bound.
+pub fn steps<M: Drawable>(random: &mut Random, rows: usize) -> Vec<Step<M::What>> {
+    let rows = random.within(1..=rows - 1);
+    let row = |_| {
+        let (what, most) = M::what(random);
+        let times = random.within(1..=most.into()) as u8;
+        (0..times).map(move |done| Step { what, done })
+    };
+    (0..rows).flat_map(row).collect()
+}
+
+/// Makes every step on both sides, and holds them to the laws by the run's history.
+pub fn drive<M: Machine>(
+    mut pair: Pair<M>,
+    steps: &[Step<impl What<M>>],
+    tally: &mut Tally<M>,
+) -> Result<(), String> {
+    tally.runs += 1;
+    let mut before = pair.state().ok_or("the run starts at no state")?;
+    let mut run = M::Run::starting(&before, pair.buffers().stores());
+    for step in steps {
+        let call = step.what.call(&before, step.done);
+        let answer = pair.call(call)?;
+        let after = pair.state().ok_or_else(|| pair.told("no state"))?;
+        let noted = run.note(&Made {
+            before: &before,
+            call,
+            answer,
+            after: &after,
+            stores: pair.buffers().stores(),
+        });
+        let rows = noted.map_err(|finding| pair.told(&finding))?;
+        tally.note(call, answer, rows);
+        before = after;
+    }
+    let checked = run.check(&before, pair.buffers().stores());
+    checked.map_err(|finding| pair.told(&finding))
+}
+
+/// Makes these calls on both sides, whatever the block means, and last a create with this number.
+pub fn make_all<M: Machine>(
+    mut pair: Pair<M>,
+    calls: &[M::Call],
+    number: u32,
+    tally: &mut Tally<M>,
+) -> Result<(), String> {
+    tally.runs += 1;
+    for &call in calls {
+        let answer = pair.call(call)?;
+        tally.note(call, answer, 0);
+    }
+    tally.answered(pair.recreate(number)?);
+    Ok(())
+}
