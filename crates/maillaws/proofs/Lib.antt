@@ -32,5 +32,7 @@ pub mod StatusSent
 pub mod NewsKept
 pub mod NewsRuns
 pub mod NewsEnds
+-- `PassedOn` is of frames that go on and of the two IDs.
+pub mod PassedOn
 -- `Laws` has all of them in one theorem.
 pub mod Laws

@@ -12,6 +12,7 @@ use Rattle.maillaws.specs.Giving.{LoopGiven, BusGiven}
 use Rattle.maillaws.specs.NotReady.{HoldsBack, Released}
 use Rattle.maillaws.specs.LoopRole.{LoopRoleGoes}
 use Rattle.maillaws.specs.BusRole.{BusRoleGoes}
+use Rattle.maillaws.specs.FramesOn.{FramesPass}
 
 abbrev pub laws : List Law
 laws =
@@ -22,4 +23,5 @@ laws =
     ∷ NewsStays ∷ NewsEnds ∷ StatusTold
     ∷ RequestWaits toBus ∷ RequestWaits toLoop ∷ RequestGoes toBus ∷ RequestGoes toLoop
     ∷ LoopGiven ∷ BusGiven ∷ HoldsBack ∷ Released ∷ LoopRoleGoes ∷ BusRoleGoes
+    ∷ FramesPass
     ∷ []

@@ -12,5 +12,6 @@ pub mod Giving
 pub mod NotReady
 pub mod LoopRole
 pub mod BusRole
+pub mod FramesOn
 pub mod Laws
 pub mod Obeyed
