@@ -34,5 +34,7 @@ pub mod NewsRuns
 pub mod NewsEnds
 -- `PassedOn` is of frames that go on and of the two IDs.
 pub mod PassedOn
+-- `ServiceBits` is of the service bit of every frame out.
+pub mod ServiceBits
 -- `Laws` has all of them in one theorem.
 pub mod Laws

@@ -13,6 +13,7 @@ use Rattle.maillaws.specs.NotReady.{HoldsBack, Released}
 use Rattle.maillaws.specs.LoopRole.{LoopRoleGoes}
 use Rattle.maillaws.specs.BusRole.{BusRoleGoes}
 use Rattle.maillaws.specs.FramesOn.{FramesPass}
+use Rattle.maillaws.specs.ServiceOut.{ServiceBit}
 
 abbrev pub laws : List Law
 laws =
@@ -23,5 +24,5 @@ laws =
     ∷ NewsStays ∷ NewsEnds ∷ StatusTold
     ∷ RequestWaits toBus ∷ RequestWaits toLoop ∷ RequestGoes toBus ∷ RequestGoes toLoop
     ∷ LoopGiven ∷ BusGiven ∷ HoldsBack ∷ Released ∷ LoopRoleGoes ∷ BusRoleGoes
-    ∷ FramesPass
+    ∷ FramesPass ∷ ServiceBit
     ∷ []

@@ -13,5 +13,6 @@ pub mod NotReady
 pub mod LoopRole
 pub mod BusRole
 pub mod FramesOn
+pub mod ServiceOut
 pub mod Laws
 pub mod Obeyed
