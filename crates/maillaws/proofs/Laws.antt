@@ -14,6 +14,7 @@ use Rattle.maillaws.proofs.Given.{loop-given, bus-given}
 use Rattle.maillaws.proofs.HeldBack.{holds-back, released}
 use Rattle.maillaws.proofs.LoopRoles.{loop-role-goes}
 use Rattle.maillaws.proofs.BusRoles.{bus-role-goes}
+use Rattle.maillaws.proofs.Returned.{returns-judged}
 use Rattle.maillaws.proofs.PassedOn.{frames-pass}
 use Rattle.maillaws.proofs.ServiceBits.{service-bit}
 
@@ -26,5 +27,5 @@ all-obeyed =
     also news-stays also news-ends also status-told
     also request-waits toBus also request-waits toLoop also request-goes toBus also request-goes toLoop
     also loop-given also bus-given also holds-back also released also loop-role-goes also bus-role-goes
-    also frames-pass also service-bit
+    also returns-judged also frames-pass also service-bit
     also tt

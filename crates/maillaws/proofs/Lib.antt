@@ -32,6 +32,9 @@ pub mod StatusSent
 pub mod NewsKept
 pub mod NewsRuns
 pub mod NewsEnds
+-- `OwnRuns` and `Returned` are of returns on the loop.
+pub mod OwnRuns
+pub mod Returned
 -- `PassedOn` is of frames that go on and of the two IDs.
 pub mod PassedOn
 -- `ServiceBits` is of the service bit of every frame out.

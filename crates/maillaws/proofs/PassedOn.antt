@@ -2,10 +2,10 @@
 use Prim.Native.Nat.{ℕ, _+_, _≤_}
 use native.Mathlib.Omega.{arith}
 use mathlib.Core.Path.{_≡_, refl, sym, ap, subst, _∙_}
-use mathlib.Core.Bool.{Bool, true, false, cond, _&&_, _||_, not, and-eq-true-iff, false≢true}
+use mathlib.Core.Bool.{Bool, true, false, _&&_, not, and-eq-true-iff, false≢true}
 use lib.Dec.{eqb, leb, ltb}
-use borrow.Author.Tests.{eqb-true, eqb-false, eq-eqb, ne-eqb, le-leb, leb-true, ltb-true, le-ltb, not-true}
-use Rattle.branches.proofs.Branches.{by-cond, and-left, and-right, same-test}
+use borrow.Author.Tests.{eqb-true, eq-eqb, ne-eqb, le-leb, leb-true, ltb-true, le-ltb, not-true}
+use Rattle.branches.proofs.Branches.{by-cond, and-left, and-right}
 use Rattle.machine.specs.Machine.{Obeys, seen}
 use Rattle.machine.proofs.Course.{neither}
 use Rattle.frame.specs.Frame.{controlOf, dataOf, made, isData, sameApart}

@@ -1,14 +1,13 @@
 -- The service bit of every frame out. Assumes nothing.
-use Prim.Native.Nat.{ℕ, _+_, _*_, _/_, _%_, _<_, _≤_}
+use Prim.Native.Nat.{ℕ, _+_, _/_, _%_, _<_}
 use native.Mathlib.Omega.{arith}
-use mathlib.Core.Path.{_≡_, refl, sym, ap, subst, _∙_}
-use mathlib.Core.Bool.{Bool, true, false, cond, _&&_, _||_, not, or-true, or-false, and-false, false≢true, true≢false}
-use mathlib.Core.List.{List}
+use mathlib.Core.Path.{_≡_, refl, sym, subst, _∙_}
+use mathlib.Core.Bool.{Bool, true, false, cond, _&&_, _||_, or-false, false≢true}
 use lib.Dec.{eqb, leb, ltb}
 use lib.ListN.{getD}
-use borrow.Author.Tests.{eqb-true, eqb-false, eq-eqb, ne-eqb, lt-ltb, le-ltb, ltb-true, ltb-false}
-use Rattle.branches.proofs.Branches.{by-cond, and-left, and-right, same-test}
-use Rattle.machine.specs.Machine.{Obeys, seen}
+use borrow.Author.Tests.{eqb-true, eqb-false, ne-eqb, lt-ltb, le-ltb, ltb-true, ltb-false}
+use Rattle.branches.proofs.Branches.{by-cond, and-left, and-right}
+use Rattle.machine.specs.Machine.{Obeys}
 use Rattle.frame.specs.Frame.{controlOf, dataOf, made, isData, hasService, withService}
 use Rattle.frame.proofs.Laws.{service-set, control-service, control-made, data-small}
 use Rattle.answers.specs.Answers.{said, frame}
@@ -20,7 +19,7 @@ use Rattle.store.specs.Ring.{held}
 use Rattle.mailstate.specs.declared.State.{State}
 use Rattle.mailstate.specs.declared.Outcome.{Outcome}
 use Rattle.mailloop.specs.Sends.{marked, frameOf, serviced, ended, sends, sendWaiting, sendId, sendAccessory, sendStatus}
-use Rattle.mailloop.specs.Messages.{released, identify, frameTaken}
+use Rattle.mailloop.specs.Messages.{released, identify}
 use Rattle.mailbox.specs.Calls.{loopFrame, Call, on, World, Did, outcome, notRefused, step}
 use Rattle.maillaws.specs.Mailboxes.{mailbox}
 use Rattle.maillaws.specs.Requesting.{carriesService}

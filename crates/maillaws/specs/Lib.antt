@@ -12,6 +12,7 @@ pub mod Giving
 pub mod NotReady
 pub mod LoopRole
 pub mod BusRole
+pub mod OwnReturns
 pub mod FramesOn
 pub mod ServiceOut
 pub mod Laws

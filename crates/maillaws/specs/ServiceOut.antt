@@ -1,7 +1,7 @@
 -- The service bit of every frame out.
 use Prim.Native.Nat.{ℕ, _%_}
 use mathlib.Core.Path.{_≡_}
-use mathlib.Core.Bool.{Bool, true, false, cond, _&&_, _||_, not}
+use mathlib.Core.Bool.{Bool, true, cond, _&&_, _||_, not}
 use lib.Dec.{eqb, ltb}
 use Rattle.machine.specs.Machine.{ofCalls}
 use Rattle.frame.specs.Frame.{controlOf, made, isData, hasService}
