@@ -115,7 +115,8 @@ module _ (k : Bool) (g : ℕ) (z e : Bool) where
     frame-on D C o (isCleared r c) = absurd (true≢false (sym (r .four) ∙ C))
     frame-on D C o (isObeyed r c) = absurd (true≢false (sym (r .four) ∙ C))
     frame-on D C o (isReleased r h) = held-on
-    frame-on D C o (isAssigned r h a) = kept s _ _ refl refl refl (unlike (said (passed s (made 5 (dataOf f + 1)) .answer)) (no-frame-by-byte f 5 66 (omega arith) (address-high a))) u
+    frame-on D C o (isAssigned r h a) =
+        kept s _ _ refl refl refl (unlike (said (passed s (made 5 (dataOf f + 1)) .answer)) (no-frame-by-byte f 5 66 (omega arith) (address-high a))) u
     frame-on D C o (isSendAsked r x) = absurd (not-addressed s u (and-right (eqb (dataOf f) 96) _ x))
     frame-on D C o (isTold r x y) = absurd (not-addressed s u (and-right (eqb (dataOf f) 97) _ y))
     frame-on D C o (isFinishing r x y h) =
@@ -191,5 +192,6 @@ run-on k g z e [] w u n = subst (λ (x : Bool). Under k g z x (w .state)) (sym (
 run-on k g z e (c ∷ cs) w u n =
     let m = first-not endsWay (seen (mailbox step) c w) (course (mailbox step) cs (step c w .world)) n in
     let x = finishes c w (step c w .said) in
-    subst (λ (y : Bool). Under k g z y (finally (mailbox step) cs (step c w .world) .state)) (or-assoc e x (some finishes (course (mailbox step) cs (step c w .world))))
+    subst (λ (y : Bool). Under k g z y (finally (mailbox step) cs (step c w .world) .state))
+    (or-assoc e x (some finishes (course (mailbox step) cs (step c w .world))))
     (run-on k g z (e || x) cs (step c w .world) (call-on k g z e c w u (m .0)) (m .1))

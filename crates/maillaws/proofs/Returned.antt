@@ -105,7 +105,9 @@ module _ (w : World) (f g : ℕ) where
   way-starts : asksOwn false w f ≡ true → (o : Outcome) → Way s (w .toloop) f o → Starts o
   unfolding said sendAccessory released identify
   way-starts T o (isNext r m) = waiting-start
-  way-starts T o (isNextId r m) = id-start (s .source) (rw (data-no-frame f 5 96 (r .back .isdata) (omega arith) (omega arith), r .back .isdata, r .back .active, m))
+  way-starts T o (isNextId r m) =
+      let b = r .back in
+      id-start (s .source) (rw (data-no-frame f 5 96 (b .isdata) (omega arith) (omega arith), b .isdata, b .active, m))
   way-starts T o (isBack r m t) = ended-start _ 64 (omega arith)
   way-starts T o (isLast r m t x) = ended-start _ 64 (omega arith)
   way-starts T o (isDamaged r m) = ended-start _ 65 (omega arith)
@@ -129,7 +131,9 @@ module _ (w : World) (f g : ℕ) where
   -- the status byte
   status-starts : f ≡ made 5 97 → dataFrame (said (frameTaken s (w .toloop) f .answer)) ≡ g ∷ [] → Under true g false false (frameTaken s (w .toloop) f .state)
   unfolding sendStatus talking said
-  status-starts q = subst Told (sym (ap (frameTaken s (w .toloop)) q ∙ status-frame s (w .toloop))) (by-cond Told (eqb (s .talker .role .phase) 1) _ _ sent other)
+  status-starts q =
+      subst Told (sym (ap (frameTaken s (w .toloop)) q ∙ status-frame s (w .toloop)))
+      (by-cond Told (eqb (s .talker .role .phase) 1) _ _ sent other)
     where
       Told : Outcome → Type 0
       Told o = dataFrame (said (o .answer)) ≡ g ∷ [] → Under true g false false (o .state)
@@ -215,7 +219,8 @@ module _ (k : Bool) (g : ℕ) (z e : Bool) (v : World) (u : Under k g z e (v .st
   unfolding frameTaken dataTaken returnOf judged ended said
   is-ended m h = go k (u .phase) (u .finishing) h
     where
-      go : (k : Bool) → v .state .talker .role .phase ≡ cond k 3 2 → (k ≡ false → v .state .talker .under .finishing ≡ e) → (k || e) ≡ true → answered ≡ frame 5 64
+      go : (k : Bool) → v .state .talker .role .phase ≡ cond k 3 2 → (k ≡ false → v .state .talker .under .finishing ≡ e) → (k || e) ≡ true →
+          answered ≡ frame 5 64
       go true p n h = rw (D, active, same-as ∙ m, eq-eqb (v .state .talker .role .phase) 3 p)
       go false p n h = rw (D, active, same-as ∙ m, ne-eqb (v .state .talker .role .phase) 3 (λ q. omega arith), n refl ∙ h)
 
@@ -231,21 +236,25 @@ module _ (k : Bool) (g : ℕ) (z e : Bool) (v : World) (u : Under k g z e (v .st
 pub returns-judged : Obeys (mailbox step) ReturnsJudged
 unfolding fetched notRefused outcome
 returns-judged c cs d w _ _ _ k g r o n q D t =
-    subst (λ (x : Call). taken (step x v .said) ≡ true → Judged g r k (some finishes (course (mailbox step) cs (step c w .world))) (seen (mailbox step) c w) (seen (mailbox step) x v)) (sym q) right t
+    subst (λ (x : Call). taken (step x v .said) ≡ true → Judged g r k last (seen (mailbox step) c w) (seen (mailbox step) x v)) (sym q) right t
   where
     v : World
     v = finally (mailbox step) cs (step c w .world)
 
+    last : Bool
+    last = some finishes (course (mailbox step) cs (step c w .world))
+
     z : Bool
     z = any (fetched toLoop c w (step c w .said))
 
-    u : Under k g z (some finishes (course (mailbox step) cs (step c w .world))) (v .state)
+    u : Under k g z last (v .state)
     u = run-on k g z false cs (step c w .world) (begins k g c w o) n
 
-    by-frame : (P : Said → Type 0) → P (said (frameTaken (v .state) (v .toloop) r .answer)) → taken (step (on (loopFrame r)) v .said) ≡ true → P (step (on (loopFrame r)) v .said)
+    by-frame : (P : Said → Type 0) → P (said (frameTaken (v .state) (v .toloop) r .answer)) → taken (step (on (loopFrame r)) v .said) ≡ true →
+        P (step (on (loopFrame r)) v .said)
     by-frame P p = by-refusal (λ (x : Did). taken (x .said) ≡ true → P (x .said)) (on (loopFrame r)) v (λ _ _. p) (λ _ h. absurd (false≢true h))
 
-    right : taken (step (on (loopFrame r)) v .said) ≡ true → Judged g r k (some finishes (course (mailbox step) cs (step c w .world))) (seen (mailbox step) c w) (seen (mailbox step) (on (loopFrame r)) v)
+    right : taken (step (on (loopFrame r)) v .said) ≡ true → Judged g r k last (seen (mailbox step) c w) (seen (mailbox step) (on (loopFrame r)) v)
     right t =
         record {
           damaged = λ x. by-frame (λ a. a ≡ frame 5 65) (is-damaged k g z _ v u r D x) t;

@@ -28,7 +28,8 @@ use Rattle.maillaws.proofs.Refusal.{by-refusal, frame-fitting}
 use Rattle.maillaws.proofs.Small.{news-small, id-small, frame-small, joined-small}
 use Rattle.maillaws.proofs.FitParts.{Parts, parts}
 use Rattle.maillaws.proofs.FrameTests.{data-not, data-no-frame, no-frame-by-control, frame-is}
-use Rattle.maillaws.proofs.FrameWays.{Way, way, Returning, Arriving, Commanding, Readying, Identifying, isNext, isNextId, isBack, isLast, isDamaged, isHeld, isHeard, isPassed}
+use Rattle.maillaws.proofs.FrameWays.{Way, way, Returning, Arriving, Commanding, Readying, Identifying}
+use Rattle.maillaws.proofs.FrameWays.{isNext, isNextId, isBack, isLast, isDamaged, isHeld, isHeard, isPassed}
 use Rattle.maillaws.proofs.FrameWays.{isCleared, isObeyed, isReleased, isAssigned, isSendAsked, isTold, isFinishing, isIdAsked}
 use Rattle.maillaws.proofs.FrameWays.{isAccessory, isReady, isIdentified}
 

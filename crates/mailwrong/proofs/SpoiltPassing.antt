@@ -35,7 +35,7 @@ sends-unasked-falls law =
     (rw (holds (cellsFor toLoop) 0 2 refl)
     at (law (asks toLoop) (waiting toLoop 2 assigned) tt (made 5 96) refl refl .ready refl refl refl))
 
--- 5,98 goes on, where "H" is due, and 5,99 where 0,67 is
+-- 5,98 goes on, where "H" is due
 pub has-no-id-falls : Breaks hasNoId FramesPass
 unfolding computes
 has-no-id-falls law = answers-differ _ _ refl (law (takes 5 98) (fetcher toLoop) tt (made 5 98) refl refl .device refl refl)

@@ -54,7 +54,8 @@ awaits-frame-0-falls law =
     lists-differ _ _ refl
     (rw (holds (cellsFor toLoop) 1 1 refl)
     at (in-between mail awaitsFrame0 ReturnsJudged (waiting toLoop 2 (fetcher toLoop)) (firstSent (underWayAs 0)) [] (takes 2 50)
-    (rw (holds (cellsFor toLoop) 0 2 refl, no-round 2 1 refl), tt) tt (tt, tt) law false (made 2 50) (made 2 50) refl refl refl refl refl .next refl refl refl .0))
+    (rw (holds (cellsFor toLoop) 0 2 refl, no-round 2 1 refl), tt) tt (tt, tt) law
+    false (made 2 50) (made 2 50) refl refl refl refl refl .next refl refl refl .0))
 
 pub sends-one-falls : Breaks sendsOne ReturnsJudged
 unfolding computes firstSent
@@ -62,4 +63,5 @@ sends-one-falls law =
     lists-differ _ _ refl
     (rw (holds (cellsFor toLoop) 1 1 refl)
     at (in-between mail sendsOne ReturnsJudged (waiting toLoop 2 (fetcher toLoop)) (firstSent (λ s. withSource s 10)) [] (takes 2 50)
-    (rw (holds (cellsFor toLoop) 0 2 refl, no-round 2 1 refl), tt) tt (tt, tt) law false (made 2 50) (made 2 50) refl refl refl refl refl .next refl refl refl .0))
+    (rw (holds (cellsFor toLoop) 0 2 refl, no-round 2 1 refl), tt) tt (tt, tt) law
+    false (made 2 50) (made 2 50) refl refl refl refl refl .next refl refl refl .0))

@@ -1,6 +1,6 @@
 -- Mailboxes that pass another frame on than is due, or send where they should pass.
 use Prim.Native.Nat.{ℕ, _+_, _%_}
-use mathlib.Core.Bool.{Bool, true, false, cond, _&&_, _||_, not}
+use mathlib.Core.Bool.{Bool, false, cond, _&&_, _||_, not}
 use lib.Dec.{eqb}
 use Rattle.frame.specs.Frame.{controlOf, dataOf, made}
 use Rattle.role.specs.Role.{withListener, withPhase}

@@ -1,6 +1,6 @@
 -- Mailboxes that judge the return of their own frame wrongly, or send another thing after it than is due.
 use Prim.Native.Nat.{ℕ}
-use mathlib.Core.Bool.{Bool, false, cond, _&&_}
+use mathlib.Core.Bool.{false, cond, _&&_}
 use lib.Dec.{eqb}
 use Rattle.frame.specs.Frame.{isData}
 use Rattle.answers.specs.Answers.{Said, frame}

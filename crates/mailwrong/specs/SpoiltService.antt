@@ -1,9 +1,9 @@
 -- Mailboxes that show a request for service on the loop wrongly.
 use Prim.Native.Nat.{ℕ}
-use mathlib.Core.Bool.{Bool, true, false, cond, _&&_}
+use mathlib.Core.Bool.{cond, _&&_}
 use lib.Dec.{eqb, leb, ltb}
 use Rattle.frame.specs.Frame.{made, isData}
-use Rattle.answers.specs.Answers.{Said, frame}
+use Rattle.answers.specs.Answers.{frame}
 use Rattle.mailbox.specs.Calls.{Call, World, Did}
 use Rattle.maillaws.specs.Sights.{toLoop, newsOf, ofFrameSaid, onFrame}
 use Rattle.mailwrong.specs.Spoiling.{answering}
