@@ -32,8 +32,9 @@ pub mod StatusSent
 pub mod NewsKept
 pub mod NewsRuns
 pub mod NewsEnds
--- `OwnRuns` and `Returned` are of returns on the loop.
+-- `OwnRuns`, `OwnStarts` and `Returned` are of returns on the loop.
 pub mod OwnRuns
+pub mod OwnStarts
 pub mod Returned
 -- `PassedOn` is of frames that go on and of the two IDs.
 pub mod PassedOn

@@ -40,6 +40,11 @@ pub has-no-id-falls : Breaks hasNoId FramesPass
 unfolding computes
 has-no-id-falls law = answers-differ _ _ refl (law (takes 5 98) (fetcher toLoop) tt (made 5 98) refl refl .device refl refl)
 
+-- 5,99 goes on, where 0,67 is due
+pub has-no-id-either : Breaks hasNoId FramesPass
+unfolding computes
+has-no-id-either law = answers-differ _ _ refl (law (takes 5 99) (fetcher toLoop) tt (made 5 99) refl refl .accessory refl refl)
+
 -- 2,50 is back after one byte of the ID, and a line feed follows, where "P" is due
 pub feeds-for-ever-falls : Breaks feedsForEver FramesPass
 unfolding computes

@@ -1,6 +1,6 @@
 -- Mailboxes that judge the return of their own frame wrongly, or send another thing after it than is due. Assumes nothing.
 use mathlib.Core.Path.{refl}
-use mathlib.Core.Bool.{false}
+use mathlib.Core.Bool.{true, false}
 use mathlib.Core.List.{[], _∷_}
 use Rattle.frame.specs.Frame.{made}
 use Rattle.answers.specs.Answers.{frame}
@@ -35,6 +35,13 @@ unfolding computes
 hides-damage-falls law =
     answers-differ _ _ refl
     (law (takes 5 98) [] (takes 0 51) (fetcher toLoop) tt tt tt false (made 0 72) (made 0 51) refl refl refl refl refl .damaged refl)
+
+-- the status byte 0,0 is sent, 0,1 comes in its place, and 5,64 is answered
+pub hides-damage-of-status : Breaks hidesDamage ReturnsJudged
+unfolding computes
+hides-damage-of-status law =
+    answers-differ _ _ refl
+    (law (takes 5 97) [] (takes 0 1) (fetcher toLoop) tt tt tt true (made 0 0) (made 0 1) refl refl refl refl refl .damaged refl)
 
 -- 5,66 comes, and then 0,72 unchanged, and "P" follows
 pub never-finishes-falls : Breaks neverFinishes ReturnsJudged
