@@ -8,7 +8,7 @@ use borrow.Author.Tests.{eqb-true}
 use Rattle.answers.specs.Answers.{part, isRefusal}
 use Rattle.answers.specs.Word.{word}
 use Rattle.codec.specs.Blocks.{isState, fittingBlock}
-use Rattle.boundary.specs.Product.{Product, Held, shown}
+use Rattle.boundary.specs.Product.{Product, Held, shown, said}
 use Rattle.boundary.specs.CCalls.{Lent, CDid, storeOf, heldIn, opened, fitting, cStep}
 use Rattle.boundary.specs.Numbers.{answerOf, partOf, answerBy, cAnswer}
 use Rattle.boundary.specs.CRuns.{wordBy, answerWord, Whole}
@@ -32,7 +32,7 @@ module _ (P : Product) (F : Formed P) where
   unfolding cAnswer answerBy
   on-answer c l = λ i. answerBy P (F .called c i) (cStep P (P .on c) l .word) l
 
-  shown-told : (side : ℕ) (l : Lent) → cAnswer P (P .show side) l ≡ P .said (P .show side) (opened P l)
+  shown-told : (side : ℕ) (l : Lent) → cAnswer P (P .show side) l ≡ said P (P .show side) (opened P l)
   unfolding partOf
   shown-told side l =
       show-answer side l
@@ -58,7 +58,7 @@ module _ (P : Product) (F : Formed P) where
     pub answers-told : AnswersTold P
     unfolding answerWord wordBy
     answers-told c l h =
-        by-call P F (λ x. cAnswer P x l ≡ P .said x (opened P l))
+        by-call P F (λ x. cAnswer P x l ≡ said P x (opened P l))
         (λ m. create-answer m l ∙ ap (answerOf (P .given)) (call-means P F K (P .create m) l h .word ∙ (λ i. wordBy P (F .created m i) (P .create m) (opened P l)))
         ∙ K .told-create m (opened P l))
         (λ side. shown-told side l)

@@ -16,15 +16,19 @@ use Rattle.store.proofs.Laws.{run-part}
 use Rattle.branches.proofs.Branches.{cond-true, by-cond}
 use Rattle.codec.specs.Blocks.{packed, isState}
 use Rattle.codec.proofs.Same.{state-length, state-packed, means, means-none}
-use Rattle.boundary.specs.Product.{Product, Held, held, Kind, creating, showing, calling, fitsHeld, shown, checks}
+use Rattle.boundary.specs.Product.{Product, Held, held, Kind, creating, showing, calling, fitsHeld, shown, checks, said, after}
 use Rattle.boundary.specs.CCalls.{Lent, lent, cDid, refusedBy, placeWord, storeOf, stateIn, heldIn, opened, blockAfter, closed, createdFor, placeOf, shownWord, cBy, cStep}
 use Rattle.boundary.specs.Formed.{MadeAlike, Formed}
+
+-- what the C functions write of what a call did: the answer's number, and the block
+abbrev pub Written : (P : Product) → List ℕ → P .Did → ℕ → List ℕ → Type 0
+Written P b d r b′ = (r ≡ word (P .saidIn d)) × (b′ ≡ blockAfter P b (P .saidIn d) (P .apart (P .leftIn d) .state))
 
 module _ (P : Product) (F : Formed P) where
   -- ---- a state that does not fit is refused
 
   -- a state that does not fit its stores: refusal 2, and the world as it was
-  pub misfit-said : (c : P .OnState) (h : Held (P .State)) → fitsHeld P h ≡ false → P .said (P .on c) (P .world h) ≡ refused 2
+  pub misfit-said : (c : P .OnState) (h : Held (P .State)) → fitsHeld P h ≡ false → said P (P .on c) (P .world h) ≡ refused 2
   unfolding checks
   misfit-said c h e =
       let n : firstRefusal (checks P (P .kind (P .on c)) (P .apart (P .world h))) ≡ 2 = (λ i. firstRefusal (checks P (F .called c i) (F .back h i))) ∙ rw e in
@@ -33,8 +37,11 @@ module _ (P : Product) (F : Formed P) where
   -- ---- the calls on a state
 
   module _ (c : P .OnState) (b xs ys : List ℕ) (s : P .State) (m : s ≡ stateIn P b) where
+    abbrev Did : P .Did → Type 0
+    Did d = d ≡ P .step (P .on c) (P .world (held s xs ys))
+
     -- what is not refused had a block that is a state
-    had-state : (d : Said) → d ≡ P .said (P .on c) (P .world (held s xs ys)) → isRefusal d ≡ false → isState (P .layout) b ≡ true
+    had-state : (d : P .Did) → Did d → isRefusal (P .saidIn d) ≡ false → isState (P .layout) b ≡ true
     had-state d e h = pick (isState (P .layout) b) refl
       where
         pick : (t : Bool) → isState (P .layout) b ≡ t → isState (P .layout) b ≡ true
@@ -42,31 +49,34 @@ module _ (P : Product) (F : Formed P) where
         pick false q =
             let none : s ≡ P .noState = m ∙ sym (means-none (P .layout) (P .noState) b false (sym q) refl) in
             let misfits : fitsHeld P (held s xs ys) ≡ false = ap (λ (y : P .State). P .fits y (length xs) (length ys)) none ∙ F .misfits (length xs) (length ys) in
-            absurd (true≢false (sym (ap isRefusal (e ∙ misfit-said c (held s xs ys) misfits)) ∙ h))
+            absurd (true≢false (sym (ap isRefusal (ap (P .saidIn) e ∙ misfit-said c (held s xs ys) misfits)) ∙ h))
 
     -- and so a block of the right length
-    pub may-write : (d : Said) → d ≡ P .said (P .on c) (P .world (held s xs ys)) → isRefusal d ≡ false → length b ≡ P .layout .len
+    pub may-write : (d : P .Did) → Did d → isRefusal (P .saidIn d) ≡ false → length b ≡ P .layout .len
     may-write d e h = state-length (P .layout) b (had-state d e h)
 
-    pub written : (d : Said) (h : Held (P .State)) → d ≡ P .said (P .on c) (P .world (held s xs ys)) →
-        h ≡ P .apart (P .after (P .on c) (P .world (held s xs ys))) → (r : ℕ) (b′ : List ℕ) → (r ≡ word d) × (b′ ≡ blockAfter P b d (h .state)) →
-        cDid r b′ (h .first) (h .second) ≡ cStep P (P .on c) (lent b xs ys)
+    -- the C function answered and left what the call did
+    pub written : (d : P .Did) → Did d → (r : ℕ) (b′ : List ℕ) → Written P b d r b′ →
+        cDid r b′ (P .apart (P .leftIn d) .first) (P .apart (P .leftIn d) .second) ≡ cStep P (P .on c) (lent b xs ys)
     unfolding cStep cBy closed
-    written d h e q r b′ t =
-        (λ i. cDid (t .0 i) (t .1 i) (h .first) (h .second))
-        ∙ (λ i. closed P (lent b xs ys) ((e ∙ ap (λ (y : P .State). P .said (P .on c) (P .world (held y xs ys))) m) i)
-        ((q ∙ ap (λ (y : P .State). P .apart (P .after (P .on c) (P .world (held y xs ys)))) m) i))
+    written d e r b′ t =
+        (λ i. cDid (t .0 i) (t .1 i) (P .apart (P .leftIn d) .first) (P .apart (P .leftIn d) .second))
+        ∙ ap (λ (x : P .Did). closed P (lent b xs ys) (P .saidIn x) (P .apart (P .leftIn x))) (e ∙ ap (λ (y : P .State). P .step (P .on c) (P .world (held y xs ys))) m)
         ∙ (λ i. cBy P (sym (F .called c) i) (P .on c) (lent b xs ys))
 
     -- a call that leaves all as it was has the block's bytes to leave
-    pub looked : (d : Said) → d ≡ P .said (P .on c) (P .world (held s xs ys)) → P .after (P .on c) (P .world (held s xs ys)) ≡ P .world (held s xs ys) →
-        (r : ℕ) → r ≡ word d → cDid r b xs ys ≡ cStep P (P .on c) (lent b xs ys)
-    looked d e q r t = written d (held s xs ys) e (sym (F .back (held s xs ys)) ∙ ap (P .apart) (sym q)) r b (t, by-cond (λ (x : List ℕ). b ≡ x) (isRefusal d) _ _ (λ z. refl) unchanged)
+    pub looked : (d : P .Did) → Did d → P .leftIn d ≡ P .world (held s xs ys) → (r : ℕ) → r ≡ word (P .saidIn d) →
+        cDid r b xs ys ≡ cStep P (P .on c) (lent b xs ys)
+    looked d e q r t =
+        let o : P .apart (P .leftIn d) ≡ held s xs ys = ap (P .apart) q ∙ F .back (held s xs ys) in
+        (λ i. cDid r b (sym o i .first) (sym o i .second))
+        ∙ written d e r b (t, by-cond (λ (x : List ℕ). b ≡ x) (isRefusal (P .saidIn d)) _ _ (λ z. refl) (unchanged o))
       where
-        unchanged : isRefusal d ≡ false → b ≡ packed (P .layout) s
-        unchanged z =
+        unchanged : P .apart (P .leftIn d) ≡ held s xs ys → isRefusal (P .saidIn d) ≡ false → b ≡ packed (P .layout) (P .apart (P .leftIn d) .state)
+        unchanged o z =
             let f : isState (P .layout) b ≡ true = had-state d e z in
-            sym (state-packed (P .layout) b f) ∙ ap (packed (P .layout)) (means (P .layout) (P .noState) b true (sym f) refl ∙ sym m)
+            sym (state-packed (P .layout) b f)
+            ∙ ap (packed (P .layout)) (means (P .layout) (P .noState) b true (sym f) refl ∙ sym m ∙ ap (λ (h : Held (P .State)). h .state) (sym o))
 
   -- ---- create
 
@@ -76,35 +86,40 @@ module _ (P : Product) (F : Formed P) where
     wrong-length r h q = rw (F .created m, ne-eqb (length b) (P .layout .len) h, q)
 
     -- the state that stands beside a refusal is not written
-    pub create-written : (s s′ : P .State) (d : Said) → length b ≡ P .layout .len → d ≡ P .said (P .create m) (P .world (held s xs ys)) →
-        held s′ xs ys ≡ P .apart (P .after (P .create m) (P .world (held s xs ys))) → (r : ℕ) (b′ : List ℕ) → (r ≡ word d) × (b′ ≡ blockAfter P b d s′) →
+    pub create-written : (s : P .State) (d : P .Did) → length b ≡ P .layout .len → d ≡ P .step (P .create m) (P .world (held s xs ys)) →
+        P .apart (P .leftIn d) .first ≡ xs → P .apart (P .leftIn d) .second ≡ ys → (r : ℕ) (b′ : List ℕ) → Written P b d r b′ →
         cDid r b′ xs ys ≡ cStep P (P .create m) (lent b xs ys)
     unfolding cStep cBy createdFor closed
-    create-written s s′ d l e q r b′ t =
-        (λ i. cDid (t .0 i) (t .1 i) xs ys) ∙ kept (isRefusal d) refl ∙ sym (cond-true _ _ _ (eq-eqb (length b) (P .layout .len) l)) ∙
+    create-written s d l e ex ey r b′ t =
+        (λ i. cDid (t .0 i) (t .1 i) xs ys) ∙ kept (isRefusal (P .saidIn d)) refl ∙ sym (cond-true _ _ _ (eq-eqb (length b) (P .layout .len) l)) ∙
         (λ i. cBy P (sym (F .created m) i) (P .create m) (lent b xs ys))
       where
         -- what the same create gives where the block stands
         given : Said
-        given = P .said (P .create m) (opened P (lent b xs ys))
+        given = said P (P .create m) (opened P (lent b xs ys))
 
         left : Held (P .State)
-        left = P .apart (P .after (P .create m) (opened P (lent b xs ys)))
+        left = P .apart (after P (P .create m) (opened P (lent b xs ys)))
 
         alike : MadeAlike P m (P .world (held s xs ys)) (opened P (lent b xs ys))
         alike = F .creates m s (stateIn P b) xs ys
 
-        same : d ≡ given
-        same = e ∙ alike .answer
+        same : P .saidIn d ≡ given
+        same = ap (P .saidIn) e ∙ alike .answer
 
-        kept : (t : Bool) → isRefusal d ≡ t → cDid (word d) (blockAfter P b d s′) xs ys ≡ closed P (lent b xs ys) given left
+        now : P .State
+        now = P .apart (P .leftIn d) .state
+
+        kept : (t : Bool) → isRefusal (P .saidIn d) ≡ t → cDid (word (P .saidIn d)) (blockAfter P b (P .saidIn d) now) xs ys ≡ closed P (lent b xs ys) given left
         kept true z =
             let n : isRefusal given ≡ true = ap isRefusal (sym same) ∙ z in
             let o : left ≡ heldIn P (lent b xs ys) = ap (P .apart) (F .refuses (P .create m) (opened P (lent b xs ys)) .leaves n) ∙ F .back (heldIn P (lent b xs ys)) in
-            (λ i. cDid (word (same i)) (cond (z i) b (packed (P .layout) s′)) xs ys)
+            (λ i. cDid (word (same i)) (cond (z i) b (packed (P .layout) now)) xs ys)
             ∙ (λ i. cDid (word given) (cond (sym n i) b (packed (P .layout) (left .state))) (sym o i .first) (sym o i .second))
         kept false z =
-            λ i. closed P (lent b xs ys) (same i) ((q ∙ ap (P .apart) (alike .made (ap isRefusal (sym e) ∙ z))) i)
+            let q : P .apart (P .leftIn d) ≡ left = ap (λ (x : P .Did). P .apart (P .leftIn x)) e ∙ ap (P .apart) (alike .made (ap (λ (x : P .Did). isRefusal (P .saidIn x)) (sym e) ∙ z)) in
+            (λ i. cDid (word (P .saidIn d)) (blockAfter P b (P .saidIn d) now) (sym ex i) (sym ey i))
+            ∙ (λ i. closed P (lent b xs ys) (same i) (q i))
 
 -- ---- showing
 
@@ -134,9 +149,9 @@ run-shown xs r p k f e h =
 
 module _ (P : Product) (F : Formed P) where
   -- the part that showing returned is the one shown
-  pub part-shown : (side : ℕ) (h : Held (P .State)) (p : List ℕ) → part p ≡ P .said (P .show side) (P .world h) → p ≡ shown P side h
-  part-shown side h p e =
-      let same : part p ≡ part (shown P side h) = e ∙ F .shows side (P .world h) ∙ ap (λ (x : Held (P .State)). part (shown P side x)) (F .back h) in
+  pub part-shown : (side : ℕ) (h : Held (P .State)) (p : List ℕ) (d : P .Did) → d ≡ P .step (P .show side) (P .world h) → part p ≡ P .saidIn d → p ≡ shown P side h
+  part-shown side h p d e q =
+      let same : part p ≡ part (shown P side h) = q ∙ ap (P .saidIn) e ∙ F .shows side (P .world h) ∙ ap (λ (x : Held (P .State)). part (shown P side x)) (F .back h) in
       cc
 
   module _ (side : ℕ) (b xs ys p : List ℕ) (s : P .State) (m : s ≡ stateIn P b) (e : p ≡ shown P side (held s xs ys)) where

@@ -13,7 +13,7 @@ use Rattle.answers.specs.Word.{word, kindOf, valueOf}
 use Rattle.codec.specs.Blocks.{isState, fittingBlock}
 use Rattle.codec.proofs.Same.{state-length}
 use Rattle.codec.proofs.Laws.{packed-length}
-use Rattle.boundary.specs.Product.{Product, Held, fitsHeld}
+use Rattle.boundary.specs.Product.{Product, Held, fitsHeld, said, after}
 use Rattle.boundary.specs.CCalls.{Lent, CDid, heldIn, opened, fitting, closed, cStep}
 use Rattle.boundary.specs.Numbers.{answerOf}
 use Rattle.boundary.specs.CFitting.{BlockKeepsFit, CreateFits, SameLengths, LengthsStay}
@@ -59,11 +59,11 @@ module _ (P : Product) (F : Formed P) (K : Kept P) where
 
       pick : (t : Bool) → eqb (length (l .block)) (P .layout .len) ≡ t → fitting P (cStep P (P .create m) l .lent) ≡ true
       pick true q =
-          let c : cStep P (P .create m) l ≡ closed P l (P .said (P .create m) w) (P .apart (P .after (P .create m) w)) = create-call P F m l (eqb-true (length (l .block)) (P .layout .len) q) in
-          let n : word (P .said (P .create m) w) ≡ word done = ap (λ (x : CDid). x .word) (sym c) ∙ e in
-          let d : P .said (P .create m) w ≡ done = sym (K .told-create m w) ∙ ap (answerOf (P .given)) n ∙ done-told (P .given) in
-          let o : opened P (cStep P (P .create m) l .lent) ≡ P .after (P .create m) w =
-          ap (λ (x : CDid). opened P (x .lent)) c ∙ closed-world P F K l (P .said (P .create m) w) (P .after (P .create m) w) (refusal-keeps P F (P .create m) w) (K .made-ranged m w d) in
+          let c : cStep P (P .create m) l ≡ closed P l (said P (P .create m) w) (P .apart (after P (P .create m) w)) = create-call P F m l (eqb-true (length (l .block)) (P .layout .len) q) in
+          let n : word (said P (P .create m) w) ≡ word done = ap (λ (x : CDid). x .word) (sym c) ∙ e in
+          let d : said P (P .create m) w ≡ done = sym (K .told-create m w) ∙ ap (answerOf (P .given)) n ∙ done-told (P .given) in
+          let o : opened P (cStep P (P .create m) l .lent) ≡ after P (P .create m) w =
+          ap (λ (x : CDid). opened P (x .lent)) c ∙ closed-world P F K l (said P (P .create m) w) (after P (P .create m) w) (refusal-keeps P F (P .create m) w) (K .made-ranged m w d) in
           to-block (cStep P (P .create m) l .lent) (subst Fits (sym o) (K .makes-fit m w d))
       pick false q =
           let z : _≡_ {A = ℕ} (word (refused 1)) (word done) = ap (λ (x : CDid). x .word) (sym (wrong-block-refused P F m l q)) ∙ e in
@@ -75,16 +75,16 @@ module _ (P : Product) (F : Formed P) (K : Kept P) where
   unfolding closed
   lengths-stay c l = pick (eqb (length (l .block)) (P .layout .len)) refl
     where
-      closing : (c : P .Call) → cStep P c l ≡ closed P l (P .said c (opened P l)) (P .apart (P .after c (opened P l))) → length (l .block) ≡ P .layout .len →
+      closing : (c : P .Call) → cStep P c l ≡ closed P l (said P c (opened P l)) (P .apart (after P c (opened P l))) → length (l .block) ≡ P .layout .len →
           SameLengths l (cStep P c l .lent)
       closing c q e =
-          let s = subst (λ (h : Held (P .State)). SameSizes h (P .apart (P .after c (opened P l)))) (F .back (heldIn P l)) (K .sizes c (opened P l)) in
+          let s = subst (λ (h : Held (P .State)). SameSizes h (P .apart (after P c (opened P l)))) (F .back (heldIn P l)) (K .sizes c (opened P l)) in
           subst (λ (x : CDid). SameLengths l (x .lent)) (sym q)
           (record {
             block =
-                by-cond (λ (b : List ℕ). length b ≡ length (l .block)) (isRefusal (P .said c (opened P l))) _ _
+                by-cond (λ (b : List ℕ). length b ≡ length (l .block)) (isRefusal (said P c (opened P l))) _ _
                 (λ t. refl)
-                (λ t. packed-length (P .layout) (P .apart (P .after c (opened P l)) .state) ∙ sym e);
+                (λ t. packed-length (P .layout) (P .apart (after P c (opened P l)) .state) ∙ sym e);
             first = s .first;
             second = s .second;
           })

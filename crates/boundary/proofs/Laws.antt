@@ -12,7 +12,7 @@ use Rattle.answers.specs.Answers.{Said, refused, part, isRefusal}
 use Rattle.answers.specs.Word.{word}
 use Rattle.codec.specs.Blocks.{packed}
 use Rattle.codec.proofs.Laws.{packed-length, packed-means, meaning-fits}
-use Rattle.boundary.specs.Product.{Product, Held, held, Kind, creating, showing, calling, callOf, fitsHeld, shown}
+use Rattle.boundary.specs.Product.{Product, Held, held, Kind, creating, showing, calling, callOf, fitsHeld, shown, said, after}
 use Rattle.boundary.specs.CCalls.{Lent, lent, CDid, cDid, refusedBy, placeWord, storeOf, heldIn, opened, fitting, blockAfter, closed, createdFor, placeOf, shownWord, cBy, cStep}
 use Rattle.boundary.specs.CRuns.{packedHeld, packedWorld, wordBy, answerWord}
 use Rattle.boundary.specs.CLaws.{OneResultInC, ShownPlace, MisfitShowsNothing, MisfitRefused, WrongBlockRefused, SameCall}
@@ -40,7 +40,7 @@ module _ (P : Product) (F : Formed P) where
       each (calling x) = h x
 
   -- what a C call does, by the call's kind
-  pub create-step : (m : ℕ) (l : Lent) → cStep P (P .create m) l ≡ createdFor P l (P .said (P .create m) (opened P l)) (P .apart (P .after (P .create m) (opened P l)))
+  pub create-step : (m : ℕ) (l : Lent) → cStep P (P .create m) l ≡ createdFor P l (said P (P .create m) (opened P l)) (P .apart (after P (P .create m) (opened P l)))
   unfolding cStep cBy
   create-step m l = λ i. cBy P (F .created m i) (P .create m) l
 
@@ -48,12 +48,12 @@ module _ (P : Product) (F : Formed P) where
   unfolding cStep cBy
   show-step side l = λ i. cBy P (F .showed side i) (P .show side) l
 
-  pub on-step : (c : P .OnState) (l : Lent) → cStep P (P .on c) l ≡ closed P l (P .said (P .on c) (opened P l)) (P .apart (P .after (P .on c) (opened P l)))
+  pub on-step : (c : P .OnState) (l : Lent) → cStep P (P .on c) l ≡ closed P l (said P (P .on c) (opened P l)) (P .apart (after P (P .on c) (opened P l)))
   unfolding cStep cBy
   on-step c l = λ i. cBy P (F .called c i) (P .on c) l
 
   pub create-call : (m : ℕ) (l : Lent) → length (l .block) ≡ P .layout .len →
-      cStep P (P .create m) l ≡ closed P l (P .said (P .create m) (opened P l)) (P .apart (P .after (P .create m) (opened P l)))
+      cStep P (P .create m) l ≡ closed P l (said P (P .create m) (opened P l)) (P .apart (after P (P .create m) (opened P l)))
   unfolding createdFor
   create-call m l e = create-step m l ∙ cond-true _ _ _ (eq-eqb (length (l .block)) (P .layout .len) e)
 
@@ -64,7 +64,7 @@ module _ (P : Product) (F : Formed P) where
   fits-in l = meaning-fits (P .layout) (P .noState) (λ s. P .fits s (length (l .first)) (length (l .second))) (F .misfits (length (l .first)) (length (l .second))) (l .block)
 
   -- a refusal is a number alone
-  pub refusal-keeps : (c : P .Call) (w : P .World) → isRefusal (P .said c w) ≡ true → P .after c w ≡ w
+  pub refusal-keeps : (c : P .Call) (w : P .World) → isRefusal (said P c w) ≡ true → after P c w ≡ w
   refusal-keeps c w = F .refuses c w .leaves
 
   -- a refusal leaves state and stores, and so the block
@@ -72,13 +72,13 @@ module _ (P : Product) (F : Formed P) where
   unfolding closed
   closed-keeps l d h k e = rw (e, k)
 
-  pub kept-held : (c : P .Call) (l : Lent) → isRefusal (P .said c (opened P l)) ≡ true → P .apart (P .after c (opened P l)) ≡ heldIn P l
+  pub kept-held : (c : P .Call) (l : Lent) → isRefusal (said P c (opened P l)) ≡ true → P .apart (after P c (opened P l)) ≡ heldIn P l
   kept-held c l e = ap (P .apart) (refusal-keeps c (opened P l) e) ∙ F .back (heldIn P l)
 
   pub misfit-refused : MisfitRefused P
   unfolding closed
   misfit-refused c l e =
-      let d : P .said (P .on c) (opened P l) ≡ refused 2 = misfit-said P F c (heldIn P l) (fits-in l ∙ e) in
+      let d : said P (P .on c) (opened P l) ≡ refused 2 = misfit-said P F c (heldIn P l) (fits-in l ∙ e) in
       on-step c l ∙ (λ i. closed P l (d i) (kept-held (P .on c) l (ap isRefusal d) i))
 
   pub wrong-block-refused : WrongBlockRefused P
@@ -86,10 +86,10 @@ module _ (P : Product) (F : Formed P) where
   wrong-block-refused m l e = create-step m l ∙ cond-false _ _ _ e
 
   -- the same of a C call where the product's call refuses
-  pub step-refusal-keeps : (c : P .Call) (l : Lent) → isRefusal (P .said c (opened P l)) ≡ true → cStep P c l .lent ≡ l
+  pub step-refusal-keeps : (c : P .Call) (l : Lent) → isRefusal (said P c (opened P l)) ≡ true → cStep P c l .lent ≡ l
   unfolding createdFor
   step-refusal-keeps c l =
-      by-call (λ x. isRefusal (P .said x (opened P l)) ≡ true → cStep P x l .lent ≡ l)
+      by-call (λ x. isRefusal (said P x (opened P l)) ≡ true → cStep P x l .lent ≡ l)
       (λ m e. ap (λ (r : CDid). r .lent) (create-step m l)
       ∙ by-cond (λ (r : CDid). r .lent ≡ l) (eqb (length (l .block)) (P .layout .len)) _ _ (λ q. closed-keeps l _ _ (kept-held (P .create m) l e) e) (λ q. refl))
       (λ side e. ap (λ (r : CDid). r .lent) (show-step side l))
@@ -151,21 +151,21 @@ module _ (P : Product) (F : Formed P) where
         pick true e = rw (e, k e)
         pick false e = rw e
 
-    met : (c : P .Call) → closed P (packedWorld P w) (P .said c (opened P (packedWorld P w))) (P .apart (P .after c (opened P (packedWorld P w)))) ≡
-        record { word = word (P .said c w); lent = packedWorld P (P .after c w) }
+    met : (c : P .Call) → closed P (packedWorld P w) (said P c (opened P (packedWorld P w))) (P .apart (after P c (opened P (packedWorld P w)))) ≡
+        record { word = word (said P c w); lent = packedWorld P (after P c w) }
     met c =
-        ap (λ (x : P .World). closed P (packedWorld P w) (P .said c x) (P .apart (P .after c x))) opened-packed
-        ∙ closed-packed (P .said c w) (P .after c w) (refusal-keeps c w)
+        ap (λ (x : P .World). closed P (packedWorld P w) (said P c x) (P .apart (after P c x))) opened-packed
+        ∙ closed-packed (said P c w) (after P c w) (refusal-keeps c w)
 
   pub same-call : SameCall P
   unfolding answerWord wordBy
   same-call c w r =
-      by-call (λ x. cStep P x (packedWorld P w) ≡ record { word = answerWord P x w; lent = packedWorld P (P .after x w) })
+      by-call (λ x. cStep P x (packedWorld P w) ≡ record { word = answerWord P x w; lent = packedWorld P (after P x w) })
       (λ m. create-call m (packedWorld P w) (packed-length (P .layout) (P .apart w .state)) ∙ met w r (P .create m)
-      ∙ (λ i. record { word = wordBy P (sym (F .created m) i) (P .create m) w; lent = packedWorld P (P .after (P .create m) w) }))
+      ∙ (λ i. record { word = wordBy P (sym (F .created m) i) (P .create m) w; lent = packedWorld P (after P (P .create m) w) }))
       (λ side. show-step side (packedWorld P w)
       ∙ (λ i. record { word = shownWord P side (held-packed w r i); lent = packedWorld P (sym (F .looks side w) i) })
-      ∙ (λ i. record { word = wordBy P (sym (F .showed side) i) (P .show side) w; lent = packedWorld P (P .after (P .show side) w) }))
+      ∙ (λ i. record { word = wordBy P (sym (F .showed side) i) (P .show side) w; lent = packedWorld P (after P (P .show side) w) }))
       (λ x. on-step x (packedWorld P w) ∙ met w r (P .on x)
-      ∙ (λ i. record { word = wordBy P (sym (F .called x) i) (P .on x) w; lent = packedWorld P (P .after (P .on x) w) }))
+      ∙ (λ i. record { word = wordBy P (sym (F .called x) i) (P .on x) w; lent = packedWorld P (after P (P .on x) w) }))
       c

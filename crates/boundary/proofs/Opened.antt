@@ -11,7 +11,7 @@ use Rattle.machine.specs.Machine.{finally}
 use Rattle.store.specs.Bytes.{Bytes}
 use Rattle.codec.specs.Blocks.{packed, meaning}
 use Rattle.codec.proofs.Laws.{packed-length, packed-bytes, packed-means, meaning-ranged}
-use Rattle.boundary.specs.Product.{Product, Held, held, machineOf}
+use Rattle.boundary.specs.Product.{Product, Held, held, machineOf, said, after}
 use Rattle.boundary.specs.CCalls.{Lent, CDid, stateIn, heldIn, opened, closed, shownWord, cStep}
 use Rattle.boundary.specs.CRuns.{wordBy, answerWord, words, cWords, Typed, Lendable, Whole, cFunctions}
 use Rattle.boundary.specs.CLaws.{Means, CallMeans, RunMeans, RunsMean}
@@ -67,13 +67,13 @@ module _ (P : Product) (F : Formed P) (K : Kept P) where
 
     -- a call that is closed
     abbrev IsClosed : P .Call → Type 0
-    IsClosed c = cStep P c l ≡ closed P l (P .said c (opened P l)) (P .apart (P .after c (opened P l)))
+    IsClosed c = cStep P c l ≡ closed P l (said P c (opened P l)) (P .apart (after P c (opened P l)))
 
-    closed-means : (c : P .Call) → IsClosed c → word (P .said c (opened P l)) ≡ answerWord P c (opened P l) → Means P c l
+    closed-means : (c : P .Call) → IsClosed c → word (said P c (opened P l)) ≡ answerWord P c (opened P l) → Means P c l
     unfolding closed
     closed-means c q a =
         record {
-          world = ap (λ (x : CDid). opened P (x .lent)) q ∙ closed-world l (P .said c (opened P l)) (P .after c (opened P l)) (refusal-keeps P F c (opened P l)) (K .ranged c (opened P l) typed);
+          world = ap (λ (x : CDid). opened P (x .lent)) q ∙ closed-world l (said P c (opened P l)) (after P c (opened P l)) (refusal-keeps P F c (opened P l)) (K .ranged c (opened P l) typed);
           word = ap (λ (x : CDid). x .word) q ∙ a;
         }
 
@@ -98,7 +98,7 @@ module _ (P : Product) (F : Formed P) (K : Kept P) where
     closing : (c : P .Call) → IsClosed c → BlockGood (cStep P c l .lent)
     closing c q =
         subst (λ (x : CDid). BlockGood (x .lent)) (sym q)
-        (closed-block l (P .said c (opened P l)) (P .after c (opened P l)) (refusal-keeps P F c (opened P l)) (K .ranged c (opened P l) typed) (h .size) (h .lendable .block))
+        (closed-block l (said P c (opened P l)) (after P c (opened P l)) (refusal-keeps P F c (opened P l)) (K .ranged c (opened P l) typed) (h .size) (h .lendable .block))
 
     block-kept : (c : P .Call) → BlockGood (cStep P c l .lent)
     block-kept =

@@ -11,7 +11,7 @@ use Rattle.answers.specs.Refusals.{check, firstRefusal}
 use Rattle.answers.specs.Refusing.{Refuses}
 use Rattle.answers.specs.Answers.{Said, refused, isRefusal}
 use Rattle.answers.specs.Word.{word}
-use Rattle.boundary.specs.Product.{Product, Held, Kind, creating, showing, calling, checks}
+use Rattle.boundary.specs.Product.{Product, Held, Kind, creating, showing, calling, checks, said}
 use Rattle.boundary.specs.CCalls.{Lent, CDid, refusedBy, heldIn, opened, cStep}
 use Rattle.boundary.specs.Numbers.{answerOf, partOf, cAnswer}
 use Rattle.boundary.specs.CRefusals.{cChecks, RefusedExactlyInC}
@@ -102,7 +102,7 @@ module _ (P : Product) (F : Formed P) where
       pick : (t : Bool) → eqb (length (l .block)) (P .layout .len) ≡ t → Refuses (cAnswer P c l) (cStep P c l .lent) (firstRefusal (cChecks P (P .kind c) l)) l
       pick false e = by-call P F (Right l e) (create-right l e) (show-right l e) (on-right l e) c
       pick true e =
-          let a : cAnswer P c l ≡ P .said c (opened P l) = answers-told P F K c l (record { size = eqb-true (length (l .block)) (P .layout .len) e; lendable = h }) in
+          let a : cAnswer P c l ≡ said P c (opened P l) = answers-told P F K c l (record { size = eqb-true (length (l .block)) (P .layout .len) e; lendable = h }) in
           let n : firstRefusal (checks P (P .kind c) (P .apart (opened P l))) ≡ firstRefusal (cChecks P (P .kind c) l) =
           ap (λ (x : Held (P .State)). firstRefusal (checks P (P .kind c) x)) (F .back (heldIn P l)) ∙ same-first (P .kind c) l e in
           let r = F .refuses c (opened P l) in

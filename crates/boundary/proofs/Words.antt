@@ -2,6 +2,9 @@
 use Prim.Native.Nat.{ℕ, _<_}
 use native.Mathlib.Omega.{arith}
 use mathlib.Core.Path.{_≡_, refl, ap, _∙_}
+use mathlib.Core.List.{List, [], _∷_}
+use Rattle.branches.proofs.Branches.{by-cond}
+use Rattle.answers.specs.Refusals.{Check, firstRefusal}
 use Rattle.frame.specs.Frame.{controlOf, dataOf, made}
 use Rattle.answers.specs.Answers.{Said, done, none, byte, frame, refused, part, cell, lines}
 use Rattle.answers.specs.Word.{word, kindOf, valueOf}
@@ -63,3 +66,12 @@ byte-told n h = by-word byte (byte n) h refl
 pub cell-told : (n : ℕ) → n < 65536 → answerOf cell (word (cell n)) ≡ cell n
 unfolding kindOf valueOf saidBy
 cell-told n h = by-word cell (cell n) h refl
+
+-- the first refusal of a list is one of its numbers
+abbrev pub SmallNumbers : List Check → Type 0
+SmallNumbers [] = Unit {0}
+SmallNumbers (c ∷ cs) = (c .number < 65536) × SmallNumbers cs
+
+pub first-small : (cs : List Check) → SmallNumbers cs → firstRefusal cs < 65536
+first-small [] h = omega arith
+first-small (c ∷ cs) h = by-cond (λ (n : ℕ). n < 65536) (c .given) _ _ (λ e. h .0) (λ e. first-small cs (h .1))

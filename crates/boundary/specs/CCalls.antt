@@ -9,7 +9,7 @@ use lib.Dec.{eqb}
 use Rattle.answers.specs.Answers.{Said, refused, part, isRefusal}
 use Rattle.answers.specs.Word.{word}
 use Rattle.codec.specs.Blocks.{packed, meaning, fittingBlock}
-use Rattle.boundary.specs.Product.{Product, Held, held, Kind, creating, showing, calling, shown}
+use Rattle.boundary.specs.Product.{Product, Held, held, Kind, creating, showing, calling, shown, said, after}
 
 -- the buffers lent at every call
 pub record Lent : Type 0 where
@@ -76,9 +76,9 @@ module _ (P : Product) where
 
   -- every C function is the call of its name on the world that the buffers stand for; by the kind of the call
   unfoldable pub cBy : Kind (P .OnState) → P .Call → Lent → CDid
-  cBy (creating m) c l = createdFor l (P .said c (opened l)) (P .apart (P .after c (opened l)))
+  cBy (creating m) c l = createdFor l (said P c (opened l)) (P .apart (after P c (opened l)))
   cBy (showing side) c l = record { word = shownWord side (heldIn l); lent = l }
-  cBy (calling x) c l = closed l (P .said c (opened l)) (P .apart (P .after c (opened l)))
+  cBy (calling x) c l = closed l (said P c (opened l)) (P .apart (after P c (opened l)))
 
   unfoldable pub cStep : P .Call → Lent → CDid
   cStep c l = cBy (P .kind c) c l

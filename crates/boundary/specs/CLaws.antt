@@ -8,7 +8,7 @@ use lib.Dec.{eqb}
 use Rattle.machine.specs.Machine.{AllFair, finally, Law, Obeys, ObeysAll}
 use Rattle.machine.specs.Opening.{Opens}
 use Rattle.answers.specs.Answers.{Said, isRefusal}
-use Rattle.boundary.specs.Product.{Product, Held, machineOf, shown}
+use Rattle.boundary.specs.Product.{Product, Held, machineOf, shown, said, after}
 use Rattle.boundary.specs.CCalls.{Lent, CDid, cDid, refusedBy, storeOf, opened, fitting, shownWord, cStep, CPromised}
 use Rattle.boundary.specs.Numbers.{cAnswer}
 use Rattle.boundary.specs.CRuns.{packedWorld, answerWord, words, cWords, Typed, Lendable, Whole, cFunctions}
@@ -56,7 +56,7 @@ module _ (P : Product) where
   abbrev pub SameCall : Type 0
   SameCall =
       (c : P .Call) (w : P .World) → P .layout .Ranged (P .apart w .state) →
-      cStep P c (packedWorld P w) ≡ record { word = answerWord P c w; lent = packedWorld P (P .after c w) }
+      cStep P c (packedWorld P w) ≡ record { word = answerWord P c w; lent = packedWorld P (after P c w) }
 
   -- each call is given the state as the one before it left it: the buffers at the end of a run are the world at its end
   abbrev pub SameEnd : Type 0
@@ -72,7 +72,7 @@ module _ (P : Product) where
 
   -- the world after a C call is the one that the call leaves, and the number is its answer
   pub record Means (c : P .Call) (l : Lent) : Type 0 where
-    pub world : opened P (cStep P c l .lent) ≡ P .after c (opened P l)
+    pub world : opened P (cStep P c l .lent) ≡ after P c (opened P l)
     pub word : cStep P c l .word ≡ answerWord P c (opened P l)
 
   -- a C call on a block of the one length is the product's call
@@ -91,7 +91,7 @@ module _ (P : Product) where
 
   -- Forms, answers: the number of a C call tells its whole answer
   abbrev pub AnswersTold : Type 0
-  AnswersTold = (c : P .Call) (l : Lent) → Whole P l → cAnswer P c l ≡ P .said c (opened P l)
+  AnswersTold = (c : P .Call) (l : Lent) → Whole P l → cAnswer P c l ≡ said P c (opened P l)
 
   -- ---- laws
 

@@ -8,7 +8,7 @@ use Rattle.answers.specs.Answers.{Said}
 use Rattle.answers.specs.Word.{word}
 use Rattle.store.specs.Bytes.{Bytes}
 use Rattle.codec.specs.Blocks.{packed}
-use Rattle.boundary.specs.Product.{Product, Held, Kind, creating, showing, calling}
+use Rattle.boundary.specs.Product.{Product, Held, Kind, creating, showing, calling, said, after}
 use Rattle.boundary.specs.CCalls.{Lent, lent, opened, shownWord, cStep}
 use Rattle.boundary.specs.Numbers.{cAnswer}
 
@@ -22,9 +22,9 @@ module _ (P : Product) where
 
   -- the number that a call is answered by in C
   unfoldable pub wordBy : Kind (P .OnState) → P .Call → P .World → ℕ
-  wordBy (creating m) c w = word (P .said c w)
+  wordBy (creating m) c w = word (said P c w)
   wordBy (showing side) c w = shownWord P side (P .apart w)
-  wordBy (calling x) c w = word (P .said c w)
+  wordBy (calling x) c w = word (said P c w)
 
   unfoldable pub answerWord : P .Call → P .World → ℕ
   answerWord c w = wordBy (P .kind c) c w
@@ -32,7 +32,7 @@ module _ (P : Product) where
   -- the numbers that the answers of a run of the product's calls are
   unfoldable pub words : List (P .Call) → P .World → List ℕ
   words [] w = []
-  words (c ∷ cs) w = answerWord c w ∷ words cs (P .after c w)
+  words (c ∷ cs) w = answerWord c w ∷ words cs (after P c w)
 
   -- the numbers that the same run of C calls answers
   unfoldable pub cWords : List (P .Call) → Lent → List ℕ

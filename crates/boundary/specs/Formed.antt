@@ -7,12 +7,12 @@ use Rattle.answers.specs.Answers.{part, isRefusal}
 use Rattle.answers.specs.Refusals.{firstRefusal}
 use Rattle.answers.specs.Refusing.{Refuses}
 use Rattle.store.specs.Ring.{Fit}
-use Rattle.boundary.specs.Product.{Product, Held, held, creating, showing, calling, callOf, fitsHeld, shown, checks}
+use Rattle.boundary.specs.Product.{Product, Held, held, creating, showing, calling, callOf, fitsHeld, shown, checks, said, after}
 
 -- a create in two worlds with the same stores answers the same, and makes the same where it is done
 pub record MadeAlike (P : Product) (m : ℕ) (w v : P .World) : Type 0 where
-  pub answer : P .said (P .create m) w ≡ P .said (P .create m) v
-  pub made : isRefusal (P .said (P .create m) w) ≡ false → P .after (P .create m) w ≡ P .after (P .create m) v
+  pub answer : said P (P .create m) w ≡ said P (P .create m) v
+  pub made : isRefusal (said P (P .create m) w) ≡ false → after P (P .create m) w ≡ after P (P .create m) v
 
 pub record Formed (P : Product) : Type 0 where
   -- a world is its state and its stores, and there are calls of three kinds
@@ -27,8 +27,8 @@ pub record Formed (P : Product) : Type 0 where
   pub first : (h : Held (P .State)) → fitsHeld P h ≡ true → Fit (h .first) (P .firstRing (h .state))
   pub second : (h : Held (P .State)) → fitsHeld P h ≡ true → Fit (h .second) (P .secondRing (h .state))
   -- a call refuses exactly by the first of its checks that is given
-  pub refuses : (c : P .Call) (w : P .World) → Refuses (P .said c w) (P .after c w) (firstRefusal (checks P (P .kind c) (P .apart w))) w
+  pub refuses : (c : P .Call) (w : P .World) → Refuses (said P c w) (after P c w) (firstRefusal (checks P (P .kind c) (P .apart w))) w
   -- showing hands out the part that is shown and leaves all as it was; create looks at no state
-  pub shows : (side : ℕ) (w : P .World) → P .said (P .show side) w ≡ part (shown P side (P .apart w))
-  pub looks : (side : ℕ) (w : P .World) → P .after (P .show side) w ≡ w
+  pub shows : (side : ℕ) (w : P .World) → said P (P .show side) w ≡ part (shown P side (P .apart w))
+  pub looks : (side : ℕ) (w : P .World) → after P (P .show side) w ≡ w
   pub creates : (m : ℕ) (s t : P .State) (xs ys : List ℕ) → MadeAlike P m (P .world (held s xs ys)) (P .world (held t xs ys))

@@ -5,7 +5,7 @@ use mathlib.Core.Bool.{true}
 use lib.ListN.{length}
 use Rattle.answers.specs.Answers.{Said, done}
 use Rattle.answers.specs.Word.{word}
-use Rattle.boundary.specs.Product.{Product, Held, fitsHeld}
+use Rattle.boundary.specs.Product.{Product, Held, fitsHeld, said, after}
 use Rattle.boundary.specs.Numbers.{answerOf}
 use Rattle.boundary.specs.CRuns.{Typed}
 
@@ -27,16 +27,16 @@ pub record SameSizes {State : Type 0} (before after : Held State) : Type 0 where
 pub record Kept (P : Product) : Type 0 where
   -- numbers fit their places: of what stands for no state, of what create makes, and after every call
   pub none-ranged : P .layout .Ranged (P .noState)
-  pub made-ranged : (m : ℕ) (w : P .World) → P .said (P .create m) w ≡ done → P .layout .Ranged (P .apart (P .after (P .create m) w) .state)
-  pub ranged : (c : P .Call) (w : P .World) → Typed P w → P .layout .Ranged (P .apart (P .after c w) .state)
+  pub made-ranged : (m : ℕ) (w : P .World) → said P (P .create m) w ≡ done → P .layout .Ranged (P .apart (after P (P .create m) w) .state)
+  pub ranged : (c : P .Call) (w : P .World) → Typed P w → P .layout .Ranged (P .apart (after P c w) .state)
   -- stores keep their numbers
   pub fine : (h : Held (P .State)) → TypedHeld P h → P .Fine (P .world h)
-  pub fine-kept : (c : P .Call) (w : P .World) → P .Fair c → P .Fine w → P .Fine (P .after c w)
-  pub stored : (c : P .Call) (h : Held (P .State)) → P .Fair c → TypedHeld P h → TypedHeld P (P .apart (P .after c (P .world h)))
+  pub fine-kept : (c : P .Call) (w : P .World) → P .Fair c → P .Fine w → P .Fine (after P c w)
+  pub stored : (c : P .Call) (h : Held (P .State)) → P .Fair c → TypedHeld P h → TypedHeld P (P .apart (after P c (P .world h)))
   -- the number of every answer but that of showing tells it
-  pub told-create : (m : ℕ) (w : P .World) → Tells P (P .said (P .create m) w)
-  pub told-on : (c : P .OnState) (h : Held (P .State)) → TypedHeld P h → Tells P (P .said (P .on c) (P .world h))
+  pub told-create : (m : ℕ) (w : P .World) → Tells P (said P (P .create m) w)
+  pub told-on : (c : P .OnState) (h : Held (P .State)) → TypedHeld P h → Tells P (said P (P .on c) (P .world h))
   -- fitting is kept and made, and the lengths of the stores stay
-  pub keeps-fit : (c : P .Call) (w : P .World) → P .Fine w → fitsHeld P (P .apart w) ≡ true → fitsHeld P (P .apart (P .after c w)) ≡ true
-  pub makes-fit : (m : ℕ) (w : P .World) → P .said (P .create m) w ≡ done → fitsHeld P (P .apart (P .after (P .create m) w)) ≡ true
-  pub sizes : (c : P .Call) (w : P .World) → SameSizes (P .apart w) (P .apart (P .after c w))
+  pub keeps-fit : (c : P .Call) (w : P .World) → P .Fine w → fitsHeld P (P .apart w) ≡ true → fitsHeld P (P .apart (after P c w)) ≡ true
+  pub makes-fit : (m : ℕ) (w : P .World) → said P (P .create m) w ≡ done → fitsHeld P (P .apart (after P (P .create m) w)) ≡ true
+  pub sizes : (c : P .Call) (w : P .World) → SameSizes (P .apart w) (P .apart (after P c w))

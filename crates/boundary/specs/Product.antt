@@ -47,9 +47,11 @@ pub record Product : Type 1 where
   pub show : ℕ → Call
   pub on : OnState → Call
   pub kind : Call → Kind OnState
-  -- what a call answers and what it leaves
-  pub said : Call → World → Said
-  pub after : Call → World → World
+  -- what a call does: its answer, and the world that it leaves
+  pub Did : Type 0
+  pub saidIn : Did → Said
+  pub leftIn : Did → World
+  pub step : Call → World → Did
   -- what create tests of its number and the lengths of two stores, and the tests of a call on a state that fits
   pub obeyed : ℕ → ℕ → ℕ → Bool
   pub checksOn : OnState → State → List Check
@@ -60,9 +62,16 @@ pub record Product : Type 1 where
   pub given : ℕ → Said
 
 module _ (P : Product) where
+  -- what a call answers, and what it leaves
+  abbrev pub said : P .Call → P .World → Said
+  said c w = P .saidIn (P .step c w)
+
+  abbrev pub after : P .Call → P .World → P .World
+  after c w = P .leftIn (P .step c w)
+
   -- the product as a machine
   abbrev pub machineOf : Machine (P .World) (P .Call) Said
-  machineOf = record { Own = P .World; stands = λ w. w; answer = P .said; after = P .after; Fine = P .Fine; Fair = P .Fair }
+  machineOf = record { Own = P .World; stands = λ w. w; answer = said; after = after; Fine = P .Fine; Fair = P .Fair }
 
   -- the call of this kind
   abbrev pub callOf : Kind (P .OnState) → P .Call

@@ -7,14 +7,14 @@ use mathlib.Core.List.{List}
 use lib.ListN.{length}
 use Rattle.answers.specs.Refusals.{Check, firstRefusal}
 use Rattle.answers.specs.Refusing.{Refuses}
-use Rattle.answers.specs.Answers.{said}
+use Rattle.answers.specs.Answers.{isRefusal}
 use Rattle.boundary.specs.Product as product
-use Rattle.boundary.specs.Formed.{MadeAlike, Formed}
+use Rattle.boundary.specs.Formed.{Formed}
 use Rattle.mailstate.specs.declared.State.{State}
 use Rattle.mailstate.specs.Sizes.{sizesObeyed}
 use Rattle.mailstate.proofs.Fits.{tobus-fits, toloop-fits}
 use Rattle.mailblock.proofs.Laws.{no-state-misfits}
-use Rattle.mailbox.specs.Calls.{Call, create, show, on, World, world, checks, notRefused, refusedOr, shown, step}
+use Rattle.mailbox.specs.Calls.{Call, create, show, on, World, world, Did, checks, notRefused, refusedOr, shown, step}
 use Rattle.maillaws.proofs.Replied.{refused-exactly}
 use Rattle.cmailbox.specs.Mailbox.{kindOf, mailboxes}
 
@@ -26,13 +26,25 @@ same-checks (show side) w = refl
 same-checks (on c) w = refl
 
 -- create looks at no state
-made-alike : (a : ℕ) (s t : State) (xs ys : List ℕ) → MadeAlike mailboxes a (world s xs ys) (world t xs ys)
-unfolding step refusedOr checks notRefused said
-made-alike a s t xs ys = pick (sizesObeyed a (length xs) (length ys)) refl
-  where
-    pick : (u : Bool) → sizesObeyed a (length xs) (length ys) ≡ u → MadeAlike mailboxes a (world s xs ys) (world t xs ys)
-    pick true e = record { answer = rw e; made = λ _. rw e }
-    pick false e = record { answer = rw e; made = λ h. absurd (false≢true (sym (rw e at h))) }
+module _ (a : ℕ) (s t : State) (xs ys : List ℕ) where
+  abbrev from : State → Did
+  from x = step (create a) (world x xs ys)
+
+  same-answer : from s .said ≡ from t .said
+  unfolding step refusedOr checks notRefused
+  same-answer = pick (sizesObeyed a (length xs) (length ys)) refl
+    where
+      pick : (u : Bool) → sizesObeyed a (length xs) (length ys) ≡ u → from s .said ≡ from t .said
+      pick true e = rw e
+      pick false e = rw e
+
+  same-made : isRefusal (from s .said) ≡ false → from s .world ≡ from t .world
+  unfolding step refusedOr checks notRefused
+  same-made = pick (sizesObeyed a (length xs) (length ys)) refl
+    where
+      pick : (u : Bool) → sizesObeyed a (length xs) (length ys) ≡ u → isRefusal (from s .said) ≡ false → from s .world ≡ from t .world
+      pick true e h = rw e
+      pick false e h = absurd (false≢true (sym (rw e at h)))
 
 named : (c : Call) → product.callOf mailboxes (kindOf c) ≡ c
 named (create a) = refl
@@ -55,5 +67,5 @@ formed =
       refuses = λ c w. subst (λ (l : List Check). Refuses (step c w .said) (step c w .world) (firstRefusal l) w) (same-checks c w) (refused-exactly c w tt);
       shows = λ side w. refl;
       looks = λ side w. refl;
-      creates = made-alike;
+      creates = λ a s t xs ys. record { answer = same-answer a s t xs ys; made = same-made a s t xs ys };
     }

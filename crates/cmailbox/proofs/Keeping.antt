@@ -4,19 +4,18 @@ use Prim.Native.Nat.{ℕ, _<_}
 use native.Mathlib.Omega.{arith}
 use mathlib.Core.Path.{_≡_, refl, sym, ap, subst, _∙_}
 use mathlib.Core.Bool.{Bool, true, false, false≢true}
-use mathlib.Core.List.{List, [], _∷_}
+use mathlib.Core.List.{List}
 use lib.Dec.{ltb}
 use lib.ListN.{length}
 use borrow.Author.Tests.{ltb-true}
 use Rattle.branches.proofs.Branches.{by-cond, and-left, and-right}
 use Rattle.frame.specs.Frame.{dataOf, isEnd}
-use Rattle.answers.specs.Refusals.{Check, firstRefusal}
 use Rattle.answers.specs.Answers.{Said, done, none, byte, frame, refused, part, cell, lines, said}
 use Rattle.answers.specs.Word.{word}
 use Rattle.boundary.specs.Product.{Held, fitsHeld}
 use Rattle.boundary.specs.CRuns.{Typed}
 use Rattle.boundary.specs.Kept.{Tells, TypedHeld, SameSizes, Kept}
-use Rattle.boundary.proofs.Words.{done-told, none-told, refusal-told, lines-told, frame-told, cell-told}
+use Rattle.boundary.proofs.Words.{done-told, none-told, refusal-told, lines-told, frame-told, cell-told, SmallNumbers, first-small}
 use Rattle.boundary.proofs.Stored.{put-below}
 use Rattle.mailstate.specs.declared.State.{State}
 use Rattle.mailstate.specs.Sizes.{sizesObeyed, startState, fits}
@@ -116,15 +115,7 @@ cells-kept c w h k = by-refusal (λ (d : Did). BothCells (d .world)) c w (λ _. 
 -- ---- the number of an answer tells it
 
 -- every refusal is one of the table's numbers
-abbrev Numbers : List Check → Type 0
-Numbers [] = Unit {0}
-Numbers (c ∷ cs) = (c .number < 65536) × Numbers cs
-
-first-small : (cs : List Check) → Numbers cs → firstRefusal cs < 65536
-first-small [] h = omega arith
-first-small (c ∷ cs) h = by-cond (λ (n : ℕ). n < 65536) (c .given) _ _ (λ e. h .0) (λ e. first-small cs (h .1))
-
-small-on : (c : OnState) (s : State) → Numbers (checksOn c s)
+small-on : (c : OnState) (s : State) → SmallNumbers (checksOn c s)
 unfolding checksOn
 small-on (loopFrame f) s = (omega arith, (omega arith, tt))
 small-on (busCommand c) s = (omega arith, tt)
@@ -134,7 +125,7 @@ small-on busFetch s = tt
 small-on busClear s = tt
 small-on busLines s = tt
 
-small-numbers : (c : Call) (w : World) → Numbers (checks c w)
+small-numbers : (c : Call) (w : World) → SmallNumbers (checks c w)
 unfolding checks
 small-numbers (create a) w = (omega arith, tt)
 small-numbers (show side) w = tt

@@ -1,5 +1,5 @@
--- `Forming` and `Closing` serve the proofs of the functions, `Keeping` is what every call keeps, and `Laws` are the laws of the C functions.
+-- `Forming` and `Lines` serve the proofs of the functions, `Keeping` is what every call keeps, and `Laws` are the laws of the C functions.
 pub mod Forming
-pub mod Closing
+pub mod Lines
 pub mod Keeping
 pub mod Laws

@@ -9,7 +9,7 @@ use Rattle.mailstate.specs.declared.State.{State}
 use Rattle.mailstate.specs.Sizes.{sizesObeyed, fits}
 use Rattle.mailblock.specs.Packed.{layout}
 use Rattle.mailblock.specs.States.{noState}
-use Rattle.mailbox.specs.Calls.{OnState, Call, create, show, on, World, world, checksOn, step}
+use Rattle.mailbox.specs.Calls.{OnState, Call, create, show, on, World, world, Did, checksOn, step}
 use Rattle.maillaws.specs.Mailboxes.{mailbox, ByteCall}
 
 -- what the types of the code give of a lent store: cells of 16 bits
@@ -42,8 +42,10 @@ mailboxes =
       show = show;
       on = on;
       kind = kindOf;
-      said = λ c w. step c w .said;
-      after = λ c w. step c w .world;
+      Did = Did;
+      saidIn = λ d. d .said;
+      leftIn = λ d. d .world;
+      step = step;
       obeyed = sizesObeyed;
       checksOn = checksOn;
       Fine = mailbox step .Fine;

@@ -7,6 +7,7 @@ use mathlib.Core.List.{List}
 use lib.ListN.{length}
 use lib.Dec.{eqb}
 use Rattle.branches.proofs.Branches.{by-cond}
+use Rattle.answers.specs.Answers.{done, refused}
 use Rattle.frame.specs.Frame.{dataOf, isEnd}
 use Rattle.registers.specs.Meanings.{endInserted}
 use Rattle.registers.specs.Writing.{written}
@@ -25,8 +26,7 @@ use Rattle.line.specs.HoldingOff.{isGoOrStop, flowed, storedWith, lostState, li
 use Rattle.loopside.specs.LoopToLine.{adds, addedState, addedBytes}
 use Rattle.loopside.specs.Sends.{ended, ruleOf, removedState, sendState, sendFrom, sendStatus}
 use Rattle.loopside.specs.Frames.{cleared, obeyed, deviceClear, addsBytes, frameBytes}
-use Rattle.laws.specs.Bridges.{ByteCall}
-use Rattle.laws.proofs.Fitting.{keeps-fit, keeps-bytes}
+use Rattle.laws.proofs.Fitting.{keeps-fit}
 use Rattle.laws.proofs.Small.{put-bytes}
 use Rattle.block.specs.States.{CountsRanged, Ranged}
 use Rattle.store.specs.Bytes.{Bytes}
@@ -36,8 +36,6 @@ use Rattle.bridge.specs.Calls.{show, World, Did, checks, outcome, settledBy, tx
 use Rattle.laws.proofs.Refusing.{by-refusal}
 use Rattle.laws.proofs.Ways.{Way, isNext, isBack, isLast, isDamaged, isStored, isPassed, isCleared}
 use Rattle.laws.proofs.Ways.{isObeyed, isAssigned, isSendAsked, isTold, isFinishing, isReady, isIdentified, way}
-use Rattle.raftershim.specs.CRuns.{Typed}
-use Rattle.raftershim.proofs.Closing.{misfit-step}
 
 -- ---- counts
 
@@ -159,28 +157,34 @@ tx-kept c w h k = after (λ (x : World). Bytes (x .tx)) c w k (accepted-tx c w h
 
 -- ---- all numbers
 
+made-ranged : (m : ℕ) (w : World) → sizesObeyed m (length (w .rx)) (length (w .tx)) ≡ true → Ranged (step (create m) w .world .state)
+unfolding step refusedOr checks notRefused
+made-ranged m w e = rw e (obeyed-ranged m (length (w .rx)) (length (w .tx)) e)
+
 -- a state that does not fit stays, unless create makes another
 misfit-ranged : (c : Call) (w : World) → fits (w .state) (length (w .rx)) (length (w .tx)) ≡ false → Ranged (w .state) → Ranged (step c w .world .state)
 unfolding step refusedOr checks notRefused
 misfit-ranged (create m) w e h = pick (sizesObeyed m (length (w .rx)) (length (w .tx))) refl
   where
     pick : (t : Bool) → sizesObeyed m (length (w .rx)) (length (w .tx)) ≡ t → Ranged (step (create m) w .world .state)
-    pick true q = rw q (obeyed-ranged m (length (w .rx)) (length (w .tx)) q)
+    pick true q = made-ranged m w q
     pick false q = rw q h
 misfit-ranged (show side) w e h = h
-misfit-ranged (on c) w e h = rw (misfit-step c w e) h
+misfit-ranged (on c) w e h = rw e h
 
-pub ranged-kept : (c : Call) (w : World) → Typed w → Ranged (step c w .world .state)
-ranged-kept c w h = pick (fits (w .state) (length (w .rx)) (length (w .tx))) refl
+pub ranged-kept : (c : Call) (w : World) → Ranged (w .state) → Bytes (w .rx) → Ranged (step c w .world .state)
+ranged-kept c w h k = pick (fits (w .state) (length (w .rx)) (length (w .tx))) refl
   where
     pick : (t : Bool) → fits (w .state) (length (w .rx)) (length (w .tx)) ≡ t → Ranged (step c w .world .state)
     pick true e =
-        fits-ranged (step c w .world .state) (step c w .world .rx) (step c w .world .tx) (keeps-fit c w (h .rx) e) (counts-kept c w (counts-ranged (w .state) (h .state)))
-    pick false e = misfit-ranged c w e (h .state)
+        fits-ranged (step c w .world .state) (step c w .world .rx) (step c w .world .tx) (keeps-fit c w k e) (counts-kept c w (counts-ranged (w .state) h))
+    pick false e = misfit-ranged c w e h
 
-pub typed-kept : (c : Call) (w : World) → ByteCall c → Typed w → Typed (step c w .world)
-typed-kept c w b h =
-    record {
-      state = ranged-kept c w h;
-      rx = keeps-bytes c w b (h .rx);
-    }
+-- of a create that is done, whatever stood there
+pub done-ranged : (m : ℕ) (w : World) → step (create m) w .said ≡ done → Ranged (step (create m) w .world .state)
+unfolding step refusedOr checks
+done-ranged m w e = pick (sizesObeyed m (length (w .rx)) (length (w .tx))) refl
+  where
+    pick : (t : Bool) → sizesObeyed m (length (w .rx)) (length (w .tx)) ≡ t → Ranged (step (create m) w .world .state)
+    pick true q = made-ranged m w q
+    pick false q = let z : refused 1 ≡ done = rw q at e in let o : _≡_ {A = ℕ} 0 1 = cc in absurd (omega (arith, o))

@@ -1,20 +1,20 @@
 -- The value of every answer fits its 16 bits of the number, and so the number tells the answer. Assumes nothing.
 use Prim.Native.Nat.{ℕ, _<_}
 use native.Mathlib.Omega.{arith}
-use mathlib.Core.Path.{_≡_, refl, ap, _∙_}
+use mathlib.Core.Path.{_≡_}
 use mathlib.Core.Bool.{_||_}
-use mathlib.Core.List.{List, [], _∷_}
+use mathlib.Core.List.{List}
 use lib.Dec.{eqb}
 use borrow.Author.Tests.{ltb-false}
-use Rattle.answers.specs.Refusals.{Check, firstRefusal}
+use Rattle.answers.specs.Refusals.{firstRefusal}
 use Rattle.branches.proofs.Branches.{by-cond}
-use Rattle.frame.specs.Frame.{controlOf, dataOf, made}
+use Rattle.frame.specs.Frame.{controlOf, dataOf}
 use Rattle.registers.specs.Writing.{writeChecks}
 use Rattle.store.specs.Ring.{Fit}
 use Rattle.state.specs.declared.State.{State}
 use Rattle.answers.specs.declared.Answer.{Answer}
 use Rattle.answers.specs.declared.Answer.the-variants as answer
-use Rattle.answers.specs.Answers.{Said, said, done, none, byte, frame, refused}
+use Rattle.answers.specs.Answers.{Said, said, byte}
 use Rattle.state.proofs.Fits.{rx-fits, tx-fits}
 use Rattle.line.specs.HoldingOff.{owed, nextOut, outAnswer}
 use Rattle.loopside.specs.Frames.{frameTaken}
@@ -26,9 +26,9 @@ use Rattle.laws.proofs.Refusing.{by-refusal, fitting, frame-fitting}
 use Rattle.laws.proofs.Ways.{way}
 use Rattle.runs.proofs.ElevenBits.{SmallFrame, frame-small}
 use Rattle.laws.proofs.Small.{held-bytes}
-use Rattle.answers.specs.Word.{word, kindOf, valueOf}
-use Rattle.raftershim.specs.Numbers.{saidBy, answerOf}
-use Rattle.raftershim.proofs.Laws.{word-tells}
+use Rattle.answers.specs.Word.{word}
+use Rattle.boundary.specs.Numbers.{answerOf}
+use Rattle.boundary.proofs.Words as words
 
 -- ---- answers of 16 bits
 
@@ -42,27 +42,17 @@ Small (answer.Cell n) = ⊥
 Small (answer.Lines n) = ⊥
 
 abbrev pub Tells : Said → Type 0
-Tells a = answerOf (word a) ≡ a
-
-by-word : (a : Said) → valueOf a < 65536 → saidBy (kindOf a) (valueOf a) ≡ a → Tells a
-unfolding answerOf
-by-word a h e = let w = word-tells a h in (λ i. saidBy (w .0 i) (w .1 i)) ∙ e
+Tells a = answerOf byte (word a) ≡ a
 
 small-tells : (a : Answer) → Small a → Tells (said a)
-unfolding said kindOf valueOf saidBy
-small-tells answer.Done h = by-word done (omega arith) refl
-small-tells answer.Nothing h = by-word none (omega arith) refl
-small-tells (answer.Byte b) h = by-word (byte b) h refl
-small-tells (answer.Frame f) h =
-    let e : made (controlOf f) (dataOf f) ≡ f = omega arith in
-    by-word (frame (controlOf f) (dataOf f)) (omega arith) (ap (λ (x : ℕ). frame (controlOf x) (dataOf x)) e)
-small-tells (answer.Refused n) h = by-word (refused n) h refl
+unfolding said
+small-tells answer.Done h = words.done-told byte
+small-tells answer.Nothing h = words.none-told byte
+small-tells (answer.Byte b) h = words.byte-told b h
+small-tells (answer.Frame f) h = words.frame-told byte (controlOf f) (dataOf f) (omega arith) (omega arith)
+small-tells (answer.Refused n) h = words.refusal-told byte n h
 small-tells (answer.Cell n) h = absurd h
 small-tells (answer.Lines n) h = absurd h
-
-small-refusal : (n : ℕ) → n < 65536 → Tells (refused n)
-unfolding kindOf valueOf saidBy
-small-refusal n h = by-word (refused n) h refl
 
 -- ---- frames
 
@@ -90,15 +80,7 @@ next-small s tx r fit b =
 -- ---- every call
 
 -- a refusal is one of the table's numbers
-abbrev Numbers : List Check → Type 0
-Numbers [] = Unit {0}
-Numbers (c ∷ cs) = (c .number < 65536) × Numbers cs
-
-first-small : (cs : List Check) → Numbers cs → firstRefusal cs < 65536
-first-small [] h = omega arith
-first-small (c ∷ cs) h = by-cond (λ (n : ℕ). n < 65536) (c .given) _ _ (λ e. h .0) (λ e. first-small cs (h .1))
-
-small-on : (c : OnState) (s : State) → Numbers (checksOn c s)
+small-on : (c : OnState) (s : State) → words.SmallNumbers (checksOn c s)
 unfolding checksOn writeChecks
 small-on reset s = tt
 small-on (write n v) s = (omega arith, (omega arith, (omega arith, (omega arith, tt))))
@@ -108,7 +90,7 @@ small-on key s = tt
 small-on nextLineByte s = tt
 small-on (loopFrame f) s = (omega arith, (omega arith, tt))
 
-small-numbers : (c : Call) (w : World) → Numbers (checks c w)
+small-numbers : (c : Call) (w : World) → words.SmallNumbers (checks c w)
 unfolding checks
 small-numbers (create m) w = (omega arith, tt)
 small-numbers (show side) w = tt
@@ -117,7 +99,7 @@ small-numbers (on c) w = (omega arith, small-on c (w .state))
 -- a call that has a number tells its answer, where what it answers if it is not refused is small
 pub told-or : (c : Call) (w : World) → (firstRefusal (checks c w) ≡ 0 → Tells (notRefused c w .said)) → Tells (step c w .said)
 told-or c w h =
-    by-refusal (λ (d : Did). Tells (d .said)) c w h (λ _. small-refusal (firstRefusal (checks c w)) (first-small (checks c w) (small-numbers c w)))
+    by-refusal (λ (d : Did). Tells (d .said)) c w h (λ _. words.refusal-told byte (firstRefusal (checks c w)) (words.first-small (checks c w) (small-numbers c w)))
 
 pub create-told : (m : ℕ) (w : World) → Tells (notRefused (create m) w .said)
 unfolding notRefused

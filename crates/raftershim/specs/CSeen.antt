@@ -1,16 +1,15 @@
 -- The C functions as a machine beside the bridge: what is seen of them, and that they obey every law that the bridge obeys.
 use Rattle.machine.specs.Machine.{Obeys, ObeysAll}
 use Rattle.machine.specs.Opening.{Opens}
+use Rattle.boundary.specs.CRuns as boundary
 use Rattle.bridge.specs.Calls.{step}
-use Rattle.laws.specs.Bridges.{Machine, Law, bridge, ByteCall}
+use Rattle.laws.specs.Bridges.{Machine, Law, bridge}
 use Rattle.laws.specs.Laws.{laws}
-use Rattle.raftershim.specs.CCalls.{Lent, opened, cStep}
-use Rattle.raftershim.specs.CRuns.{Whole}
-use Rattle.raftershim.specs.Numbers.{cAnswer}
+use Rattle.raftershim.specs.Bridge.{bridges}
 
 -- the buffers stand for a world, and the number tells the answer; the types give a block of the one length, and bytes
 abbrev pub cFunctions : Machine
-cFunctions = record { Own = Lent; stands = opened; answer = cAnswer; after = λ c l. cStep c l .lent; Fine = Whole; Fair = ByteCall }
+cFunctions = boundary.cFunctions bridges
 
 -- step by step they do what the bridge does on the world that the buffers stand for, a block that is no state included
 abbrev pub CIsTheBridge : Type 0

@@ -1,25 +1,18 @@
 -- The number that showing answers, in 64 bits.
-use Prim.Native.Nat.{ℕ, _+_, _*_}
-use mathlib.Core.Bool.{cond}
+use Prim.Native.Nat.{ℕ}
 use mathlib.Core.List.{List}
-use lib.ListN.{length}
-use lib.Dec.{eqb}
+use Rattle.boundary.specs.CCalls as boundary
 use Rattle.state.specs.declared.State.{State}
-use Rattle.answers.specs.Answers.{part}
-use Rattle.answers.specs.Word.{word}
-use Rattle.bridge.specs.Calls.{World, shown}
+use Rattle.bridge.specs.Calls.{World}
+use Rattle.raftershim.specs.Bridge.{bridges}
 
--- the part shown: its length in bits 0 to 31, and in bits 32 to 63 where it starts in its store
-abbrev pub placeWord : ℕ → ℕ → ℕ
-placeWord start len = 4294967296 * start + len
-
--- side 0 is the receive store, side 1 the transmit store
+-- side 0 is the receive store, side 1 the transmit store: where its oldest byte is, and its bytes
 abbrev pub placeOf : ℕ → State → ℕ
-placeOf side s = cond (eqb side 0) (s .rx .oldest) (s .tx .oldest)
+placeOf side s = boundary.placeOf bridges side s
 
 abbrev pub storeOf : ℕ → World → List ℕ
-storeOf side w = cond (eqb side 0) (w .rx) (w .tx)
+storeOf side w = boundary.storeOf side (bridges .apart w)
 
--- Sizes and refusals, showing: an empty part is the number 0
-unfoldable pub shownWord : ℕ → World → ℕ
-shownWord side w = cond (eqb (length (shown side w)) 0) 0 (placeWord (placeOf side (w .state)) (word (part (shown side w))))
+-- the part shown: its length in bits 0 to 31, and in bits 32 to 63 where it starts in its store
+abbrev pub shownWord : ℕ → World → ℕ
+shownWord side w = boundary.shownWord bridges side (bridges .apart w)

@@ -1,13 +1,12 @@
 // The bridge as C functions: a lent block that holds the state, two lent stores, and numbers. Each answers one number of 64 bits.
 ghost use mathlib.Core.Path.{_≡_};
 ghost use mathlib.Core.Bool.{false};
-ghost use Prim.Native.Nat.{_<_};
 ghost use lib.ListN.{length};
 ghost use Rattle.answers.specs.Answers.{said, isRefusal};
 ghost use Rattle.block.specs.Packed.{blockLen};
 ghost use Rattle.bridge.specs.Calls.{create, show, on, reset, write, lineByte, lineBreak, key, nextLineByte, loopFrame};
 ghost use Rattle.answers.specs.Word.{word};
-ghost use Rattle.raftershim.specs.ShownWord.{placeWord, placeOf};
+ghost use Rattle.raftershim.specs.ShownWord.{placeOf};
 ghost use Rattle.raftershim.specs.CCalls.{lent, cDid, blockAfter, CPromised};
 use answers::Answer;
 use state::Outcome;
@@ -152,14 +151,6 @@ fn start_of(s: State, side: u32) -> usize
     if side == 0 { s.rx.oldest } else { s.tx.oldest }
 }
 
-// The number of a part that starts here and is this long.
-fn place_word(start: usize, len: usize) -> u64
-    requires { ⌜ (start < 4294967296) × (len < 4294967296) ⌝ }
-    ensures { λ r. ⌜ r ≡ placeWord start len ⌝ }
-{
-    4294967296 * (start as u64) + len as u64
-}
-
 // Shows a store: where the longest unbroken run of bytes from the oldest one starts, and how long it is.
 #[no_mangle]
 pub extern "C" fn raftershim_show<'a>(block: &[u8], rx: &'a [u8], tx: &'a [u8], side: u32) -> u64
@@ -173,5 +164,5 @@ pub extern "C" fn raftershim_show<'a>(block: &[u8], rx: &'a [u8], tx: &'a [u8], 
     if len == 0 {
         return 0;
     }
-    place_word(start_of(s, side), len)
+    boundary::place_word(start_of(s, side), len)
 }

@@ -1,4 +1,9 @@
-use Rattle.cmailbox.proofs.Closing.{lines-looked}
+use mathlib.Core.Path.{ap, _∙_}
+use Rattle.mailbox.specs.Calls.{busLines, Did}
+use Rattle.boundary.proofs.Closing.{looked}
+use Rattle.cmailbox.specs.Mailbox.{mailboxes}
+use Rattle.cmailbox.proofs.Forming.{formed}
+use Rattle.cmailbox.proofs.Lines.{lines-leave}
 use borrow.Author.Needs.{needs}
 use Rattle.cmailbox.proofs.raftershim_mailbox_bus_lines.Statement.{statement}
 use Rattle.cmailbox.proofs.raftershim_mailbox_bus_lines.Tie as tie
@@ -10,4 +15,5 @@ raftershim-mailbox-bus-lines-spec =
     (λ c κs. search needs)
     (λ c κs. search needs)
     (λ c κs. search needs)
-    (λ c. lines-looked _ _ _ _ _ (c .before .before .meaning .ensures) (c .before .bus-lines .ensures) _ (c .word-of .ensures)))
+    (λ c. looked mailboxes formed busLines _ _ _ _ (c .before .before .meaning .ensures) _ (c .before .bus-lines .ensures)
+    (ap (λ (d : Did). d .world) (c .before .bus-lines .ensures) ∙ lines-leave _ _ _) _ (c .word-of .ensures)))

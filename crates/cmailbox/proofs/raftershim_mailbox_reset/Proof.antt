@@ -1,5 +1,7 @@
 use Rattle.mailbox.specs.Calls.{reset}
-use Rattle.cmailbox.proofs.Closing.{may-write, written}
+use Rattle.boundary.proofs.Closing.{may-write, written}
+use Rattle.cmailbox.specs.Mailbox.{mailboxes}
+use Rattle.cmailbox.proofs.Forming.{formed}
 use borrow.Author.Needs.{needs}
 use Rattle.cmailbox.proofs.raftershim_mailbox_reset.Statement.{statement}
 use Rattle.cmailbox.proofs.raftershim_mailbox_reset.Tie as tie
@@ -10,7 +12,7 @@ raftershim-mailbox-reset-spec =
     (tie.spec
     (λ c κs. search needs)
     (λ c κs. search needs)
-    (λ c κs. may-write reset _ _ _ _ _ _ _ (c .before .before .meaning .ensures) (c .before .reset .ensures))
+    (λ c κs. may-write mailboxes formed reset _ _ _ _ (c .before .before .meaning .ensures) _ (c .before .reset .ensures))
     (λ c. search needs)
-    (λ c. written reset _ _ _ _ _ _ _ (c .before .before .before .before .before .meaning .ensures) (c .before .before .before .before .reset .ensures) _ _
+    (λ c. written mailboxes formed reset _ _ _ _ (c .before .before .before .before .before .meaning .ensures) _ (c .before .before .before .before .reset .ensures) _ _
     (c .before .before .finished .ensures)))

@@ -1,7 +1,7 @@
-use Rattle.boundary.proofs.Closing.{show-empty, show-small, show-part}
+use mathlib.Core.Path.{refl}
+use Rattle.boundary.proofs.Closing.{part-shown, show-empty, show-small, show-part}
 use Rattle.cmailbox.specs.Mailbox.{mailboxes}
 use Rattle.cmailbox.proofs.Forming.{formed}
-use Rattle.cmailbox.proofs.Closing.{part-shown}
 use borrow.Author.Needs.{needs}
 use Rattle.cmailbox.proofs.raftershim_mailbox_show.Statement.{statement}
 use Rattle.cmailbox.proofs.raftershim_mailbox_show.Tie as tie
@@ -12,8 +12,8 @@ raftershim-mailbox-show-spec =
     (tie.spec
     (λ c κs. search needs)
     (λ c κs. search needs)
-    (λ c. show-empty mailboxes formed _ _ _ _ _ _ (c .before .before .meaning .ensures) (part-shown _ _ _ _ _ (c .before .show .ensures)) (c .if1 .taken))
+    (λ c. show-empty mailboxes formed _ _ _ _ _ _ (c .before .before .meaning .ensures) (part-shown mailboxes formed _ _ _ _ (c .before .show .ensures) refl) (c .if1 .taken))
     (λ c κs. search needs)
-    (λ c κs. show-small mailboxes formed _ _ _ (part-shown _ _ _ _ _ (c .before .before .show .ensures)) _ (c .before .if1 .left) (c .start-of .ensures))
-    (λ c. show-part mailboxes formed _ _ _ _ _ _ (c .before .before .before .before .meaning .ensures) (part-shown _ _ _ _ _ (c .before .before .before .show .ensures)) _ _
+    (λ c κs. show-small mailboxes formed _ _ _ (part-shown mailboxes formed _ _ _ _ (c .before .before .show .ensures) refl) _ (c .before .if1 .left) (c .start-of .ensures))
+    (λ c. show-part mailboxes formed _ _ _ _ _ _ (c .before .before .before .before .meaning .ensures) (part-shown mailboxes formed _ _ _ _ (c .before .before .before .show .ensures) refl) _ _
     (c .before .before .if1 .left) (c .before .start-of .ensures) (c .place-word .ensures)))

@@ -1,18 +1,18 @@
 use Rattle.bridge.specs.Calls.{reset}
-use Rattle.raftershim.specs.CCalls.{cStep}
-use Rattle.raftershim.proofs.Closing.{may-write, written}
+use Rattle.boundary.proofs.Closing.{may-write, written}
+use Rattle.raftershim.specs.Bridge.{bridges}
+use Rattle.raftershim.proofs.Forming.{formed}
 use borrow.Author.Needs.{needs}
 use Rattle.raftershim.proofs.raftershim_reset.Statement.{statement}
 use Rattle.raftershim.proofs.raftershim_reset.Tie as tie
 
 pub raftershim-reset-spec : {M : Type 1} → statement M
-unfolding cStep
 raftershim-reset-spec =
     tie.close
     (tie.spec
     (λ c κs. search needs)
     (λ c κs. search needs)
-    (λ c κs. may-write reset _ _ _ _ _ _ _ (c .before .before .meaning .ensures) (c .before .reset .ensures))
+    (λ c κs. may-write bridges formed reset _ _ _ _ (c .before .before .meaning .ensures) _ (c .before .reset .ensures))
     (λ c. search needs)
-    (λ c. written reset _ _ _ _ _ _ _ (c .before .before .before .before .before .meaning .ensures) (c .before .before .before .before .reset .ensures) _ _
+    (λ c. written bridges formed reset _ _ _ _ (c .before .before .before .before .before .meaning .ensures) _ (c .before .before .before .before .reset .ensures) _ _
     (c .before .before .finished .ensures)))

@@ -1,4 +1,7 @@
-use Rattle.raftershim.proofs.Closing.{part-shown, show-empty, show-small, show-part}
+use mathlib.Core.Path.{refl}
+use Rattle.boundary.proofs.Closing.{part-shown, show-empty, show-small, show-part}
+use Rattle.raftershim.specs.Bridge.{bridges}
+use Rattle.raftershim.proofs.Forming.{formed}
 use borrow.Author.Needs.{needs}
 use Rattle.raftershim.proofs.raftershim_show.Statement.{statement}
 use Rattle.raftershim.proofs.raftershim_show.Tie as tie
@@ -9,8 +12,8 @@ raftershim-show-spec =
     (tie.spec
     (λ c κs. search needs)
     (λ c κs. search needs)
-    (λ c. show-empty _ _ _ _ _ _ (c .before .before .meaning .ensures) (part-shown _ _ _ (c .before .show .ensures)) (c .if1 .taken))
+    (λ c. show-empty bridges formed _ _ _ _ _ _ (c .before .before .meaning .ensures) (part-shown bridges formed _ _ _ _ (c .before .show .ensures) refl) (c .if1 .taken))
     (λ c κs. search needs)
-    (λ c κs. show-small _ _ _ _ _ (part-shown _ _ _ (c .before .before .show .ensures)) _ (c .before .if1 .left) (c .start-of .ensures))
-    (λ c. show-part _ _ _ _ _ _ (c .before .before .before .before .meaning .ensures) (part-shown _ _ _ (c .before .before .before .show .ensures)) _ _
+    (λ c κs. show-small bridges formed _ _ _ (part-shown bridges formed _ _ _ _ (c .before .before .show .ensures) refl) _ (c .before .if1 .left) (c .start-of .ensures))
+    (λ c. show-part bridges formed _ _ _ _ _ _ (c .before .before .before .before .meaning .ensures) (part-shown bridges formed _ _ _ _ (c .before .before .before .show .ensures) refl) _ _
     (c .before .before .if1 .left) (c .before .start-of .ensures) (c .place-word .ensures)))

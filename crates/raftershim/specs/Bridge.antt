@@ -1,0 +1,48 @@
+-- The bridge as a product with C functions: what they are made of.
+use Prim.Native.Nat.{ℕ}
+use Rattle.answers.specs.Answers.{byte}
+use Rattle.store.specs.Bytes.{Bytes}
+use Rattle.boundary.specs.Product.{Product, held, Kind, creating, showing, calling}
+use Rattle.state.specs.declared.State.{State}
+use Rattle.state.specs.Sizes.{sizesObeyed, fits}
+use Rattle.block.specs.Packed.{layout}
+use Rattle.block.specs.States.{noState}
+use Rattle.bridge.specs.Calls.{OnState, Call, create, show, on, World, world, Did, checksOn, step}
+use Rattle.laws.specs.Bridges.{bridge, ByteCall}
+
+-- of what kind a call is
+abbrev pub callKind : Call → Kind OnState
+callKind (create m) = creating m
+callKind (show side) = showing side
+callKind (on c) = calling c
+
+-- the first store is the receive store, the second the transmit store; create is given the margin
+abbrev pub bridges : Product
+bridges =
+    record {
+      State = State;
+      layout = layout;
+      noState = noState;
+      firstRing = λ s. s .rx;
+      secondRing = λ s. s .tx;
+      fits = fits;
+      World = World;
+      world = λ h. world (h .state) (h .first) (h .second);
+      apart = λ w. held (w .state) (w .rx) (w .tx);
+      Stored = Bytes;
+      OnState = OnState;
+      Call = Call;
+      create = create;
+      show = show;
+      on = on;
+      kind = callKind;
+      Did = Did;
+      saidIn = λ d. d .said;
+      leftIn = λ d. d .world;
+      step = step;
+      obeyed = sizesObeyed;
+      checksOn = checksOn;
+      Fine = bridge step .Fine;
+      Fair = ByteCall;
+      given = byte;
+    }
