@@ -42,11 +42,11 @@ fn talker_at(b: &[u8]) -> Talker
         role: Role {
             address: b[27],
             phase: b[28],
-            listener: b[29] == 1,
+            listener: b[29] % 2 == 1,
         },
         under: Under {
             frame: codec::read16(b, 30),
-            finishing: b[32] == 1,
+            finishing: b[32] % 2 == 1,
         },
     }
 }
@@ -57,8 +57,8 @@ fn remote_at(b: &[u8]) -> Remote
     ensures { λ r. ⌜ r ≡ stateAt (now (b .entry)) .remote ⌝ }
 {
     Remote {
-        enabled: b[54] == 1,
-        remote: b[55] == 1,
+        enabled: b[54] % 2 == 1,
+        remote: b[55] % 2 == 1,
     }
 }
 
@@ -68,9 +68,9 @@ fn line_at(b: &[u8]) -> Line
     ensures { λ r. ⌜ r ≡ stateAt (now (b .entry)) .line ⌝ }
 {
     Line {
-        holding: b[44] == 1,
-        forbidden: b[45] == 1,
-        stopped: b[46] == 1,
+        holding: b[44] % 2 == 1,
+        forbidden: b[45] % 2 == 1,
+        stopped: b[46] % 2 == 1,
     }
 }
 
@@ -81,16 +81,16 @@ fn notes_at(b: &[u8]) -> Notes
 {
     Notes {
         seen: Events {
-            brk: b[47] == 1,
-            overrun: b[48] == 1,
-            key: b[49] == 1,
+            brk: b[47] % 2 == 1,
+            overrun: b[48] % 2 == 1,
+            key: b[49] % 2 == 1,
         },
         again: Events {
-            brk: b[50] == 1,
-            overrun: b[51] == 1,
-            key: b[52] == 1,
+            brk: b[50] % 2 == 1,
+            overrun: b[51] % 2 == 1,
+            key: b[52] % 2 == 1,
         },
-        request: b[53] == 1,
+        request: b[53] % 2 == 1,
     }
 }
 

@@ -94,13 +94,13 @@ four =
       put-bytes = λ x r. bytes-four _ _ _ _ (omega arith) (omega arith) (omega arith) (omega arith);
     }
 
--- a flag: 1 or 0, and nothing else is right
+-- a flag: 1 or 0, and nothing else is right; it is read by its lowest bit, which a machine has at hand
 abbrev pub flag : Codec Bool
 flag =
     record {
       len = 1;
       put = λ t. boolByte t ∷ [];
-      get = λ b i. eqb (getD b i 0) 1;
+      get = λ b i. eqb (getD b i 0 % 2) 1;
       right = λ b i. leb (getD b i 0) 1;
       Ranged = λ t. Unit;
       put-length = λ t. refl;

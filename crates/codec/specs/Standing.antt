@@ -103,12 +103,12 @@ four-at b i x r h =
 
 -- ---- the byte of a flag
 
-pub flag-kept : (x : ℕ) → leb x 1 ≡ true → x ≡ boolByte (eqb x 1)
+pub flag-kept : (x : ℕ) → leb x 1 ≡ true → x ≡ boolByte (eqb (x % 2) 1)
 flag-kept zero h = refl
 flag-kept (suc zero) h = refl
 flag-kept (suc (suc x)) h = let e : suc (suc x) ≤ 1 = leb-true (suc (suc x)) 1 h in absurd (omega arith)
 
-pub flag-read : (t : Bool) (x : ℕ) → x ≡ boolByte t → eqb x 1 ≡ t
+pub flag-read : (t : Bool) (x : ℕ) → x ≡ boolByte t → eqb (x % 2) 1 ≡ t
 flag-read true x e = rw e
 flag-read false x e = rw e
 

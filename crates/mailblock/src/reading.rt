@@ -21,9 +21,9 @@ fn way_at(b: &[u8], i: usize, j: usize) -> Way
     Way {
         ring: codec::ring_at(b, i),
         news: News {
-            request: b[j] == 1,
-            available: b[j + 1] == 1,
-            again: b[j + 2] == 1,
+            request: b[j] % 2 == 1,
+            available: b[j + 1] % 2 == 1,
+            again: b[j + 2] % 2 == 1,
         },
     }
 }
@@ -37,11 +37,11 @@ fn talker_at(b: &[u8]) -> Talker
         role: Role {
             address: b[17],
             phase: b[18],
-            listener: b[19] == 1,
+            listener: b[19] % 2 == 1,
         },
         under: Under {
             frame: codec::read16(b, 13),
-            finishing: b[20] == 1,
+            finishing: b[20] % 2 == 1,
         },
     }
 }
@@ -52,8 +52,8 @@ fn hold_at(b: &[u8]) -> Hold
     ensures { λ r. ⌜ r ≡ stateAt (now (b .entry)) .hold ⌝ }
 {
     Hold {
-        enabled: b[33] == 1,
-        held: b[34] == 1,
+        enabled: b[33] % 2 == 1,
+        held: b[34] % 2 == 1,
         frame: codec::read16(b, 15),
     }
 }
@@ -64,9 +64,9 @@ fn response_at(b: &[u8]) -> Response
     ensures { λ r. ⌜ r ≡ stateAt (now (b .entry)) .response ⌝ }
 {
     Response {
-        on: b[35] == 1,
+        on: b[35] % 2 == 1,
         line: b[22],
-        sense: b[36] == 1,
+        sense: b[36] % 2 == 1,
     }
 }
 
@@ -79,12 +79,12 @@ fn bus_at(b: &[u8]) -> Bus
         role: Role {
             address: b[23],
             phase: b[24],
-            listener: b[26] == 1,
+            listener: b[26] % 2 == 1,
         },
-        serial: b[37] == 1,
-        read: b[38] == 1,
-        configuring: b[39] == 1,
-        polled: b[40] == 1,
+        serial: b[37] % 2 == 1,
+        read: b[38] % 2 == 1,
+        configuring: b[39] % 2 == 1,
+        polled: b[40] % 2 == 1,
         line: b[25],
     }
 }

@@ -43,5 +43,13 @@ pub mod HoldsGo
 pub mod PollsSeen
 -- `CellPlaces` is of the places of the cells.
 pub mod CellPlaces
+-- `OwnRuns`, `OwnStarts` and `Returned` are of returns on the loop.
+pub mod OwnRuns
+pub mod OwnStarts
+pub mod Returned
+-- `PassedOn` is of frames that go on and of the two IDs.
+pub mod PassedOn
+-- `ServiceBits` is of the service bit of every frame out.
+pub mod ServiceBits
 -- `Laws` has all of them in one theorem.
 pub mod Laws

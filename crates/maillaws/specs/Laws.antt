@@ -18,6 +18,9 @@ use Rattle.maillaws.specs.NewsGoing.{NewsGo}
 use Rattle.maillaws.specs.PollsTold.{LinesTold, IdentifyTold, ResponseGoes}
 use Rattle.maillaws.specs.HoldGoing.{HoldGoes}
 use Rattle.maillaws.specs.MailPlaces.{PlacesGo}
+use Rattle.maillaws.specs.OwnReturns.{ReturnsJudged}
+use Rattle.maillaws.specs.FramesOn.{FramesPass}
+use Rattle.maillaws.specs.ServiceOut.{ServiceBit}
 
 abbrev pub laws : List Law
 laws =
@@ -30,4 +33,5 @@ laws =
     ∷ LoopGiven ∷ BusGiven ∷ HoldsBack ∷ Released ∷ LoopRoleGoes ∷ BusRoleGoes
     ∷ StartsSo ∷ ResetGivesStart ∷ ShowsSo ∷ NewsGo toBus ∷ NewsGo toLoop
     ∷ LinesTold ∷ IdentifyTold ∷ ResponseGoes ∷ HoldGoes ∷ PlacesGo toBus ∷ PlacesGo toLoop
+    ∷ ReturnsJudged ∷ FramesPass ∷ ServiceBit
     ∷ []

@@ -18,5 +18,8 @@ pub mod NewsGoing
 pub mod PollsTold
 pub mod HoldGoing
 pub mod MailPlaces
+pub mod OwnReturns
+pub mod FramesOn
+pub mod ServiceOut
 pub mod Laws
 pub mod Obeyed

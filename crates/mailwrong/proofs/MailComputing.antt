@@ -25,6 +25,7 @@ use Rattle.maillaws.specs.Sights as see
 use Rattle.maillaws.specs.NewsTold as news-told
 use Rattle.maillaws.specs.Requesting.{showsRequest}
 use Rattle.maillaws.specs.NotReady.{endsHold}
+use Rattle.maillaws.specs.OwnReturns.{finishes, ownFrame}
 use Rattle.maillaws.specs.LoopRole as loop-role
 use Rattle.maillaws.specs.BusRole as bus-role
 
@@ -83,7 +84,7 @@ calls-open = tt
 
 -- what is seen of them
 unfoldable sights-open : Unit {0}
-unfolding see.left see.fetched see.restarts see.clearsBy see.told news-told.endsWay news-told.givesBack showsRequest endsHold
+unfolding see.left see.fetched see.restarts see.clearsBy see.told news-told.endsWay news-told.givesBack showsRequest endsHold finishes ownFrame
 sights-open = tt
 
 unfoldable laws-open : Unit {0}
