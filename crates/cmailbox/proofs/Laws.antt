@@ -9,7 +9,9 @@ use Rattle.boundary.proofs.Seen as seen
 use Rattle.cmailbox.specs.Mailbox.{mailboxes}
 use Rattle.cmailbox.specs.CLaws.{OneResultInC, ShownPlace, MisfitShowsNothing, MisfitRefused, WrongBlockRefused, RefusalKeepsAll, RefusedExactlyInC}
 use Rattle.cmailbox.specs.CLaws.{AnswersTold, BlockKeepsFit, CreateFits, LengthsStay, SameCall, SameEnd, SameWords, CallMeans, RunsMean}
-use Rattle.cmailbox.specs.CLaws.{CIsTheMailbox, LawsHoldInC, AllHoldInC}
+use Rattle.cmailbox.specs.CLaws.{CIsTheMailbox, LawsHoldInC, AllHoldInC, AllLawsInC}
+use Rattle.maillaws.specs.Laws as all
+use Rattle.maillaws.proofs.Laws.{all-obeyed}
 use Rattle.cmailbox.proofs.Forming.{formed}
 use Rattle.cmailbox.proofs.Keeping.{kept}
 
@@ -69,3 +71,6 @@ laws-hold-in-c = seen.laws-hold-in-c mailboxes formed kept
 
 pub all-hold-in-c : AllHoldInC
 all-hold-in-c = seen.all-hold-in-c mailboxes formed kept
+
+pub all-laws-in-c : AllLawsInC
+all-laws-in-c = all-hold-in-c all.laws all-obeyed

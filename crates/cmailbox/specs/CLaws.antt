@@ -8,6 +8,7 @@ use Rattle.boundary.specs.CRefusals as refusals
 use Rattle.boundary.specs.CFitting as fitting
 use Rattle.mailbox.specs.Calls.{step}
 use Rattle.maillaws.specs.Mailboxes.{Machine, Law, mailbox}
+use Rattle.maillaws.specs.Laws as all
 use Rattle.cmailbox.specs.Mailbox.{mailboxes}
 
 -- ---- one call
@@ -86,3 +87,7 @@ LawsHoldInC = (L : Law) → Obeys (mailbox step) L → Obeys cFunctions L
 
 abbrev pub AllHoldInC : Type 1
 AllHoldInC = (Ls : List Law) → ObeysAll (mailbox step) Ls → ObeysAll cFunctions Ls
+
+-- and they obey all of `laws`: what is fetched and what waits is what was left, and every other rule over calls and runs
+abbrev pub AllLawsInC : Type 0
+AllLawsInC = ObeysAll cFunctions all.laws
