@@ -28,7 +28,7 @@ import seen
 ROOT = os.getcwd()
 WORK = os.path.join(ROOT, "target", "edits")
 JOBS = min(os.cpu_count() or 1, 4)
-SHARES = 6
+SHARES = 12
 
 
 def replaced(text, old, new):

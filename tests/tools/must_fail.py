@@ -82,8 +82,8 @@ def standing(room):
         room.write(change[0], kept)
         room.count += 1
     room.passes(TRY, "6 edits tried", **STUB, STUB_VERSION="of another toolchain")
-    shares = "import must_fail; e = {('c', str(n)): '' for n in range(50)}; s = [must_fail.share(e, n) for n in range(6)]"
-    test = f"import sys; sys.path.insert(0, 'tools'); {shares}; sys.exit(set().union(*s) != set(e) or max(map(len, s)) > 9)"
+    shares = "import must_fail; e = {('c', str(n)): '' for n in range(50)}; s = [must_fail.share(e, n) for n in range(must_fail.SHARES)]"
+    test = f"import sys; sys.path.insert(0, 'tools'); {shares}; sys.exit(set().union(*s) != set(e) or max(map(len, s)) > 5)"
     room.passes(["python3", "-c", test])
 
 

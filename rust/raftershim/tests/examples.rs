@@ -77,6 +77,7 @@ fn the_program_of_readme_is_the_example() {
     let shown = [
         include_str!("../examples/meter.rs"),
         include_str!("../examples/meter.txt"),
+        include_str!("../examples/mailbox.txt"),
     ];
     for text in shown {
         assert!(
