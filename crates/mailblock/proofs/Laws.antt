@@ -2,8 +2,8 @@
 -- Assumes nothing.
 use Prim.{tt}
 use Prim.Native.Nat.{ℕ, zero, suc, _≤_, _<_}
-use mathlib.Core.Path.{_≡_, refl}
-use mathlib.Core.Bool.{true, false, _&&_}
+use mathlib.Core.Path.{_≡_, refl, ap}
+use mathlib.Core.Bool.{Bool, true, false, _&&_}
 use mathlib.Core.List.{List}
 use native.Mathlib.Omega.{arith}
 use lib.Dec.{leb}
@@ -11,9 +11,10 @@ use borrow.Author.Tests.{ne-eqb, leb-true}
 use Rattle.branches.proofs.Branches.{and-left, and-right}
 use Rattle.codec.proofs.Laws as blocks
 use Rattle.store.specs.Ring as ring
+use Rattle.bus.specs.Bus as bus
 use Rattle.way.specs.Way as way
 use Rattle.mailstate.specs.declared.State.{State}
-use Rattle.mailstate.specs.Sizes.{addressObeyed, storeObeyed, sizesObeyed, startState, fits}
+use Rattle.mailstate.specs.Sizes.{addressObeyed, storeObeyed, sizesObeyed, startState, loopInRange, fits}
 use Rattle.mailstate.proofs.Fits.{address-obeyed}
 use Rattle.mailblock.specs.Packed.{layout}
 use Rattle.mailblock.specs.States.{meaning, noState, fittingBlock, Ranged}
@@ -64,7 +65,8 @@ no-places (suc m) = rw (ne-eqb 0 (suc m) (λ z. omega arith))
 
 pub no-state-misfits : (m n : ℕ) → fits noState m n ≡ false
 unfolding fits startState
-no-state-misfits m n = rw (no-places m)
+no-state-misfits m n =
+    ap (λ (t : Bool). ((t && way.fitTest n (noState .toloop)) && loopInRange noState) && bus.fitTest (noState .bus)) (no-places m)
 
 -- a block is a fitting state exactly if what it means fits
 pub meaning-fits : (b : List ℕ) (m n : ℕ) → fits (meaning b) m n ≡ fittingBlock b m n
