@@ -159,9 +159,10 @@ def tree_hash():
 
 
 def share(edits, tree):
-    """The share of the edits that a hash chooses: neighbours, so that few crates are checked in full for it."""
-    keys, number = sorted(edits), tree % SHARES
-    return set(keys[number * len(keys) // SHARES : (number + 1) * len(keys) // SHARES])
+    """The share of the edits that a hash chooses, never none: neighbours, so that few crates are checked in full for it."""
+    keys, shares = sorted(edits), min(SHARES, max(len(edits), 1))
+    number = tree % shares
+    return set(keys[number * len(keys) // shares : (number + 1) * len(keys) // shares])
 
 
 def chosen(edits, held, words):
