@@ -19,6 +19,11 @@ pub data Said : Type 0 where
   cell : ℕ → Said
   lines : ℕ → Said
 
+-- an answer with the room of a store that is told beside it, 0 where none is told
+pub record Answered : Type 0 where
+  pub said : Said
+  pub room : ℕ
+
 -- what is seen of a refusal's number, and of any other answer
 abbrev pub ofRefusal : {X : Type 0} → (ℕ → X) → X → Said → X
 ofRefusal see other (refused n) = see n

@@ -4,7 +4,7 @@ use lib.ListN.{length}
 use Rattle.frame.specs.Frame.{made}
 use Rattle.answers.specs.Answers.{Said, done, none, byte, frame, refused, part, cell, lines}
 
--- the value in bits 0 to 15 and the kind in bits 16 to 23; bits 24 to 63 are reserved and 0 for now, and a reader masks them off the kind
+-- the value in bits 0 to 15 and the kind in bits 16 to 23
 abbrev pub ofKind : ℕ → ℕ → ℕ
 ofKind kind value = 65536 * kind + value
 
@@ -33,3 +33,7 @@ valueOf (lines n) = n
 
 unfoldable pub word : Said → ℕ
 word a = ofKind (kindOf a) (valueOf a)
+
+-- the same with the room that a call tells in bits 32 to 47; bits 24 to 31 and 48 to 63 are reserved and 0 for now, and a reader masks them off
+unfoldable pub wordWith : Said → ℕ → ℕ
+wordWith a room = 4294967296 * room + word a

@@ -2,7 +2,7 @@
 ghost use mathlib.Core.Path.{_≡_};
 ghost use Prim.Native.Nat.{_<_};
 ghost use Rattle.answers.specs.Answers.{isRefusal, faultOf, isByte, byteIn, said};
-ghost use Rattle.answers.specs.Word.{word};
+ghost use Rattle.answers.specs.Word.{word, wordWith};
 
 // A call has nothing to hand out, has nothing to give, gives a line byte, gives a frame, is refused, or, on the bus of a mailbox, gives a cell
 // or the lines.
@@ -61,8 +61,8 @@ fn wide16(x: u16) -> u64
 }
 
 // The number that an answer is: its kind above 16 bits of value.
-pub fn word_of(a: Answer) -> u64
-    ensures { λ r. ⌜ r ≡ word (said a) ⌝ }
+fn number(a: Answer) -> u64
+    ensures { λ r. ⌜ (r ≡ word (said a)) × (r < 16777216) ⌝ }
 {
     match a {
         Answer::Done => 0,
@@ -73,4 +73,18 @@ pub fn word_of(a: Answer) -> u64
         Answer::Cell(c) => 131072 + wide16(c),
         Answer::Lines(n) => 327680 + wide16(n),
     }
+}
+
+// The number of an answer that tells no room.
+pub fn word_of(a: Answer) -> u64
+    ensures { λ r. ⌜ r ≡ word (said a) ⌝ }
+{
+    number(a)
+}
+
+// The number of an answer that tells this room.
+pub fn word_with(a: Answer, room: u16) -> u64
+    ensures { λ r. ⌜ r ≡ wordWith (said a) room ⌝ }
+{
+    4294967296 * wide16(room) + number(a)
 }
