@@ -1,12 +1,14 @@
 -- From what the parts of a call gave to the promise of the call, on plain values. Assumes nothing.
 use Prim.Native.Nat.{ℕ, _<_, _≤_}
+use native.Mathlib.Omega.{arith}
 use mathlib.Core.Path.{_≡_, refl, sym, ap, _∙_}
 use mathlib.Core.List.{List, []}
 use mathlib.Core.Bool.{true, false}
 use lib.ListN.{length}
 use borrow.Author.Tests.{eq-eqb, ne-eqb, lt-ltb, le-ltb}
 use Rattle.answers.specs.Refusals.{Check, firstRefusal}
-use Rattle.store.specs.Ring.{run}
+use Rattle.store.specs.declared.Ring.{Ring}
+use Rattle.store.specs.Ring.{Within, room, run}
 use Rattle.state.specs.declared.State.{State}
 use Rattle.state.specs.declared.Outcome.{Outcome}
 use Rattle.answers.specs.declared.Answer.{Answer}
@@ -15,10 +17,13 @@ use Rattle.answers.specs.Answers.{said}
 use Rattle.state.specs.Sizes.{sizesObeyed, startState, fits}
 use Rattle.loopside.specs.LoopToLine.{busy}
 use Rattle.loopside.specs.Frames.{frameSettled, Framed}
-use Rattle.line.specs.HoldingOff.{nextOut, afterGiving, outAnswer}
+use Rattle.line.specs.declared.Took.{Took}
+use Rattle.line.specs.HoldingOff.{Taken, nextOut, afterGiving, outAnswer}
 use Rattle.state.specs.Conditions.{settled, settledOutcome}
-use Rattle.bridge.specs.Calls.{OnState, world, Did, did, handed, checksOn, checks, rxAfter, txAfter, step, unmade, nextLineByte, loopFrame, create, show, on}
-use Rattle.bridge.specs.Calls.{doneWith, refusedWith, outcome, settledBy, shown, notRefused, refusedOr}
+use Rattle.bridge.specs.declared.Told.{Told}
+use Rattle.bridge.specs.Calls.{OnState, world, Did, did, told, handed, checksOn, checks, rxAfter, txAfter, roomOf, step, unmade}
+use Rattle.bridge.specs.Calls.{lineByte, nextLineByte, loopFrame, create, show, on}
+use Rattle.bridge.specs.Calls.{doneWith, refusedWith, toldNone, outcome, settledBy, shown, notRefused, refusedOr}
 
 -- the checks of a loop frame after the one for a misfit
 abbrev frameChecks : State → ℕ → List Check
@@ -29,6 +34,10 @@ module _ (s : State) (rx tx : List ℕ) (e : fits s (length rx) (length tx) ≡ 
   pub misfit-met : (c : OnState) (o : Outcome) → o ≡ refusedWith s 2 → did o rx tx ≡ step (on c) (world s rx tx)
   unfolding step checks refusedOr said
   misfit-met c o q = ap (λ (x : Outcome). did x rx tx) q ∙ sym (rw e)
+
+  pub misfit-told : (c : OnState) (t : Told) → t ≡ toldNone s 2 → told t rx tx ≡ step (on c) (world s rx tx)
+  unfolding step checks refusedOr said
+  misfit-told c t q = ap (λ (x : Told). told x rx tx) q ∙ sym (rw e)
 
   pub show-misfit : (side : ℕ) → handed [] (world s rx tx) ≡ step (show side) (world s rx tx)
   unfolding step checks refusedOr notRefused shown
@@ -41,20 +50,32 @@ module _ (s : State) (rx tx : List ℕ) (e : fits s (length rx) (length tx) ≡ 
   fit-met c d h q = q ∙ sym (rw (e, h))
 
   -- a refusal after that
-  pub refused-met : (c : OnState) (n : ℕ) (o : Outcome) → n ≡ firstRefusal (checksOn c s) → (n ≡ 0 → ⊥) → o ≡ refusedWith s n → did o rx tx ≡ step (on c) (world s rx tx)
+  pub refused-met : (c : OnState) (n : ℕ) (o : Outcome) → n ≡ firstRefusal (checksOn c s) → (n ≡ 0 → ⊥) → o ≡ refusedWith s n →
+      did o rx tx ≡ step (on c) (world s rx tx)
   unfolding step checks refusedOr said
   refused-met c n o h d q = ap (λ (x : Outcome). did x rx tx) q ∙ sym (rw (e, ← h, ne-eqb n 0 d))
 
-  -- a call that has nothing to hand out
-  pub done-met : (c : OnState) (o : Outcome) (rx′ tx′ : List ℕ) (t : State) → firstRefusal (checksOn c s) ≡ 0 →
+  pub refused-told : (c : OnState) (n : ℕ) (t : Told) → n ≡ firstRefusal (checksOn c s) → (n ≡ 0 → ⊥) → t ≡ toldNone s n →
+      told t rx tx ≡ step (on c) (world s rx tx)
+  unfolding step checks refusedOr said
+  refused-told c n t h d q = ap (λ (x : Told). told x rx tx) q ∙ sym (rw (e, ← h, ne-eqb n 0 d))
+
+  -- a call that has nothing to hand out, and tells no room
+  pub done-met : (c : OnState) (o : Outcome) (rx′ tx′ : List ℕ) (t : State) → firstRefusal (checksOn c s) ≡ 0 → ((q : State) → roomOf c q ≡ 0) →
       doneWith t ≡ outcome c (world s rx tx) → settled s t ≡ settledBy c s t → rx′ ≡ rxAfter c (world s rx tx) → tx′ ≡ txAfter c (world s rx tx) →
       o ≡ settledOutcome s (doneWith t) → did o rx′ tx′ ≡ step (on c) (world s rx tx)
   unfolding notRefused
-  done-met c o rx′ tx′ t h a b x y q = fit-met c (did o rx′ tx′) h (rw (q, b, x, y, ← a))
+  done-met c o rx′ tx′ t h none a b x y q = fit-met c (did o rx′ tx′) h (rw (q, b, x, y, ← a, none))
+
+  -- a line byte, which tells the room of the receive store
+  pub line-done : (b : ℕ) (t : Told) (k : Took) (rx′ : List ℕ) → Taken s rx b rx′ k → t .outcome ≡ settledOutcome s (doneWith (k .state)) →
+      t .room ≡ k .room → told t rx′ tx ≡ step (on (lineByte b)) (world s rx tx)
+  unfolding checksOn notRefused outcome settledBy settled rxAfter txAfter roomOf
+  line-done b t k rx′ p o r = fit-met (lineByte b) (told t rx′ tx) refl (rw (o, r, p .room, p .state, p .bytes))
 
   pub next-done : (o : Outcome) (x : Out) (a : Answer) (t : State) → x ≡ nextOut s tx → a ≡ outAnswer x → t ≡ afterGiving s x →
       o ≡ settledOutcome s (record { state = t; answer = a }) → did o rx tx ≡ step (on nextLineByte) (world s rx tx)
-  unfolding checksOn notRefused outcome settledBy rxAfter txAfter
+  unfolding checksOn notRefused outcome settledBy rxAfter txAfter roomOf
   next-done o x a t p q r z = fit-met nextLineByte (did o rx tx) refl (rw (z, r, q, p))
 
   pub frame-large : (f : ℕ) → 2047 < f → firstRefusal (frameChecks s f) ≡ 3
@@ -65,9 +86,11 @@ module _ (s : State) (rx tx : List ℕ) (e : fits s (length rx) (length tx) ≡ 
   unfolding checksOn
   frame-busy f h b = rw (le-ltb 2047 f h, b)
 
-  pub frame-done : (f : ℕ) (tx′ : List ℕ) (o : Outcome) → f ≤ 2047 → busy s f ≡ false → Framed s rx tx f tx′ o → did o rx tx′ ≡ step (on (loopFrame f)) (world s rx tx)
-  unfolding checksOn notRefused outcome settledBy rxAfter txAfter frameSettled
-  frame-done f tx′ o h b q = fit-met (loopFrame f) (did o rx tx′) (rw (le-ltb 2047 f h, b)) (rw (q .outcome, q .bytes))
+  -- a frame that is taken, which tells the room of the transmit store
+  pub frame-done : (f : ℕ) (tx′ : List ℕ) (t : Told) → f ≤ 2047 → busy s f ≡ false → Framed s rx tx f tx′ (t .outcome) →
+      t .room ≡ room (t .outcome .state .tx) → told t rx tx′ ≡ step (on (loopFrame f)) (world s rx tx)
+  unfolding checksOn notRefused outcome settledBy rxAfter txAfter frameSettled roomOf
+  frame-done f tx′ t h b q r = fit-met (loopFrame f) (told t rx tx′) (rw (le-ltb 2047 f h, b)) (rw (r, q .outcome, q .bytes))
 
   pub show-receive : (p : List ℕ) → p ≡ run rx (s .rx) → (side : ℕ) → side ≡ 0 → handed p (world s rx tx) ≡ step (show side) (world s rx tx)
   unfolding step checks refusedOr notRefused shown
@@ -80,6 +103,14 @@ module _ (s : State) (rx tx : List ℕ) (e : fits s (length rx) (length tx) ≡ 
   pub show-neither : (side : ℕ) → (side ≡ 0 → ⊥) → (side ≡ 1 → ⊥) → handed [] (world s rx tx) ≡ step (show side) (world s rx tx)
   unfolding step checks refusedOr notRefused shown
   show-neither side y z = rw (e, ne-eqb side 0 y, ne-eqb side 1 z)
+
+-- a refusal that tells no room
+pub none-told : (s : State) (n : ℕ) (o : Outcome) → o ≡ refusedWith s n → record { outcome = o; room = 0 } ≡ toldNone s n
+none-told s n o e = rw e
+
+-- the room of a store is a number of 16 bits
+pub small-room : (r : Ring) (n : ℕ) → Within r → n ≡ room r → n < 65536
+small-room r n h q = let k : r .cap ≤ 32768 = h .small in omega (arith, q, k)
 
 module _ (m : ℕ) (rx tx : List ℕ) (o : Outcome) (t : State) (made : t ≡ startState m (length rx) (length tx)) where
   pub create-done : sizesObeyed m (length rx) (length tx) ≡ true → o ≡ doneWith t → did o rx tx ≡ step (create m) (unmade m rx tx)

@@ -7,9 +7,10 @@ use lib.Dec.{eqb, ltb}
 use lib.ListN.{length}
 use Rattle.answers.specs.Refusals.{Check, check, firstRefusal}
 use Rattle.registers.specs.Writing.{writeChecks, written}
-use Rattle.store.specs.Ring.{run}
+use Rattle.store.specs.Ring.{room, run}
 use Rattle.state.specs.declared.State.{State}
 use Rattle.state.specs.declared.Outcome.{Outcome}
+use Rattle.bridge.specs.declared.Told.{Told}
 use Rattle.answers.specs.declared.Answer.the-variants as answer
 use Rattle.answers.specs.Answers.{Said, said, refused, part}
 use Rattle.state.specs.Sizes.{sizesObeyed, startState, fits}
@@ -90,17 +91,22 @@ pub record World : Type 0 where
 abbrev pub world : State → List ℕ → List ℕ → World
 world s rx tx = record { state = s; rx = rx; tx = tx }
 
--- what a call did: its answer, and the world after it
+-- what a call did: its answer, the room that it tells beside it, 0 where it tells none, and the world after it
 pub record Did : Type 0 where
   pub said : Said
+  pub room : ℕ
   pub world : World
 
 abbrev pub did : Outcome → List ℕ → List ℕ → Did
-did o rx tx = record { said = said (o .answer); world = world (o .state) rx tx }
+did o rx tx = record { said = said (o .answer); room = 0; world = world (o .state) rx tx }
+
+-- of a call that tells the room
+abbrev pub told : Told → List ℕ → List ℕ → Did
+told t rx tx = record { said = said (t .outcome .answer); room = t .room; world = world (t .outcome .state) rx tx }
 
 -- what showing did: the part that it returned, and the world as it was
 abbrev pub handed : List ℕ → World → Did
-handed xs w = record { said = part xs; world = w }
+handed xs w = record { said = part xs; room = 0; world = w }
 
 -- ---- refusals
 
@@ -132,6 +138,10 @@ doneWith s = record { state = s; answer = answer.Done }
 abbrev pub refusedWith : State → ℕ → Outcome
 refusedWith s n = record { state = s; answer = answer.Refused n }
 
+-- the same of a call that tells a room when it is not refused
+abbrev pub toldNone : State → ℕ → Told
+toldNone s n = record { outcome = refusedWith s n; room = 0 }
+
 -- the state, before requests are settled, and the answer
 unfoldable pub outcome : OnState → World → Outcome
 outcome reset w = doneWith (startState (w .state .margin) (length (w .rx)) (length (w .tx)))
@@ -153,6 +163,17 @@ rxAfter c w = ofLineByte (lineBytes (w .state) (w .rx)) (w .rx) c
 unfoldable pub txAfter : OnState → World → List ℕ
 txAfter c w = ofFrame (frameBytes (w .state) (w .tx)) (w .tx) c
 
+-- The request for the room left: a line byte tells that of the receive store, and a loop frame that of the transmit store, both as the call left
+-- them; no other call tells any
+unfoldable pub roomOf : OnState → State → ℕ
+roomOf (lineByte b) s = room (s .rx)
+roomOf (loopFrame f) s = room (s .tx)
+roomOf reset s = 0
+roomOf (write n v) s = 0
+roomOf lineBreak s = 0
+roomOf key s = 0
+roomOf nextLineByte s = 0
+
 -- Sizes and refusals, showing: the longest unbroken run from the oldest byte, an empty part for a misfit; side 0 is the receive store,
 -- side 1 the transmit store, and any other side shows nothing
 unfoldable pub shown : ℕ → World → List ℕ
@@ -170,12 +191,16 @@ notRefused (show side) w = handed (shown side w) w
 notRefused (on c) w =
     record {
       said = said (outcome c w .answer);
+      room = roomOf c (settledBy c (w .state) (outcome c w .state));
       world = world (settledBy c (w .state) (outcome c w .state)) (rxAfter c w) (txAfter c w);
     }
 
--- Sizes and refusals, below the table: a refusal is its number alone, and all stays as it was
+-- Sizes and refusals, below the table: a refusal is its number alone, without any room, and all stays as it was
+abbrev pub refusal : ℕ → World → Did
+refusal n w = record { said = refused n; room = 0; world = w }
+
 unfoldable pub refusedOr : ℕ → Did → World → Did
-refusedOr n d w = cond (eqb n 0) d (record { said = refused n; world = w })
+refusedOr n d w = cond (eqb n 0) d (refusal n w)
 
 -- every call, in every world
 unfoldable pub step : Call → World → Did

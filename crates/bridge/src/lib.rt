@@ -1,11 +1,17 @@
 // The bridge: a software HP-IL/RS-232 interface. The state goes in by value and comes back; both stores are lent at every call.
 ghost use mathlib.Core.Path.{_≡_};
 ghost use Rattle.state.specs.Conditions.{settledOutcome};
-ghost use Rattle.bridge.specs.Calls.{Promised, unmade, world, did, handed, doneWith, refusedWith};
+ghost use Rattle.bridge.specs.Calls.{Promised, unmade, world, did, told, handed, doneWith, refusedWith, toldNone};
 ghost use Rattle.bridge.specs.Calls.{on, create, reset, write, lineByte, lineBreak, key, nextLineByte, loopFrame, show};
 use answers::Answer;
 use state::Outcome;
 use state::State;
+
+// What a call gives that tells a room: its outcome, and the room of a store after it.
+pub struct Told {
+    pub outcome: Outcome,
+    pub room: u16,
+}
 
 // The state as it was, and the refusal's number.
 fn refused(s: State, n: u8) -> Outcome
@@ -14,6 +20,16 @@ fn refused(s: State, n: u8) -> Outcome
     Outcome {
         state: s,
         answer: Answer::Refused(n),
+    }
+}
+
+// The same where a room would be told: a refusal tells none.
+fn alone(s: State, n: u8) -> Told
+    ensures { λ r. ⌜ r ≡ toldNone s n ⌝ }
+{
+    Told {
+        outcome: refused(s, n),
+        room: 0,
     }
 }
 
@@ -71,15 +87,19 @@ pub fn write_register(s: State, rx: &[u8], tx: &[u8], number: u32, value: u32) -
     done(s, t)
 }
 
-// Takes a byte from the line.
-pub fn line_byte(s: State, rx: &mut [u8], tx: &[u8], b: u8) -> Outcome
-    ensures { λ r. ⌜ Promised (on (lineByte b)) (world s (now (rx .entry)) (now (tx .entry))) (did r (now (rx .exit)) (now (tx .entry))) ⌝ }
+// Takes a byte from the line, and tells the room of the receive store.
+pub fn line_byte(s: State, rx: &mut [u8], tx: &[u8], b: u8) -> Told
+    ensures { λ r. ⌜ Promised (on (lineByte b)) (world s (now (rx .entry)) (now (tx .entry))) (told r (now (rx .exit)) (now (tx .entry))) ⌝ }
 {
     if !state::fitting::state_fits(s, rx.len(), tx.len()) {
-        return refused(s, 2);
+        return alone(s, 2);
     }
     let t = line::taken(s, rx, b);
-    done(s, t)
+    let left = t.room as u16;
+    Told {
+        outcome: done(s, t.state),
+        room: left,
+    }
 }
 
 // Takes a break on the line.
@@ -123,21 +143,26 @@ pub fn next_line_byte(s: State, rx: &[u8], tx: &[u8]) -> Outcome
     )
 }
 
-// Takes a frame from the loop, and gives exactly one.
-pub fn loop_frame(s: State, rx: &[u8], tx: &mut [u8], frame: u32) -> Outcome
-    ensures { λ r. ⌜ Promised (on (loopFrame frame)) (world s (now (rx .entry)) (now (tx .entry))) (did r (now (rx .entry)) (now (tx .exit))) ⌝ }
+// Takes a frame from the loop, gives exactly one, and tells the room of the transmit store, whatever the frame is.
+pub fn loop_frame(s: State, rx: &[u8], tx: &mut [u8], frame: u32) -> Told
+    ensures { λ r. ⌜ Promised (on (loopFrame frame)) (world s (now (rx .entry)) (now (tx .entry))) (told r (now (rx .entry)) (now (tx .exit))) ⌝ }
 {
     if !state::fitting::state_fits(s, rx.len(), tx.len()) {
-        return refused(s, 2);
+        return alone(s, 2);
     }
     if frame > 2047 {
-        return refused(s, 3);
+        return alone(s, 3);
     }
     let f = frame as u16;
     if loopside::busy(s, f) {
-        return refused(s, 4);
+        return alone(s, 4);
     }
-    loopside::frame_taken(s, rx, tx, f)
+    let o = loopside::frame_taken(s, rx, tx, f);
+    let left = store::room(o.state.tx) as u16;
+    Told {
+        outcome: o,
+        room: left,
+    }
 }
 
 // Shows the longest unbroken run of bytes from the oldest one: side 0 of the receive store, side 1 of the transmit store.

@@ -1,18 +1,19 @@
 -- Line bytes in and out, and register writes. Assumes nothing.
 use Prim.Native.Nat.{ℕ, _*_, _≤_, _<_}
 use native.Mathlib.Omega.{arith}
-use mathlib.Core.Path.{_≡_, refl, sym, ap, _∙_}
-use mathlib.Core.List.{List}
+use mathlib.Core.Path.{_≡_, refl, sym, ap, subst, _∙_}
+use mathlib.Core.List.{List, [], _++_}
 use mathlib.Core.Bool.{Bool, true, false, cond, _&&_, _||_, not, false≢true}
 use lib.Dec.{eqb, leb}
-use lib.ListN.{getD}
+use lib.ListN.{length, getD, length-append}
 use borrow.Author.Tests.{eq-eqb, ne-eqb, eqb-false}
 use Rattle.registers.specs.declared.Registers.{Registers}
 use Rattle.registers.specs.Meanings.{protocolOn, go, stop}
 use Rattle.store.specs.declared.Ring.{Ring}
 use Rattle.store.specs.declared.Offered.{Offered}
-use Rattle.store.specs.Ring.{held, full, room}
+use Rattle.store.specs.Ring.{Within, Fit, held, full, room}
 use Rattle.store.specs.Promises.{Put, Dropped}
+use Rattle.store.proofs.Promises.{held-length}
 use Rattle.state.specs.declared.State.{State}
 use Rattle.state.specs.declared.Out.{Out}
 use Rattle.state.specs.declared.Out.the-variants.{Own, Held, Nothing}
@@ -23,31 +24,61 @@ use Rattle.line.specs.HoldingOff.{isGoOrStop, flowed, storedWith, lostSt
 
 -- ---- a line byte
 
+-- a state with this receive ring, the room of which is told
+ring-told : (t u : State) (left : ℕ) → t ≡ u → left ≡ room (u .rx) → left ≡ room (t .rx)
+ring-told t u left q l = rw q l
+
+ring-within : (t u : State) → t ≡ u → Within (u .rx) → Within (t .rx)
+ring-within t u q h = subst (λ (x : State). Within (x .rx)) (sym q) h
+
 module _ (s : State) (rx : List ℕ) (b : ℕ) where
-  pub taken-flow : (t : State) → isGoOrStop (s .regs) b ≡ true → t ≡ flowed s b → Taken s rx b rx t
-  unfolding lineState lineBytes
-  taken-flow t e q = record { state = rw (q, e); bytes = rw e; size = refl }
+  pub taken-flow : (t : State) (left : ℕ) → isGoOrStop (s .regs) b ≡ true → t ≡ flowed s b → left ≡ room (s .rx) → Within (s .rx) →
+      Taken s rx b rx (record { state = t; room = left })
+  unfolding lineState lineBytes flowed
+  taken-flow t left e q l h =
+      record { state = rw (q, e); room = ring-told t (flowed s b) left q l; within = ring-within t (flowed s b) q h; bytes = rw e; size = refl }
 
   module _ (rx′ : List ℕ) (o : Offered) (e : isGoOrStop (s .regs) b ≡ false) (p : Put rx (s .rx) b rx′ o) where
     put-written : rx′ ≡ lineBytes s rx b
     unfolding lineBytes
     put-written = rw e (p .bytes)
 
-    pub taken-stored : (t : State) → o .stored ≡ true → t ≡ storedWith s (o .ring) → Taken s rx b rx′ t
-    unfolding lineState
+    pub taken-stored : (t : State) → o .stored ≡ true → t ≡ storedWith s (o .ring) → Taken s rx b rx′ (record { state = t; room = o .room })
+    unfolding lineState storedWith
     taken-stored t h q =
-        let room : full (s .rx) ≡ false = not-is (full (s .rx)) (sym (p .offering .stored) ∙ h) in
-        record { state = rw (e, room) (q ∙ ap (storedWith s) (p .offering .ring)); bytes = put-written; size = p .size }
+        let free : full (s .rx) ≡ false = not-is (full (s .rx)) (sym (p .offering .stored) ∙ h) in
+        record {
+          state = rw (e, free) (q ∙ ap (storedWith s) (p .offering .ring));
+          room = ring-told t (storedWith s (o .ring)) (o .room) q (p .offering .room);
+          within = ring-within t (storedWith s (o .ring)) q (p .fit .within);
+          bytes = put-written;
+          size = p .size;
+        }
       where
         not-is : (x : Bool) → not x ≡ true → x ≡ false
         not-is true h = sym h
         not-is false h = refl
 
-    pub taken-lost : (t : State) → o .stored ≡ false → t ≡ lostState s → Taken s rx b rx′ t
-    unfolding lineState
-    taken-lost t h q =
+    -- a byte that is lost leaves the room that there was
+    room-stays : Fit rx (s .rx) → full (s .rx) ≡ true → room (o .ring) ≡ room (s .rx)
+    room-stays f none =
+        let holds : held rx′ (o .ring) ≡ held rx (s .rx) ++ [] = rw none at (p .holds) in
+        let before = held-length rx (s .rx) f in
+        let after = held-length rx′ (o .ring) (p .fit) in
+        let same = ap length holds ∙ length-append (held rx (s .rx)) [] in
+        omega (arith, before, after, same, f .cap, p .fit .cap, p .size)
+
+    pub taken-lost : (t : State) → o .stored ≡ false → t ≡ lostState s → Fit rx (s .rx) → Taken s rx b rx′ (record { state = t; room = o .room })
+    unfolding lineState lostState
+    taken-lost t h q f =
         let none : full (s .rx) ≡ true = not-is (full (s .rx)) (sym (p .offering .stored) ∙ h) in
-        record { state = rw (e, none) q; bytes = put-written; size = p .size }
+        record {
+          state = rw (e, none) q;
+          room = ring-told t (lostState s) (o .room) q (p .offering .room ∙ room-stays f none);
+          within = ring-within t (lostState s) q (f .within);
+          bytes = put-written;
+          size = p .size;
+        }
       where
         not-is : (x : Bool) → not x ≡ false → x ≡ true
         not-is true h = refl

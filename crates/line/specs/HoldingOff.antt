@@ -8,13 +8,14 @@ use lib.ListN.{length, getD}
 use Rattle.registers.specs.declared.Registers.{Registers}
 use Rattle.registers.specs.Meanings.{protocolOn, go, stop}
 use Rattle.store.specs.declared.Ring.{Ring}
-use Rattle.store.specs.Ring.{held, full, room, putRing, putBytes, dropRing}
+use Rattle.store.specs.Ring.{Within, held, full, room, putRing, putBytes, dropRing}
 use Rattle.state.specs.declared.State.{State}
 use Rattle.state.specs.declared.Line.{Line}
 use Rattle.state.specs.declared.Out.{Out}
 use Rattle.state.specs.declared.Out.the-variants.{Own, Held, Nothing}
 use Rattle.answers.specs.declared.Answer.{Answer}
 use Rattle.answers.specs.declared.Answer.the-variants as answer
+use Rattle.line.specs.declared.Took.{Took}
 use Rattle.state.specs.State.{withRegisters, withLine, withRx, withTx, withOverrun, noted}
 use Rattle.state.specs.Counts.{storedMore, lostMore}
 
@@ -54,9 +55,11 @@ lineState s b = cond (isGoOrStop (s .regs) b) (flowed s b) (cond (full (s .rx)) 
 unfoldable pub lineBytes : State → List ℕ → ℕ → List ℕ
 lineBytes s rx b = cond (isGoOrStop (s .regs) b) rx (putBytes rx (s .rx) b)
 
--- the state and the receive store after a line byte
-pub record Taken (s : State) (rx : List ℕ) (b : ℕ) (rx′ : List ℕ) (t : State) : Type 0 where
-  pub state : t ≡ lineState s b
+-- the state and the receive store after a line byte, and the room that is left in it
+pub record Taken (s : State) (rx : List ℕ) (b : ℕ) (rx′ : List ℕ) (t : Took) : Type 0 where
+  pub state : t .state ≡ lineState s b
+  pub room : t .room ≡ room (t .state .rx)
+  pub within : Within (t .state .rx)
   pub bytes : rx′ ≡ lineBytes s rx b
   pub size : length rx′ ≡ length rx
 

@@ -10,6 +10,12 @@ use state::Out;
 use state::State;
 use store::Ring;
 
+// The state after a line byte, and the room that is left in the receive store.
+pub struct Took {
+    pub state: State,
+    pub room: usize,
+}
+
 // Whether a line byte is go or stop with the receiver protocol on.
 fn is_go_or_stop(g: Registers, b: u8) -> bool
     ensures { λ r. ⌜ r ≡ isGoOrStop g b ⌝ }
@@ -54,20 +60,30 @@ fn lost(s: State) -> State
     t
 }
 
-// A line byte taken: go and stop are never stored, any other byte is stored or lost.
-pub fn taken(s: State, rx: &mut [u8], b: u8) -> State
+// A line byte taken: go and stop are never stored, any other byte is stored or lost. The room told is what the store answered.
+pub fn taken(s: State, rx: &mut [u8], b: u8) -> Took
     requires { ⌜ RxFits s (now rx) ⌝ }
     ensures { λ r. ⌜ Taken s (now (rx .entry)) b (now (rx .exit)) r ⌝ }
 {
     if is_go_or_stop(s.regs, b) {
-        return permitted(s, b);
+        let left = store::room(s.rx);
+        return Took {
+            state: permitted(s, b),
+            room: left,
+        };
     }
     let o = store::put(rx, s.rx, b);
     let ring = o.ring;
+    let left = o.room;
     if o.stored {
-        stored(s, ring, o.room)
-    } else {
-        lost(s)
+        return Took {
+            state: stored(s, ring, left),
+            room: left,
+        };
+    }
+    Took {
+        state: lost(s),
+        room: left,
     }
 }
 

@@ -9,7 +9,7 @@ use borrow.Author.Tests.{eq-eqb, ne-eqb, le-leb, lt-leb, ltb-true}
 use Rattle.branches.proofs.Branches.{cond-true, cond-false}
 use Rattle.frame.specs.Frame.{controlOf, dataOf, isData}
 use Rattle.store.specs.declared.Ring.{Ring}
-use Rattle.store.specs.Ring.{putsRing, putsBytes}
+use Rattle.store.specs.Ring.{Within, putsRing, putsBytes}
 use Rattle.store.specs.Promises.{Puts}
 use Rattle.state.specs.declared.State.{State}
 use Rattle.state.specs.declared.Outcome.{Outcome}
@@ -20,13 +20,15 @@ use Rattle.loopside.specs.LoopToLine.{adds, addedState, addedBytes, Adde
 use Rattle.state.specs.Conditions.{serviced, settledOutcome}
 use Rattle.loopside.specs.Frames.{command, ready, returned, dataPassed, Passed, identify, commandSettled, frameTaken, deviceClear}
 use Rattle.loopside.specs.Frames.{frameSettled, addsBytes, frameBytes, Framed}
+use Rattle.loopside.proofs.Within.{settled-in, returned-in, command-in, ready-in, identified-in}
 
 -- the transmit store with what a frame adds
-pub left-met : (s : State) (tx : List ℕ) (f : ℕ) (tx′ : List ℕ) (o : Ring) (l : List ℕ) → adds (s .regs) f ≡ l → Puts tx (s .tx) l tx′ o → Added s tx f tx′ (withTx s o)
+pub left-met : (s : State) (tx : List ℕ) (f : ℕ) (tx′ : List ℕ) (o : Ring) (l : List ℕ) → adds (s .regs) f ≡ l → Puts tx (s .tx) l tx′ o → Within o → Added s tx f tx′ (withTx s o)
 unfolding addedState addedBytes
-left-met s tx f tx′ o l e p =
+left-met s tx f tx′ o l e p h =
     record {
       state = ap (withTx s) (p .ring ∙ ap (putsRing (s .tx)) (sym e));
+      within = h;
       bytes = p .bytes ∙ ap (putsBytes tx (s .tx)) (sym e);
       size = p .size;
     }
@@ -38,16 +40,18 @@ module _ (s : State) (tx : List ℕ) (f x : ℕ) (q : x ≡ serviced s f) where
       let e : t ≡ cond (s .talker .role .listener) (addedState s f) s = l .state ∙ sym (cond-true (s .talker .role .listener) (addedState s f) s h) in
       record {
         outcome = λ i. record { state = e i; answer = Frame (q i) };
+        within = l .within;
         bytes = l .bytes ∙ sym (cond-true (s .talker .role .listener) (addedBytes s tx f) tx h);
         size = l .size;
       }
 
-  pub passed-by : s .talker .role .listener ≡ false → Passed s tx f tx (record { state = s; answer = Frame x })
+  pub passed-by : s .talker .role .listener ≡ false → Within (s .tx) → Passed s tx f tx (record { state = s; answer = Frame x })
   unfolding dataPassed
-  passed-by h =
+  passed-by h k =
       let e : s ≡ cond (s .talker .role .listener) (addedState s f) s = sym (cond-false (s .talker .role .listener) (addedState s f) s h) in
       record {
         outcome = λ i. record { state = e i; answer = Frame (q i) };
+        within = k;
         bytes = sym (cond-false (s .talker .role .listener) (addedBytes s tx f) tx h);
         size = refl;
       }
@@ -57,7 +61,7 @@ no-clear : (s : State) (f : ℕ) → eqb (controlOf f) 4 ≡ false → deviceCle
 unfolding deviceClear
 no-clear s f e = rw e
 
-module _ (s : State) (rx tx : List ℕ) (f : ℕ) (o : Outcome) where
+module _ (s : State) (rx tx : List ℕ) (f : ℕ) (o : Outcome) (fit : Within (s .tx)) where
   -- a data frame is no command
   data-other : isData f ≡ true → eqb (controlOf f) 4 ≡ false
   data-other e = ne-eqb (controlOf f) 4 (λ h. omega (arith, ltb-true (controlOf f) 4 e))
@@ -66,33 +70,58 @@ module _ (s : State) (rx tx : List ℕ) (f : ℕ) (o : Outcome) where
   unfolding frameSettled frameTaken frameBytes addsBytes
   taken-back p e h a b =
       let r = le-leb 2 (s .talker .role .phase) h in
-      record { outcome = rw (b, a, no-clear s f (data-other e), e, r); bytes = rw (e, r); size = refl }
+      record {
+        outcome = rw (b, a, no-clear s f (data-other e), e, r);
+        within = settled-in s p o (returned-in s rx f p fit a) b;
+        bytes = rw (e, r);
+        size = refl;
+      }
 
   pub taken-passed : (p : Outcome) (tx′ : List ℕ) → isData f ≡ true → s .talker .role .phase < 2 → Passed s tx f tx′ p → o ≡ settledOutcome s p →
       Framed s rx tx f tx′ o
   unfolding frameSettled frameTaken frameBytes addsBytes
   taken-passed p tx′ e h a b =
       let r = lt-leb 2 (s .talker .role .phase) h in
-      record { outcome = rw (b, a .outcome, no-clear s f (data-other e), e, r); bytes = rw (e, r) (a .bytes); size = a .size }
+      record {
+        outcome = rw (b, a .outcome, no-clear s f (data-other e), e, r);
+        within = settled-in s p o (a .within) b;
+        bytes = rw (e, r) (a .bytes);
+        size = a .size;
+      }
 
   module _ (e : isData f ≡ false) where
     pub taken-command : controlOf f ≡ 4 → o ≡ commandSettled s f → Framed s rx tx f tx o
     unfolding frameSettled frameTaken frameBytes addsBytes commandSettled deviceClear
     taken-command h a =
-        record { outcome = rw (a, e, eq-eqb (controlOf f) 4 h, clear-order 31 (s .talker .role) (dataOf f)); bytes = rw e; size = refl }
+        record {
+          outcome = rw (a, e, eq-eqb (controlOf f) 4 h, clear-order 31 (s .talker .role) (dataOf f));
+          within = command-in s f o fit a;
+          bytes = rw e;
+          size = refl;
+        }
 
     module _ (h : controlOf f ≡ 4 → ⊥) where
       pub taken-ready : (p : Outcome) → controlOf f ≡ 5 → p ≡ ready s rx f → o ≡ settledOutcome s p → Framed s rx tx f tx o
       unfolding frameSettled frameTaken frameBytes addsBytes
       taken-ready p k a b =
           let n = ne-eqb (controlOf f) 4 h in
-          record { outcome = rw (b, a, no-clear s f n, e, n, eq-eqb (controlOf f) 5 k); bytes = rw e; size = refl }
+          record {
+            outcome = rw (b, a, no-clear s f n, e, n, eq-eqb (controlOf f) 5 k);
+            within = settled-in s p o (ready-in s rx f p fit a) b;
+            bytes = rw e;
+            size = refl;
+          }
 
       pub taken-identify : (p : Outcome) → (controlOf f ≡ 5 → ⊥) → p ≡ identify s f → o ≡ settledOutcome s p → Framed s rx tx f tx o
       unfolding frameSettled frameTaken frameBytes addsBytes
       taken-identify p k a b =
           let n = ne-eqb (controlOf f) 4 h in
-          record { outcome = rw (b, a, no-clear s f n, e, n, ne-eqb (controlOf f) 5 k); bytes = rw e; size = refl }
+          record {
+            outcome = rw (b, a, no-clear s f n, e, n, ne-eqb (controlOf f) 5 k);
+            within = settled-in s p o (identified-in s f p fit a) b;
+            bytes = rw e;
+            size = refl;
+          }
 
 -- a frame that identifies goes on with its service bit
 pub identify-met : (s : State) (f x : ℕ) → x ≡ serviced s f → record { state = s; answer = Frame x } ≡ identify s f

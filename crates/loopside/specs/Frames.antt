@@ -19,7 +19,7 @@ use Rattle.talker.specs.declared.Return.the-variants.{Damaged, StatusBack, Fini
 use Rattle.talker.specs.Obeying.{obeyedTalker}
 use Rattle.talker.specs.Readied.{assignedTalker, finishingTalker}
 use Rattle.talker.specs.Returning.{returnOf}
-use Rattle.store.specs.Ring.{emptyRing}
+use Rattle.store.specs.Ring.{Within, emptyRing}
 use Rattle.state.specs.declared.State.{State}
 use Rattle.state.specs.declared.Outcome.{Outcome}
 use Rattle.answers.specs.declared.Answer.the-variants.{Frame}
@@ -118,6 +118,7 @@ dataPassed s f = passed (cond (s .talker .role .listener) (addedState s f) s) (s
 -- the state and the transmit store after a data frame that is no return
 pub record Passed (s : State) (tx : List ℕ) (f : ℕ) (tx′ : List ℕ) (o : Outcome) : Type 0 where
   pub outcome : o ≡ dataPassed s f
+  pub within : Within (o .state .tx)
   pub bytes : tx′ ≡ cond (s .talker .role .listener) (addedBytes s tx f) tx
   pub size : length tx′ ≡ length tx
 
@@ -149,8 +150,9 @@ addsBytes s f = (isData f && not (isActive (s .talker .role))) && s .talker .rol
 unfoldable pub frameBytes : State → List ℕ → ℕ → List ℕ
 frameBytes s tx f = cond (addsBytes s f) (addedBytes s tx f) tx
 
--- the outcome and the transmit store after a frame
+-- the outcome and the transmit store after a frame; no more is held than it has places, so that its room can be told
 pub record Framed (s : State) (rx tx : List ℕ) (f : ℕ) (tx′ : List ℕ) (o : Outcome) : Type 0 where
   pub outcome : o ≡ frameSettled s rx f
+  pub within : Within (o .state .tx)
   pub bytes : tx′ ≡ frameBytes s tx f
   pub size : length tx′ ≡ length tx

@@ -8,7 +8,7 @@ use lib.ListN.{length}
 use Rattle.frame.specs.Frame.{dataOf, isData, isEnd}
 use Rattle.registers.specs.declared.Registers.{Registers}
 use Rattle.registers.specs.Meanings.{endInserted}
-use Rattle.store.specs.Ring.{room, putsRing, putsBytes}
+use Rattle.store.specs.Ring.{Within, room, putsRing, putsBytes}
 use Rattle.state.specs.declared.State.{State}
 use Rattle.state.specs.State.{withTx}
 
@@ -30,5 +30,6 @@ addedBytes s tx f = putsBytes tx (s .tx) (adds (s .regs) f)
 -- the state and the transmit store after a data frame that a listener stores
 pub record Added (s : State) (tx : List ℕ) (f : ℕ) (tx′ : List ℕ) (t : State) : Type 0 where
   pub state : t ≡ addedState s f
+  pub within : Within (t .tx)
   pub bytes : tx′ ≡ addedBytes s tx f
   pub size : length tx′ ≡ length tx

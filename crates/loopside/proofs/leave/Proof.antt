@@ -17,6 +17,7 @@ returns c =
     (adds-three _ _ _ _ (p .before .before .is-end .ensures) (p .before .end-inserted .ensures) (p .if1 .taken)
     ∙ ap (λ (x : ℕ). x ∷ g .c02 ∷ g .c03 ∷ []) (sym (q .before .before .data-byte .ensures)))
     (puts-more (q .put .ensures) (puts-more (c .before .before .before .before .before .before .before .before .put2 .ensures) (puts-more (c .before .before .before .put3 .ensures) (puts-none _ _))))
+    (c .before .before .before .put3 .ensures .fit .within)
 
 returns-2 : tie.Need-returns-2
 returns-2 c =
@@ -24,7 +25,7 @@ returns-2 c =
     left-met _ _ _ _ _ _
     (adds-one _ _ _ _ (c .before .before .is-end .ensures) (c .before .end-inserted .ensures) (c .if1 .left)
     ∙ ap (λ (x : ℕ). x ∷ []) (sym (p .before .before .data-byte .ensures)))
-    (puts-more (p .put .ensures) (puts-none _ _))
+    (puts-more (p .put .ensures) (puts-none _ _)) (p .put .ensures .fit .within)
 
 pub leave-spec : {M : Type 1} → statement M
 leave-spec =

@@ -9,7 +9,7 @@ returns c =
 
 returns-2 : tie.Need-returns-2
 returns-2 c =
-    passed-by _ _ _ _ (c .before .serviced .ensures) (c .if1 .left)
+    passed-by _ _ _ _ (c .before .serviced .ensures) (c .if1 .left) (c .before .before .before .pre .ring .within)
 
 pub pass-data-spec : {M : Type 1} → statement M
 pass-data-spec =
