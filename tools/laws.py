@@ -3,10 +3,12 @@
 Usage: python3 tools/laws.py           fails where a law has fewer than two, where a page of laws is not true of the repository, and where a
                                        number of docs/CHECKS.md is not
        python3 tools/laws.py --lists   prints for each law the lists of wrong bridges or mailboxes of its page
-tools/products.py has the products. The laws of one are the list of the file Laws.antt in the specs of its crate of laws. A refutation is a
-theorem of a file in the proofs of its crate of wrong ones, in one of these forms, where WRONG is a wrong bridge or a wrong mailbox:
+tools/products.py has the products. The laws of one are the lists `laws` and `rooms` of the file Laws.antt in the specs of its crate of laws;
+the second, which looks at the room told, a product need not have. A refutation is a theorem of a file in the proofs of its crate of wrong
+ones, in one of these forms, where WRONG is a wrong bridge or a wrong mailbox:
     pub NAME : Breaks WRONG LAW
     pub NAME : BreaksAs MACHINE LAW
+    pub NAME : BreaksTelling WRONG LAW
     pub NAME : (e : KIND) → Breaks WRONG LAW
 A law over a KIND, an event of a bridge or a direction of a mailbox, is one of a family, such as Stays, and counts with its family: a
 refutation for all of the KIND counts once, and so does one for one of them. What a wrong one does is said by the remark above its definition.
@@ -25,7 +27,7 @@ from products import PRODUCTS
 CHECKS = "docs/CHECKS.md"
 LEAST = 2
 REMARK = re.compile(r"--[^\n]*")
-LIST = re.compile(r"^laws =(.*?)∷ \[\]", re.M | re.S)
+LIST = re.compile(r"^(?:laws|rooms) =(.*?)∷ \[\]", re.M | re.S)
 THEOREM = re.compile(r"^pub (\S+) :(?=[^\n]*\bBreaks)([^\n]*(?:\n[ \t]+[^\n]*)*)", re.M)
 TERM = r"([\w']+|\([^()]*\))"
 USE = re.compile(r"^use ([^\s{]+)\.\{([^}]*)\}", re.M)
@@ -52,14 +54,14 @@ def plain(term):
 
 
 def listed(product):
-    """The laws of the list, in its order."""
-    found = LIST.search(REMARK.sub("", listing.read(product.law_list())))
-    return [plain(law) for law in found.group(1).split("∷")] if found else []
+    """The laws of the lists, in their order."""
+    found = LIST.findall(REMARK.sub("", listing.read(product.law_list())))
+    return [plain(law) for laws in found for law in laws.split("∷")]
 
 
 def refutations(product):
     """The refutations in the order of files and lines, and the theorems that speak of Breaks in another form."""
-    form = re.compile(rf"(?:\((\w+) : {product.over}\) → )?Breaks(?:As)? {TERM} {TERM}")
+    form = re.compile(rf"(?:\((\w+) : {product.over}\) → )?Breaks(?:As|Telling)? {TERM} {TERM}")
     found, odd = [], []
     for path in sorted(glob.glob(f"{product.proofs()}/*.antt")):
         for theorem in THEOREM.finditer(REMARK.sub("", listing.read(path))):
@@ -67,7 +69,7 @@ def refutations(product):
             if right := form.fullmatch(said):
                 found.append(Refutation(plain(right.group(3)), plain(right.group(2)), name, path, right.group(1) or ""))
             else:
-                odd.append(f"{path}: {name} is of none of the three forms: {said}")
+                odd.append(f"{path}: {name} is of none of the four forms: {said}")
     return found, odd
 
 
@@ -113,7 +115,7 @@ class Laws:
         """Files of the crate in which Breaks or a law's name means something of their own."""
         product, faults = self.product, []
         home = {law: f"Rattle.{product.laws}.specs." for law in self.families}
-        home |= {name: f"Rattle.{product.wrong}.specs.{product.broken}" for name in ("Breaks", "BreaksAs")}
+        home |= {name: f"Rattle.{product.wrong}.specs.{product.broken}" for name in ("Breaks", "BreaksAs", "BreaksTelling")}
         for path in sorted(glob.glob(f"{product.proofs()}/*.antt") + glob.glob(f"{product.specs()}/*.antt")):
             text = REMARK.sub("", listing.read(path))
             for module, names in USE.findall(text):

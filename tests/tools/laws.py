@@ -93,6 +93,7 @@ def few(room, side):
     """Laws with too few wrong ones, and what only looks like a refutation."""
     laws, proofs, many = side.law_list(), side.proofs(), f"wrong {side.many}"
     room.finds(TOOL, f"Second is broken by 0 {many}", (laws, "First", "First ∷ Second"))
+    room.finds(TOOL, f"Third is broken by 0 {many}", (laws, "∷ []\n", "∷ []\nrooms = Third ∷ []\n"))
     room.finds(TOOL, f"First is broken by 1 {many}", (proofs, FIRST, "-- pub naysayer-falls"))
     room.finds(TOOL, f"First is broken by 1 {many}", (proofs, FIRST, "naysayer-falls"))
     room.finds(TOOL, f"First is broken by 1 {many}", (proofs, SECOND, SECOND.replace("(without 7)", "naysayer")))
@@ -109,11 +110,13 @@ def odd(room, side):
     proofs, third, kind = side.proofs(), side.third(), side.kind
     room.finds(TOOL, "one-of-them is of Stays overrun, which is not in the list", (proofs, third, third.replace(side.one, "overrun")))
     room.finds(TOOL, "naysayer-falls is of Other, which is not in the list", (proofs, "naysayer First", "naysayer Other"))
+    room.finds(TOOL, "naysayer-falls is of Other, which is not in the list", (proofs, "Breaks naysayer First", "BreaksTelling naysayer Other"))
     room.finds(TOOL, "every-one is of First e, which is not in the list", (proofs, "(Stays e)", "(First e)"))
     room.finds(TOOL, "naysayer-falls is of nobody, which no file", (proofs, "Breaks naysayer First", "Breaks nobody First"))
-    room.finds(TOOL, "naysayer-falls is of none of the three forms", (proofs, "Breaks naysayer First", "⊥ → Breaks naysayer First"))
-    room.finds(TOOL, "every-one is of none of the three forms", (proofs, f"(e : {kind})", "(e : Other)"))
+    room.finds(TOOL, "naysayer-falls is of none of the four forms", (proofs, "Breaks naysayer First", "⊥ → Breaks naysayer First"))
+    room.finds(TOOL, "every-one is of none of the four forms", (proofs, f"(e : {kind})", "(e : Other)"))
     room.finds(TOOL, f"{proofs}: it declares Breaks", (proofs, side.theorems() + "abbrev Breaks : Type 0\nBreaks = Unit\n"))
+    room.finds(TOOL, f"{proofs}: it declares BreaksTelling", (proofs, side.theorems() + "abbrev BreaksTelling : Type 0\nBreaksTelling = Unit\n"))
     room.finds(TOOL, f"{side.specs()}: it declares First", (side.specs(), WRONG + "abbrev pub First : Law\nFirst = other\n"))
     room.finds(TOOL, f"{proofs}: Other as Stays is taken from", (proofs, f"use Rattle.{side.laws}.specs.Laws.{{Other as Stays}}\n" + side.theorems()))
     room.finds(TOOL, f"{proofs}: {side.proofs('Lib')} does not bring it in", (side.proofs("Lib"), "pub mod Other\n"))

@@ -31,7 +31,7 @@ use Rattle.laws.proofs.Ways.{isObeyed, isAssigned, isSendAsked, isTold,
 record Framed (x : Said) : Type 0 where
   frame : isFrame x ≡ true
   answer : frameOrRefused x ≡ true
-  taken : isRefusal x ≡ false
+  pub taken : isRefusal x ≡ false
 
 framed : (k d : ℕ) → Framed (frame k d)
 framed k d = record { frame = refl; answer = refl; taken = refl }
@@ -82,11 +82,11 @@ out-taken (out.Held b) = refl
 out-taken out.Nothing = refl
 
 -- what a call answers when it is not refused is no refusal
-record Accepted (c : Call) (x : Said) : Type 0 where
-  answer : canAnswer c x ≡ true
-  taken : isRefusal x ≡ false
+pub record Accepted (c : Call) (x : Said) : Type 0 where
+  pub answer : canAnswer c x ≡ true
+  pub taken : isRefusal x ≡ false
 
-accepted : (c : Call) (w : World) → Accepted c (notRefused c w .said)
+pub accepted : (c : Call) (w : World) → Accepted c (notRefused c w .said)
 unfolding notRefused outcome said
 accepted (create m) w = record { answer = refl; taken = refl }
 accepted (show side) w = record { answer = refl; taken = refl }

@@ -28,7 +28,7 @@ use Rattle.line.proofs.Parts.{given-some}
 use Rattle.loopside.specs.LoopToLine.{adds, busy, addedBytes}
 use Rattle.loopside.specs.Frames.{frameTaken, deviceClear, addsBytes, frameBytes}
 use Rattle.bridge.specs.Calls.{reset, write, lineByte, lineBreak, key, nextLineByte, loopFrame, Call, create, show, on}
-use Rattle.bridge.specs.Calls.{World, world, Did, outcome, settledBy, rxAfter, txAfter, notRefused, checks, step}
+use Rattle.bridge.specs.Calls.{World, world, Did, outcome, settledBy, rxAfter, txAfter, notRefused, checks, step, refusal}
 use Rattle.answers.specs.Answers.{refused, said}
 use Rattle.laws.specs.Fitting.{Fits}
 use Rattle.laws.specs.Places.{nextPlace}
@@ -139,7 +139,7 @@ none w {c} {l} {v} p = by-cond (λ (x : List ℕ). BothPlaced c x l w v) (full (
 same : (w : World) → BothPlaced false (cond (full (w .state .rx)) [] []) [] w w
 same w = none w (quiet w (w .state) refl refl)
 
-refused-places : (c : Call) (w : World) (n : ℕ) → PlacesOf c w (record { said = refused n; world = w })
+refused-places : (c : Call) (w : World) (n : ℕ) → PlacesOf c w (refusal n w)
 unfolding see.restarts see.clears accepted see.arrived added
 refused-places (create m) w n = same w
 refused-places (show side) w n = same w

@@ -14,4 +14,5 @@ pub mod FramePlaces
 pub mod CallPlaces
 pub mod Starting
 pub mod Showing
+pub mod Rooms
 pub mod Examples

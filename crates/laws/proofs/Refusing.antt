@@ -10,12 +10,12 @@ use Rattle.branches.proofs.Branches.{by-cond}
 use Rattle.registers.specs.Writing.{writeChecks}
 use Rattle.answers.specs.Answers.{refused}
 use Rattle.loopside.specs.LoopToLine.{busy}
-use Rattle.bridge.specs.Calls.{OnState, write, loopFrame, Call, on, World, Did, checksOn, checks, notRefused, refusedOr, step}
+use Rattle.bridge.specs.Calls.{OnState, write, loopFrame, Call, on, World, Did, checksOn, checks, notRefused, refusedOr, step, refusal}
 use Rattle.laws.specs.Observers.{taken}
 use Rattle.laws.specs.Fitting.{Fits}
 
 pub by-refusal : (P : Did → Type 0) (c : Call) (w : World) → (firstRefusal (checks c w) ≡ 0 → P (notRefused c w)) →
-    ((firstRefusal (checks c w) ≡ 0 → ⊥) → P (record { said = refused (firstRefusal (checks c w)); world = w })) → P (step c w)
+    ((firstRefusal (checks c w) ≡ 0 → ⊥) → P (refusal (firstRefusal (checks c w)) w)) → P (step c w)
 unfolding step refusedOr
 by-refusal P c w p q =
     by-cond P (eqb (firstRefusal (checks c w)) 0) _ _ (λ e. p (eqb-true _ 0 e)) (λ e. q (eqb-false _ 0 e))

@@ -2,8 +2,9 @@
 use Prim.Native.Nat.{_<_}
 use Rattle.machine.specs.Course.{Seen}
 use Rattle.machine.specs.Machine as machine
+use Rattle.machine.specs.Machine.{narrowed}
 use Rattle.store.specs.Bytes.{Bytes}
-use Rattle.answers.specs.Answers.{Said}
+use Rattle.answers.specs.Answers.{Said, Answered}
 use Rattle.bridge.specs.Calls.{OnState, reset, write, lineByte, lineBreak, key, nextLineByte, loopFrame, Call, create, show, on, World, Did}
 
 -- what takes the nine calls and shows worlds and answers, and a law of it
@@ -12,6 +13,13 @@ Machine = machine.Machine World Call Said
 
 abbrev pub Law : Type 1
 Law = machine.Law World Call Said
+
+-- the same where the room that is told beside an answer is seen too
+abbrev pub TellingMachine : Type 1
+TellingMachine = machine.Machine World Call Answered
+
+abbrev pub TellingLaw : Type 1
+TellingLaw = machine.Law World Call Answered
 
 -- all that is seen of one of its calls
 abbrev pub Saw : Type 0
@@ -33,13 +41,17 @@ ByteCall (show side) = Unit {0}
 ByteCall (on c) = ByteOn c
 
 -- a bridge is what every call does in every world; the types of the code give bytes in the receive store and from the line
-abbrev pub bridge : (Call → World → Did) → Machine
-bridge B =
+abbrev pub telling : (Call → World → Did) → TellingMachine
+telling B =
     record {
       Own = World;
       stands = λ w. w;
-      answer = λ c w. B c w .said;
+      answer = λ c w. record { said = B c w .said; room = B c w .room };
       after = λ c w. B c w .world;
       Fine = λ w. Bytes (w .rx);
       Fair = ByteCall;
     }
+
+-- the answers without the room
+abbrev pub bridge : (Call → World → Did) → Machine
+bridge B = narrowed (λ a. a .said) (telling B)

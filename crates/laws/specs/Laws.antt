@@ -1,6 +1,6 @@
 -- Every law of a bridge in one list: a bridge that is right obeys them all, and so does what opens to it.
 use mathlib.Core.List.{List, [], _∷_}
-use Rattle.laws.specs.Bridges.{Law}
+use Rattle.laws.specs.Bridges.{Law, TellingLaw}
 use Rattle.laws.specs.Answering.{AnswersSo, RefusedExactly}
 use Rattle.laws.specs.CallPlaces.{Places}
 use Rattle.laws.specs.Fitting.{KeepsFit, CreateMakesFit, KeepsStores}
@@ -23,6 +23,7 @@ use Rattle.laws.specs.Requests.{RequestsGo}
 use Rattle.laws.specs.Holding.{HoldingGoes}
 use Rattle.laws.specs.NextByte.{ForbiddenGoes, NextGiven}
 use Rattle.laws.specs.Resuming.{EmptySendResumes}
+use Rattle.laws.specs.Rooms.{RoomTold, RoomHolds, RoomTakes}
 
 abbrev pub laws : List Law
 laws =
@@ -38,3 +39,7 @@ laws =
     ∷ LineKept ∷ LineSince ∷ LastKept ∷ LastSince ∷ OwnGiven ∷ NextGiven ∷ ForbiddenGoes ∷ HoldingGoes
     ∷ CountsGo ∷ CountsSince ∷ ServiceBit ∷ RequestsGo ∷ RemoteGoes
     ∷ []
+
+-- those that look at the room told beside an answer; all others are of the answers alone
+abbrev pub rooms : List TellingLaw
+rooms = RoomTold ∷ RoomHolds ∷ RoomTakes ∷ []

@@ -31,4 +31,5 @@ pub mod Counting
 pub mod Holding
 pub mod NextByte
 pub mod Resuming
+pub mod Rooms
 pub mod Laws

@@ -1,5 +1,5 @@
--- What a reader may hold us to, first: two results that a call's promise allows are equal, the reply, the state and every byte of both
--- stores, refusals included. It is said of `Promised`, which the contracts of all nine calls cite.
+-- What a reader may hold us to, first: two results that a call's promise allows are equal, the reply with the room that it tells, the state and every
+-- byte of both stores, refusals included. It is said of `Promised`, which the contracts of all nine calls cite.
 use Prim.Native.Nat.{ℕ}
 use mathlib.Core.Path.{_≡_}
 use mathlib.Core.Bool.{true, false}
@@ -7,7 +7,8 @@ use mathlib.Core.List.{List}
 use Rattle.state.specs.declared.State.{State}
 use Rattle.state.specs.declared.Outcome.{Outcome}
 use Rattle.answers.specs.Answers.{isRefusal}
-use Rattle.bridge.specs.Calls.{Call, create, show, World, Did, world, did, handed, step, Promised, unmade}
+use Rattle.bridge.specs.declared.Told.{Told}
+use Rattle.bridge.specs.Calls.{Call, create, show, World, Did, world, did, told, handed, step, Promised, unmade}
 
 -- two results are the same
 pub record Same (o₁ o₂ : Outcome) (rx₁ rx₂ tx₁ tx₂ : List ℕ) : Type 0 where
@@ -16,10 +17,18 @@ pub record Same (o₁ o₂ : Outcome) (rx₁ rx₂ tx₁ tx₂ : List ℕ) : Typ
   pub rx : rx₁ ≡ rx₂
   pub tx : tx₁ ≡ tx₂
 
+-- of a call that tells a room: it too
+pub record SameTold (t₁ t₂ : Told) (rx₁ rx₂ tx₁ tx₂ : List ℕ) : Type 0 where
+  pub outcome : Same (t₁ .outcome) (t₂ .outcome) rx₁ rx₂ tx₁ tx₂
+  pub room : t₁ .room ≡ t₂ .room
+
 pub record OneResult : Type 0 where
-  -- of create and of every call on a state
+  -- of create and of the calls on a state that tell no room
   pub calls : (c : Call) (w : World) (o₁ o₂ : Outcome) (rx₁ rx₂ tx₁ tx₂ : List ℕ) →
       Promised c w (did o₁ rx₁ tx₁) → Promised c w (did o₂ rx₂ tx₂) → Same o₁ o₂ rx₁ rx₂ tx₁ tx₂
+  -- of a line byte and a loop frame, which tell one
+  pub tells : (c : Call) (w : World) (t₁ t₂ : Told) (rx₁ rx₂ tx₁ tx₂ : List ℕ) →
+      Promised c w (told t₁ rx₁ tx₁) → Promised c w (told t₂ rx₂ tx₂) → SameTold t₁ t₂ rx₁ rx₂ tx₁ tx₂
   -- showing returns a part and changes nothing
   pub shown : (side : ℕ) (w : World) (x₁ x₂ : List ℕ) → Promised (show side) w (handed x₁ w) → Promised (show side) w (handed x₂ w) → x₁ ≡ x₂
 
@@ -27,6 +36,7 @@ pub record OneResult : Type 0 where
 -- same, and leaves the same state where it is done and s where it refuses
 pub record CreatedAnywhere (m : ℕ) (rx tx : List ℕ) (s : State) (d : Did) : Type 0 where
   pub answer : step (create m) (world s rx tx) .said ≡ d .said
+  pub room : step (create m) (world s rx tx) .room ≡ d .room
   pub made : isRefusal (d .said) ≡ false → step (create m) (world s rx tx) .world ≡ d .world
   pub kept : isRefusal (d .said) ≡ true → step (create m) (world s rx tx) .world ≡ world s rx tx
 

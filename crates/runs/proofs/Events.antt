@@ -13,7 +13,7 @@ use Rattle.answers.specs.Answers.{Said, said, refused}
 use Rattle.state.specs.Conditions.{settled, breakState, keyState}
 use Rattle.line.specs.HoldingOff.{isGoOrStop, flowed, lostState, storedState, lineState}
 use Rattle.bridge.specs.Calls.{Call, on, create, reset, write, lineByte, lineBreak, key, nextLineByte}
-use Rattle.bridge.specs.Calls.{loopFrame, show, World, Did, outcome, settledBy, refusedOr, step}
+use Rattle.bridge.specs.Calls.{loopFrame, show, World, Did, outcome, settledBy, refusedOr, step, refusal}
 use Rattle.bridge.specs.Calls as calls
 use Rattle.laws.specs.Observers.{isFlow, arrived, lost, empties, any}
 use Rattle.laws.specs.StatusWay.{endsWay, newest, underWay, statusBack}
@@ -74,7 +74,7 @@ unless-refused : (e : Event) (c : Call) (w : World) (n : ℕ) (d : Did) → (hap
     happens e c w (refusedOr n d w .said) ≡ true → Noted e (part (refusedOr n d w .world .state))
 unfolding refusedOr
 unless-refused e c w n d r k =
-    by-cond (λ (x : Did). happens e c w (x .said) ≡ true → Noted e (part (x .world .state))) (eqb n 0) d (record { said = refused n; world = w })
+    by-cond (λ (x : Did). happens e c w (x .said) ≡ true → Noted e (part (x .world .state))) (eqb n 0) d (refusal n w)
     (λ _. k)
     (λ _ h. absurd (r h))
 

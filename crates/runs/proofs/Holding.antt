@@ -27,7 +27,7 @@ use Rattle.talker.specs.UnderWay.{talking}
 use Rattle.loopside.specs.Sends.{ruleOf, removedState, sendState, sendFrom, sendStatus, ended}
 use Rattle.loopside.specs.Frames.{cleared, frameTaken, deviceClear}
 use Rattle.bridge.specs.Calls.{Call, on, create, reset, write, lineByte, lineBreak, key, nextLineByte, loopFrame}
-use Rattle.bridge.specs.Calls.{show, World, Did, outcome, settledBy, rxAfter, txAfter, refusedOr, step}
+use Rattle.bridge.specs.Calls.{show, World, Did, outcome, settledBy, rxAfter, txAfter, roomOf, refusedOr, step, refusal}
 use Rattle.bridge.specs.Calls as calls
 use Rattle.laws.specs.Observers.{taken, isSend, arrived, accepted, restarts, clears, empties, any, isFlow}
 use Rattle.laws.specs.Holding.{sends, writesR11, holdingAfter, HoldingGoes}
@@ -77,12 +77,12 @@ refused-unseen (on (loopFrame f)) w n = record { empties = refl; arrived = refl;
 refused-unseen (show side) w n = record { empties = refl; arrived = refl; sends = refl; writes = refl; byte = refl }
 
 goes-or : (c : Call) (w : World) (n : ℕ) (d : Did) → (n ≡ 0 → Goes c w d) → Goes c w (refusedOr n d w)
-goes-or c w n d = or-refused (Goes c w) n d w (same c w (record { said = refused n; world = w }) (refused-unseen c w n) refl refl)
+goes-or c w n d = or-refused (Goes c w) n d w (same c w (refusal n w) (refused-unseen c w n) refl refl)
 
 -- a byte to the line
 given-goes : (w : World) (o : Out) →
     Goes (on nextLineByte) w
-    (record { said = said (outAnswer o); world = record { state = settled (w .state) (afterGiving (w .state) o); rx = w .rx; tx = w .tx } })
+    (record { said = said (outAnswer o); room = 0; world = record { state = settled (w .state) (afterGiving (w .state) o); rx = w .rx; tx = w .tx } })
 unfolding afterGiving outAnswer said settled arrived restarts clears sends afterByte
 given-goes w (out.Own b) = same (on nextLineByte) w _ (record { empties = refl; arrived = refl; sends = refl; writes = refl; byte = refl }) refl refl
 given-goes w (out.Held b) = same (on nextLineByte) w _ (record { empties = refl; arrived = refl; sends = refl; writes = refl; byte = refl }) refl refl
@@ -92,7 +92,11 @@ given-goes w out.Nothing = same (on nextLineByte) w _ (record { empties = refl; 
 
 line-goes : (w : World) (b : ℕ) →
     Goes (on (lineByte b)) w
-    (record { said = done; world = record { state = settled (w .state) (lineState (w .state) b); rx = lineBytes (w .state) (w .rx) b; tx = w .tx } })
+    (record {
+      said = done;
+      room = roomOf (lineByte b) (settled (w .state) (lineState (w .state) b));
+      world = record { state = settled (w .state) (lineState (w .state) b); rx = lineBytes (w .state) (w .rx) b; tx = w .tx };
+    })
 unfolding holdingAfter forbiddenAfter afterByte accepted arrived restarts clears isFlow isGoOrStop sends lineState flowed lostState storedWith settled
 line-goes w b =
     record {
@@ -126,6 +130,7 @@ write-goes : (w : World) (n v : ℕ) →
     Goes (on (write n v)) w
     (record {
       said = done;
+      room = 0;
       world =
           record { state = settled (w .state) (afterWrite (w .state) n (written (w .state .regs) n v)); rx = w .rx; tx = w .tx };
     })
@@ -195,7 +200,7 @@ frame-goes w f F =
 -- ---- every call
 
 goes : (c : Call) (w : World) → Goes c w (step c w)
-unfolding step calls.notRefused outcome settledBy settled rxAfter txAfter said arrived restarts clears sends afterByte breakState keyState startState holdingAfter forbiddenAfter
+unfolding step calls.notRefused outcome settledBy settled rxAfter txAfter roomOf said arrived restarts clears sends afterByte breakState keyState startState holdingAfter forbiddenAfter
 goes (create m) w = goes-or (create m) w _ _ (λ _. record { holding = refl; forbidden = refl })
 goes (on reset) w = goes-or (on reset) w _ _ (λ _. record { holding = refl; forbidden = refl })
 goes (on (write n v)) w = goes-or (on (write n v)) w _ _ (λ _. write-goes w n v)

@@ -20,7 +20,7 @@ use Rattle.state.specs.declared.Line.{Line}
 use Rattle.state.specs.declared.Outcome.{Outcome}
 use Rattle.state.specs.declared.Out.{Out}
 use Rattle.state.specs.declared.Out.the-variants.{Own, Held, Nothing}
-use Rattle.answers.specs.Answers.{said, refused}
+use Rattle.answers.specs.Answers.{said}
 use Rattle.state.specs.Sizes.{startState}
 use Rattle.state.specs.Conditions.{settled, breakState, keyState}
 use Rattle.state.specs.Conditions as status
@@ -31,7 +31,7 @@ use Rattle.talker.specs.UnderWay.{talking}
 use Rattle.loopside.specs.Sends.{ruleOf, removedState, sendState, sendFrom, sendStatus, ended}
 use Rattle.loopside.specs.Frames.{obeyed, cleared, deviceClear}
 use Rattle.bridge.specs.Calls.{Call, on, create, reset, write, lineByte, lineBreak, key, nextLineByte}
-use Rattle.bridge.specs.Calls.{loopFrame, show, World, Did, outcome, settledBy, refusedOr, step}
+use Rattle.bridge.specs.Calls.{loopFrame, show, World, Did, outcome, settledBy, refusedOr, step, refusal}
 use Rattle.bridge.specs.Calls as calls
 use Rattle.laws.specs.Observers.{restarts, startsAnew}
 use Rattle.laws.specs.LastSent.{afterOwn, lastOf, recorded, LastKept, LastSince}
@@ -124,7 +124,7 @@ module _ (c : Call) (w : World) where
   abbrev LastRight : Did → Type 0
   LastRight d = recorded (d .world) ≡ cond (startsAnew c w (d .said)) false (lastOf (recorded w) c w (d .said))
 
-  refused-or : (n : ℕ) (d : Did) → LastRight (record { said = refused n; world = w }) → (n ≡ 0 → LastRight d) → LastRight (refusedOr n d w)
+  refused-or : (n : ℕ) (d : Did) → LastRight (refusal n w) → (n ≡ 0 → LastRight d) → LastRight (refusedOr n d w)
   refused-or n d = or-refused LastRight n d w
 
 last-right : (c : Call) (w : World) → LastRight c w (step c w)

@@ -1,15 +1,18 @@
 -- Our bridge obeys every law of this crate. Assumes nothing.
 use Rattle.machine.specs.Machine.{_also_}
 use Rattle.laws.specs.Events.{broken, overrun, pressed}
-use Rattle.runs.specs.Obeyed.{OursObeysAll}
+use Rattle.runs.specs.Obeyed.{OursObeysAll, OursObeysRooms}
 use Rattle.laws.proofs.Answers.{answers-so, refused-exactly}
 use Rattle.laws.proofs.CallPlaces.{places}
 use Rattle.laws.proofs.Fitting.{keeps-fit, create-makes-fit, keeps-stores}
+use Rattle.laws.proofs.Rooms.{room-told}
 use Rattle.laws.proofs.Showing.{shows-so}
 use Rattle.laws.proofs.Starting.{starts-so, margin-recorded, reset-gives-start}
 use Rattle.runs.proofs.FramesRead.{frames-read}
 use Rattle.runs.proofs.Events.{events-stay}
 use Rattle.runs.proofs.Margin.{none-lost}
+use Rattle.runs.proofs.Rooms.{room-holds}
+use Rattle.runs.proofs.RoomTakes.{room-takes}
 use Rattle.runs.proofs.LineBytes.{line-kept, line-since}
 use Rattle.runs.proofs.LastSent.{last-kept, last-since}
 use Rattle.runs.proofs.Counts.{counts-go, counts-since}
@@ -44,3 +47,6 @@ all-obeyed =
     also not-at-start broken also not-at-start overrun also not-at-start pressed
     also line-kept also line-since also last-kept also last-since also own-given also next-given also forbidden-goes also holding-goes
     also counts-go also counts-since also service-bit also requests-go also remote-goes also tt
+
+pub rooms-obeyed : OursObeysRooms
+rooms-obeyed = room-told also room-holds also room-takes also tt

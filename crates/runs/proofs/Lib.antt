@@ -21,6 +21,8 @@ pub mod Conditions
 pub mod Bits
 pub mod Events
 pub mod Margin
+pub mod Rooms
+pub mod RoomTakes
 pub mod LineBytes
 pub mod LastSent
 pub mod Counts

@@ -7,14 +7,14 @@ use borrow.Author.Tests.{eqb-true}
 use Rattle.branches.proofs.Branches.{by-cond}
 use Rattle.answers.specs.Refusals.{firstRefusal}
 use Rattle.answers.specs.Answers.{refused}
-use Rattle.bridge.specs.Calls.{on, nextLineByte, loopFrame, World, Did, checks, refusedOr}
+use Rattle.bridge.specs.Calls.{on, nextLineByte, loopFrame, World, Did, checks, refusedOr, refusal}
 use Rattle.laws.specs.Observers.{taken}
 use Rattle.laws.proofs.Refusing.{fitting}
 use Rattle.runs.proofs.Shapes.{Fits}
 
-pub or-refused : (P : Did → Type 0) (n : ℕ) (d : Did) (w : World) → P (record { said = refused n; world = w }) → (n ≡ 0 → P d) → P (refusedOr n d w)
+pub or-refused : (P : Did → Type 0) (n : ℕ) (d : Did) (w : World) → P (refusal n w) → (n ≡ 0 → P d) → P (refusedOr n d w)
 unfolding refusedOr
-or-refused P n d w r k = by-cond P (eqb n 0) d (record { said = refused n; world = w }) (λ e. k (eqb-true n 0 e)) (λ _. r)
+or-refused P n d w r k = by-cond P (eqb n 0) d (refusal n w) (λ e. k (eqb-true n 0 e)) (λ _. r)
 
 pub if-taken : (P : Did → Type 0) (n : ℕ) (d : Did) (w : World) → (n ≡ 0 → P d) → taken (refusedOr n d w .said) ≡ true → P (refusedOr n d w)
 if-taken P n d w k = or-refused (λ (x : Did). taken (x .said) ≡ true → P x) n d w (λ e. absurd (false≢true e)) (λ e _. k e)

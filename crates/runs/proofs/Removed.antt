@@ -16,7 +16,7 @@ use Rattle.state.specs.declared.State.{State}
 use Rattle.state.specs.declared.Outcome.{Outcome}
 use Rattle.state.specs.declared.Out.{Out}
 use Rattle.state.specs.declared.Out.the-variants as out
-use Rattle.answers.specs.Answers.{said, refused}
+use Rattle.answers.specs.Answers.{said}
 use Rattle.state.specs.Conditions.{settled, breakState, keyState, afterStatus, afterStatusBack}
 use Rattle.line.specs.HoldingOff.{isGoOrStop, flowed, lostState, storedState, storedWith, lineState, lineBytes, setAfresh, afterWrite, nextOut, afterGiving}
 use Rattle.loopside.specs.LoopToLine.{addedState}
@@ -24,7 +24,7 @@ use Rattle.talker.specs.UnderWay.{talking}
 use Rattle.loopside.specs.Sends.{ended, sendStatus}
 use Rattle.loopside.specs.Frames.{deviceClear}
 use Rattle.bridge.specs.Calls.{OnState, reset, write, lineByte, lineBreak, key, nextLineByte, loopFrame, Call, create}
-use Rattle.bridge.specs.Calls.{show, on, World, Did, checks, outcome, settledBy, rxAfter, notRefused}
+use Rattle.bridge.specs.Calls.{show, on, World, Did, checks, outcome, settledBy, rxAfter, notRefused, refusal}
 use Rattle.laws.specs.Observers.{onFrame, isSend, isFlow, arrived, accepted, restarts, clears, empties}
 use Rattle.laws.specs.Worlds.{heldToSend}
 use Rattle.laws.specs.SendRule.{NoneRemoved}
@@ -100,7 +100,7 @@ module _ (w : World) where
       let c : deviceClear (w .state) f ≡ false = (λ i. not (sym (frame-not-refused (w .state) (w .rx) f) i) && deviceClear (w .state) f) ∙ q in
       same-ring _ (settled-rx (w .state) (deviceClear (w .state) f) _ (frame-rx (w .state) (w .rx) f _ (kind-of f w (fitting (loopFrame f) w e .0)) n c))
 
-  refused-stays : (c : Call) (n : ℕ) → Stays c w (record { said = refused n; world = w })
+  refused-stays : (c : Call) (n : ℕ) → Stays c w (refusal n w)
   unfolding accepted arrived
   refused-stays (create m) n q k = none-accepted (heldToSend w) F
   refused-stays (show side) n q k = none-accepted (heldToSend w) F

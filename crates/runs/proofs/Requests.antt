@@ -69,7 +69,7 @@ quiet : (c : Call) (w : World) (a : Said) (t : State) → t .notes .request ≡ 
 unfolding settled asking conditions
 quiet c w a t e = λ i. e i || status.begins (both (enabledBy (w .state .regs)) (conditions (w .state))) (both (enabledBy (t .regs)) (conditions t))
 
-still-goes : (c : Call) (w : World) (a : Said) → statusSent c w a ≡ [] → Goes c w (record { said = a; world = w })
+still-goes : (c : Call) (w : World) (a : Said) → statusSent c w a ≡ [] → Goes c w (record { said = a; room = 0; world = w })
 still-goes c w a e =
     sym (and-true (w .state .notes .request)) ∙ sym (or-false (w .state .notes .request && true))
     ∙ (λ i. (w .state .notes .request && not (any (sym e i))) || sym (no-begins (asking (w .state))) i)

@@ -19,7 +19,7 @@ use Rattle.answers.specs.Answers.{Said, said, frame, refused}
 use Rattle.line.specs.HoldingOff.{nextOut}
 use Rattle.loopside.specs.Frames.{frameTaken, deviceClear}
 use Rattle.bridge.specs.Calls.{reset, write, lineByte, lineBreak, key, nextLineByte, loopFrame, Call, create}
-use Rattle.bridge.specs.Calls.{show, on, World, Did, checks, outcome, settledBy, notRefused, step}
+use Rattle.bridge.specs.Calls.{show, on, World, Did, checks, outcome, settledBy, notRefused, step, refusal}
 use Rattle.laws.specs.Observers.{taken, isAsked, equalReturn, isSend, dataFrame, asksStatus, passesOn, sent, statusSent, restarts}
 use Rattle.laws.specs.Worlds.{heldToSend}
 use Rattle.laws.specs.StatusWay.{endsWay}
@@ -144,7 +144,7 @@ module _ (k : Bool) (g : ℕ) (e : Bool) where
       (sym (frame-not-refused (w .state) (w .rx) f))
       (frame-on w f u (m .0) (m .1) (frameTaken (w .state) (w .rx) f) (way (w .state) (w .rx) f)))
 
-  refused-on : (c : Call) (w : World) (n : ℕ) → On c w (record { said = refused n; world = w })
+  refused-on : (c : Call) (w : World) (n : ℕ) → On c w (refusal n w)
   unfolding finishes
   refused-on (create m) w n u q = same (w .state) (w .state) false (record { talker = refl; remote = refl }) refl u
   refused-on (show side) w n u q = same (w .state) (w .state) false (record { talker = refl; remote = refl }) refl u

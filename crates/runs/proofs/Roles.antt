@@ -21,7 +21,7 @@ use Rattle.talker.specs.declared.Talker.{Talker}
 use Rattle.talker.specs.Obeying.{obeyedTalker}
 use Rattle.state.specs.declared.State.{State}
 use Rattle.state.specs.declared.Outcome.{Outcome}
-use Rattle.answers.specs.Answers.{Said, said, refused}
+use Rattle.answers.specs.Answers.{Said, said}
 use Rattle.state.specs.Conditions.{settled, afterStatus, afterStatusBack}
 use Rattle.line.specs.HoldingOff.{resumed, nextOut}
 use Rattle.loopside.specs.LoopToLine.{addedState}
@@ -29,7 +29,7 @@ use Rattle.talker.specs.UnderWay.{talking}
 use Rattle.loopside.specs.Sends.{ruleOf, ended, removedState, sendState, sendFrom, sendStatus}
 use Rattle.loopside.specs.Frames.{orderIn, obeyed, cleared, deviceClear, frameTaken}
 use Rattle.bridge.specs.Calls.{reset, write, lineByte, lineBreak, key, nextLineByte, loopFrame, Call, create}
-use Rattle.bridge.specs.Calls.{show, on, World, Did, checks, outcome, settledBy, notRefused, step}
+use Rattle.bridge.specs.Calls.{show, on, World, Did, checks, outcome, settledBy, notRefused, step, refusal}
 use Rattle.laws.specs.Observers.{any, taken, dataFrame, onFrame, restarts}
 use Rattle.laws.specs.Fitting.{Fits}
 use Rattle.laws.specs.Worlds.{heldToSend}
@@ -195,7 +195,7 @@ done-goes (on (loopFrame f)) w B e q =
           ∙ (λ i. cond (not (sym (frame-not-refused (w .state) (w .rx) f) i)) (remoteByFrame f (w .state .talker .role) (w .state .remote)) (w .state .remote)),
     )
 
-refused-goes : (c : Call) (w : World) (n : ℕ) → Goes c w (record { said = refused n; world = w })
+refused-goes : (c : Call) (w : World) (n : ℕ) → Goes c w (refusal n w)
 refused-goes c w n e = (sym (same-kind (w .state .talker .role) c .0), sym (same-kind (w .state .remote) c .0))
 
 goes : (c : Call) (w : World) → Bytes (w .rx) → Goes c w (step c w)

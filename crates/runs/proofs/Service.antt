@@ -19,7 +19,7 @@ use Rattle.state.specs.Conditions.{shows, serviced, statusOf}
 use Rattle.loopside.specs.Sends.{ruleOf, removedState, sendState, sendFrom, sendStatus, ended}
 use Rattle.loopside.specs.Frames.{frameTaken}
 use Rattle.answers.specs.Refusals.{firstRefusal}
-use Rattle.bridge.specs.Calls.{on, loopFrame, World, Did, checks, outcome, refusedOr, step}
+use Rattle.bridge.specs.Calls.{on, loopFrame, World, Did, checks, outcome, refusedOr, step, refusal}
 use Rattle.bridge.specs.Calls as calls
 use Rattle.store.specs.Bytes.{Bytes}
 use Rattle.laws.specs.Observers.{passesOn}
@@ -147,7 +147,7 @@ unfolding step refusedOr calls.notRefused outcome
 service-bit c w b f k d =
     at-call (λ c. answer c w ≡ frame k d → ServiceRight w f k d) (on (loopFrame f))
     (let n = firstRefusal (checks (on (loopFrame f)) w) in
-    by-cond (λ (x : Did). Right w f (x .said)) (eqb n 0) (calls.notRefused (on (loopFrame f)) w) (record { said = refused n; world = w })
+    by-cond (λ (x : Did). Right w f (x .said)) (eqb n 0) (calls.notRefused (on (loopFrame f)) w) (refusal n w)
     (λ _. way-right w f (held-all w b) (frameTaken (w .state) (w .rx) f) (way (w .state) (w .rx) f))
     (λ _. refused-right w f n)
     k d)

@@ -16,7 +16,7 @@ use Rattle.state.specs.declared.State.{State}
 use Rattle.state.specs.declared.Outcome.{Outcome}
 use Rattle.state.specs.declared.Out.{Out}
 use Rattle.state.specs.declared.Out.the-variants as out
-use Rattle.answers.specs.Answers.{said, refused}
+use Rattle.answers.specs.Answers.{said}
 use Rattle.state.specs.Conditions.{settled, breakState, keyState, afterStatus, afterStatusBack}
 use Rattle.line.specs.HoldingOff.{isGoOrStop, flowed, lostState, storedWith, lineState, resumed, setAfresh, afterWrite, nextOut, afterGiving}
 use Rattle.loopside.specs.LoopToLine.{addedState}
@@ -24,7 +24,7 @@ use Rattle.talker.specs.UnderWay.{talking}
 use Rattle.loopside.specs.Sends.{ruleOf, ended, removedState, sendState, sendFrom, sendStatus}
 use Rattle.loopside.specs.Frames.{obeyed, cleared, deviceClear, frameTaken}
 use Rattle.bridge.specs.Calls.{reset, write, lineByte, lineBreak, key, nextLineByte, loopFrame, Call}
-use Rattle.bridge.specs.Calls.{create, show, on, World, Did, outcome, settledBy, notRefused}
+use Rattle.bridge.specs.Calls.{create, show, on, World, Did, outcome, settledBy, notRefused, refusal}
 use Rattle.laws.specs.Observers.{taken, onWrite, restarts}
 use Rattle.laws.specs.Starting.{registerValues, recorded, SizesStay}
 use Rattle.laws.specs.Registers.{numbers, writtenTo, RegistersGo}
@@ -113,7 +113,7 @@ done-goes (on (loopFrame f)) w e =
     (settled-same (w .state) (deviceClear (w .state) f) _
     (frame-same (w .state) (w .rx) f (frameTaken (w .state) (w .rx) f) (way (w .state) (w .rx) f)) .regs)
 
-refused-goes : (c : Call) (w : World) (n : ℕ) → Goes c w (record { said = refused n; world = w })
+refused-goes : (c : Call) (w : World) (n : ℕ) → Goes c w (refusal n w)
 refused-goes c w n e = sym (same-kind (registerValues (w .state .regs)) c .1)
 
 pub registers-go : Obeys ours RegistersGo

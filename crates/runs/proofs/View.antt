@@ -8,7 +8,7 @@ use Rattle.answers.specs.Answers.{said, done, refused}
 use Rattle.state.specs.Conditions.{settled, breakState, keyState}
 use Rattle.line.specs.HoldingOff.{owed}
 use Rattle.bridge.specs.Calls.{Call, on, create, reset, write, lineByte, lineBreak, key, nextLineByte, loopFrame}
-use Rattle.bridge.specs.Calls.{show, World, Did, checks, outcome, settledBy, rxAfter, txAfter, refusedOr, step}
+use Rattle.bridge.specs.Calls.{show, World, Did, checks, outcome, settledBy, rxAfter, txAfter, refusedOr, step, refusal}
 use Rattle.bridge.specs.Calls as calls
 use Rattle.laws.specs.Observers.{passesOn, asksStatus, arrived, sent, added, handedOut, restarts, writes, clears}
 use Rattle.runs.proofs.Shapes.{core, frames, hands, Shape, isStill, isBegun}
@@ -21,7 +21,7 @@ use Rattle.runs.proofs.FrameView.{frame-shape}
 -- ---- refusals
 
 module _ (w : World) where
-  refused-still : (c : Call) (n : ℕ) → Shaped w c (record { said = refused n; world = w })
+  refused-still : (c : Call) (n : ℕ) → Shaped w c (refusal n w)
   unfolding arrived sent added handedOut restarts writes clears
   refused-still (create m) n = none-arrives (create m) w (refused n) _ _ _ refl isStill
   refused-still (on reset) n = none-arrives (on reset) w (refused n) _ _ _ refl isStill

@@ -1,8 +1,8 @@
 -- Our bridge, and that it obeys every law.
 use Rattle.machine.specs.Machine.{ObeysAll}
 use Rattle.bridge.specs.Calls.{step}
-use Rattle.laws.specs.Bridges.{Machine, bridge}
-use Rattle.laws.specs.Laws.{laws}
+use Rattle.laws.specs.Bridges.{Machine, TellingMachine, telling, bridge}
+use Rattle.laws.specs.Laws.{laws, rooms}
 
 -- the bridge whose calls do what their contracts promise
 abbrev pub ours : Machine
@@ -10,3 +10,10 @@ ours = bridge step
 
 abbrev pub OursObeysAll : Type 0
 OursObeysAll = ObeysAll ours laws
+
+-- the same bridge with the room that it tells seen too, and that it obeys the laws of the room
+abbrev pub oursTelling : TellingMachine
+oursTelling = telling step
+
+abbrev pub OursObeysRooms : Type 0
+OursObeysRooms = ObeysAll oursTelling rooms

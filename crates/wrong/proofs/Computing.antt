@@ -100,6 +100,10 @@ unfoldable calls-open : Unit {0}
 unfolding calls.checksOn calls.checks calls.outcome calls.settledBy calls.rxAfter calls.txAfter calls.shown calls.notRefused calls.refusedOr calls.step
 calls-open = tt
 
+unfoldable told-open : Unit {0}
+unfolding calls.roomOf
+told-open = tt
+
 -- what is seen of them
 unfoldable sights-open : Unit {0}
 unfolding see.equalReturn see.isSend see.asksStatus see.passesOn see.isFlow see.arrived see.accepted see.lost see.sent see.statusSent
@@ -122,5 +126,5 @@ unfolding parts-open registers-open roles-open talker-open stores-open state-ope
 bridge-open = tt
 
 unfoldable pub computes : Unit {0}
-unfolding runs-open bridge-open sights-open others-open laws-open roles-said
+unfolding runs-open bridge-open told-open sights-open others-open laws-open roles-said
 computes = tt

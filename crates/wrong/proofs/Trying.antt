@@ -4,11 +4,12 @@ use mathlib.Core.Bool.{true}
 use mathlib.Core.List.{List, _∷_, map}
 use Rattle.machine.specs.Machine.{Obeys}
 use Rattle.bridge.specs.Calls.{Call, World, Did}
-use Rattle.laws.specs.Bridges.{Law, bridge}
+use Rattle.laws.specs.Bridges.{Law, TellingLaw, telling, bridge}
+use Rattle.refuting.specs.WrittenOut as out
 use Rattle.refuting.specs.WrittenOut.{OfRun, OfSince, OfBetween}
 use Rattle.refuting.proofs.ByTurns as by-turns
 use Rattle.wrong.proofs.Small.{allBelow, bytes, byteCalls, fair-calls}
-use Rattle.wrong.proofs.Written.{bridges, Turn, called, Does, saw, seenSo, leftSo}
+use Rattle.wrong.proofs.Written.{bridges, tellingBridges, Turn, called, Does, saw, seenSo, leftSo}
 
 module _ (B : Call → World → Did) (L : Law) (w : World) where
   -- of a run
@@ -24,3 +25,16 @@ module _ (B : Call → World → Did) (L : Law) (w : World) where
   pub in-between : (t : Turn) (ts : List Turn) (c : Call) → Does B w (t ∷ ts) → allBelow (w .rx) ≡ true → byteCalls (map called (t ∷ ts)) ≡ true →
       Obeys (bridge B) L → OfBetween L (saw (t .call) w (t .does)) (seenSo (t .does .world) ts) (saw c (leftSo w (t ∷ ts)) (B c (leftSo w (t ∷ ts))))
   in-between t ts c d b f law = by-turns.in-between bridges B L w t ts c d (bytes (w .rx) b) (fair-calls B (map called (t ∷ ts)) f) law
+
+-- the same of a law that looks at the room told
+module _ (B : Call → World → Did) (L : TellingLaw) (w : World) where
+  pub told-since : (t : Turn) (ts : List Turn) → Does B w (t ∷ ts) → allBelow (w .rx) ≡ true → byteCalls (map called (t ∷ ts)) ≡ true →
+      Obeys (telling B) L → OfSince L (out.saw tellingBridges (t .call) w (t .does)) (out.seenSo tellingBridges (t .does .world) ts)
+  told-since t ts d b f law = by-turns.in-since tellingBridges B L w t ts d (bytes (w .rx) b) (fair-calls B (map called (t ∷ ts)) f) law
+
+  pub told-between : (t : Turn) (ts : List Turn) (c : Call) → Does B w (t ∷ ts) → allBelow (w .rx) ≡ true → byteCalls (map called (t ∷ ts)) ≡ true →
+      Obeys (telling B) L →
+      OfBetween L (out.saw tellingBridges (t .call) w (t .does)) (out.seenSo tellingBridges (t .does .world) ts)
+      (out.saw tellingBridges c (leftSo w (t ∷ ts)) (B c (leftSo w (t ∷ ts))))
+  told-between t ts c d b f law =
+      by-turns.in-between tellingBridges B L w t ts c d (bytes (w .rx) b) (fair-calls B (map called (t ∷ ts)) f) law

@@ -12,7 +12,7 @@ use Rattle.wrong.specs.WrongLine.{takesDataForStop, neverRecordsSent, sw
 use Rattle.wrong.specs.Broken.{Breaks}
 use Rattle.wrong.proofs.Computing.{computes}
 use Rattle.wrong.proofs.Small.{are-bytes}
-use Rattle.wrong.proofs.Written.{Turn, turn, takes, Does}
+use Rattle.wrong.proofs.Written.{Turn, takes, Does, leaves}
 use Rattle.wrong.proofs.Trying.{in-since, in-between}
 
 -- ---- the last of go and stop that was sent
@@ -40,15 +40,15 @@ stoppedOff k =
     takes 49 (cameIn 1 false false)
     ∷ takes 50 (cameIn 2 false false)
     ∷ takes 51 (cameIn 3 true false)
-    ∷ turn (on nextLineByte) (record { said = byte 19; world = cameIn 3 true true })
-    ∷ turn (on (write 11 0)) (record { said = done; world = switchedOff (cameIn 3 false k) })
+    ∷ leaves nextLineByte (byte 19) (cameIn 3 true true)
+    ∷ leaves (write 11 0) done (switchedOff (cameIn 3 false k))
     ∷ []
 
 abbrev fresh : World
 fresh = cameIn 0 false false
 
 begins : Turn
-begins = turn (on reset) (record { said = done; world = fresh })
+begins = leaves reset done fresh
 
 switch-off-drops-go-runs : Does switchOffDropsGo fresh (begins ∷ stoppedOff false)
 unfolding computes begins stoppedOff

@@ -17,7 +17,7 @@ use Rattle.wrong.specs.WrongHolding.{beginsLate, endsAtMargin}
 use Rattle.wrong.specs.Broken.{Breaks}
 use Rattle.wrong.proofs.Computing.{computes}
 use Rattle.wrong.proofs.Small.{are-bytes}
-use Rattle.wrong.proofs.Written.{Turn, turn, takes, does, Does}
+use Rattle.wrong.proofs.Written.{Turn, takes, does, Does, leaves}
 use Rattle.wrong.proofs.Trying.{in-run}
 
 -- ---- when holding off begins and ends
@@ -56,7 +56,7 @@ twoSpells : List Turn
 twoSpells =
     takes 51 (talkerCameIn 3 true)
     ∷ takes 52 (talkerCameIn 4 true)
-    ∷ turn (on (loopFrame sendData)) (record { said = frame 0 49; world = oneGone 4 3 false })
+    ∷ leaves (loopFrame sendData) (frame 0 49) (oneGone 4 3 false)
     ∷ takes 49 (oneGone 5 4 true)
     ∷ does endsAtMargin (on (lineByte 50)) (oneGone 5 4 true)
     ∷ []

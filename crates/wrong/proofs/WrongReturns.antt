@@ -22,16 +22,16 @@ use Rattle.wrong.specs.WrongReturns.{comparesService, recordsFrame0, dam
 use Rattle.wrong.specs.Broken.{Breaks}
 use Rattle.wrong.proofs.Computing.{computes}
 use Rattle.wrong.proofs.Small.{byteCalls, full-holds}
-use Rattle.wrong.proofs.Written.{Turn, turn, called, Does, saw, seenSo, leftSo}
+use Rattle.wrong.proofs.Written.{Turn, called, Does, saw, seenSo, leftSo, leaves}
 use Rattle.wrong.proofs.Trying.{in-between}
 
 -- 2,49 is sent, and the frame f is recorded as under way
 abbrev sends : ℕ → Turn
-sends f = turn (on (loopFrame sendData)) (record { said = frame 2 49; world = oneSent activeData f })
+sends f = leaves (loopFrame sendData) (frame 2 49) (oneSent activeData f)
 
 -- ready 66 goes on, and the talker is in this phase with the frame f
 abbrev passes66 : ℕ → ℕ → Turn
-passes66 phase f = turn (on (loopFrame finish)) (record { said = frame 5 66; world = oneSent phase f })
+passes66 phase f = leaves (loopFrame finish) (frame 5 66) (oneSent phase f)
 
 -- what the law says of the frame r that comes back, where the turns ts came in between
 judged : (B : Call → World → Did) (f : ℕ) (ts : List Turn) (r : ℕ) → Does B full (sends f ∷ ts) →

@@ -7,9 +7,9 @@ use Rattle.frame.specs.Frame.{controlOf, dataOf}
 use Rattle.role.specs.declared.Role.{Role}
 use Rattle.talker.specs.declared.Under.{Under}
 use Rattle.state.specs.declared.State.{State}
-use Rattle.answers.specs.Answers.{Said, refused, isRefusal}
+use Rattle.answers.specs.Answers.{Said, isRefusal}
 use Rattle.state.specs.State.{withTalker}
-use Rattle.bridge.specs.Calls.{Call, create, show, on, World, world, Did, checks, notRefused, step}
+use Rattle.bridge.specs.Calls.{Call, create, show, on, World, world, Did, checks, notRefused, step, refusal}
 use Rattle.laws.specs.Observers.{onFrame}
 
 -- the calls that the test finds are answered by another bridge
@@ -21,6 +21,7 @@ abbrev pub leaving : (Call → World → World → World) → Call → World →
 leaving change c w =
     record {
       said = step c w .said;
+      room = step c w .room;
       world = cond (isRefusal (step c w .said)) (step c w .world) (change c w (step c w .world));
     }
 
@@ -33,6 +34,7 @@ abbrev pub answering : (Call → World → Said → Said) → Call → World →
 answering change c w =
     record {
       said = cond (isRefusal (step c w .said)) (step c w .said) (change c w (step c w .said));
+      room = step c w .room;
       world = step c w .world;
     }
 
@@ -42,7 +44,7 @@ answeringFrame test change = answering (λ c w a. onFrame (λ f. cond (test w f)
 
 -- refuses with this number
 abbrev pub refusing : ℕ → Call → World → Did
-refusing n c w = record { said = refused n; world = w }
+refusing n c w = refusal n w
 
 -- never gives the refusal n: does what the call asks for
 abbrev pub heedless : ℕ → Call → World → Did

@@ -19,3 +19,4 @@ pub mod WrongFrames
 pub mod WrongStatus
 pub mod WrongEvents
 pub mod WrongShows
+pub mod WrongRooms

@@ -26,16 +26,16 @@ afterSight seen change = afterwards (λ c w s. cond (seen c w (step c w .said)) 
 abbrev pub insteadAt : Sight → (Call → World → Did) → Call → World → Did
 insteadAt seen = instead (λ c w. seen c w (step c w .said))
 
--- it answers so, and nothing is changed
+-- it answers so and tells no room, and nothing is changed
 abbrev pub only : Said → World → Did
-only a w = record { said = a; world = w }
+only a w = record { said = a; room = 0; world = w }
 
 -- a world, and what was done, with the state changed
 abbrev pub having : (State → State) → World → World
 having change w = world (change (w .state)) (w .rx) (w .tx)
 
 abbrev pub inState : (State → State) → Did → Did
-inState change d = record { said = d .said; world = having change (d .world) }
+inState change d = record { said = d .said; room = d .room; world = having change (d .world) }
 
 -- ---- what is seen
 

@@ -38,7 +38,7 @@ alwaysRefusing = refusing 2
 
 -- does what it refuses
 abbrev doesAllTheSame : Call → World → Did
-doesAllTheSame c w = record { said = step c w .said; world = notRefused c w .world }
+doesAllTheSame c w = record { said = step c w .said; room = step c w .room; world = notRefused c w .world }
 
 -- refuses a register write and writes the register all the same
 abbrev pub refusesAndWrites : Call → World → Did

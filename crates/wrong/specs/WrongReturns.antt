@@ -25,7 +25,7 @@ notTheVery c w a = onFrame (λ f. isReturn w f && not (eqb f (w .state .talker .
 abbrev pub comparesService : Call → World → Did
 comparesService =
     insteadAt notTheVery
-    (λ c w. record { said = frame 5 65; world = world (withTalker (w .state) (endedTalker (w .state .talker))) (w .rx) (w .tx) })
+    (λ c w. record { said = frame 5 65; room = 0; world = world (withTalker (w .state) (endedTalker (w .state .talker))) (w .rx) (w .tx) })
 
 -- records frame 0 as under way for every data frame that it sends
 abbrev pub recordsFrame0 : Call → World → Did

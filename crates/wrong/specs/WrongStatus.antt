@@ -48,30 +48,31 @@ abbrev sendsStatus : ℕ → State → World → Did
 sendsStatus n before v =
     record {
       said = asFrame (serviced before (made 0 n));
+      room = 0;
       world = world (withUnder (v .state) (record { frame = made 0 n; finishing = false })) (v .rx) (v .tx);
     }
 
 -- ours with another status byte, by the states before and after the call
-abbrev telling : (State → State → ℕ) → Call → World → Did
-telling status =
+abbrev showingStatus : (State → State → ℕ) → Call → World → Did
+showingStatus status =
     instead (λ c w. onFrame (asksStatus (w .state)) false c && taken (step c w .said))
     (λ c w. sendsStatus (status (w .state) (step c w .world .state)) (w .state) (step c w .world))
 
 -- shows receive not empty in bit 3 and receive full in bit 2
 abbrev pub showsExchanged : Call → World → Did
-showsExchanged = telling (λ before after. statusByte (exchanged (conditions before)) (state.shows before))
+showsExchanged = showingStatus (λ before after. statusByte (exchanged (conditions before)) (state.shows before))
 
 -- shows in bit 1 that the transmit store is not full, whatever it holds
 abbrev pub showsRoom : Call → World → Did
-showsRoom = telling (λ before after. statusByte (roomy (conditions before)) (state.shows before))
+showsRoom = showingStatus (λ before after. statusByte (roomy (conditions before)) (state.shows before))
 
 -- shows what holds after the call: the request that this very byte ends is not in it
 abbrev pub showsAfter : Call → World → Did
-showsAfter = telling (λ before after. statusOf after)
+showsAfter = showingStatus (λ before after. statusOf after)
 
 -- shows a request in bit 6 though R00 bit 3 is off
 abbrev pub showsAnyRequest : Call → World → Did
-showsAnyRequest = telling (λ before after. statusByte (conditions before) (before .notes .request))
+showsAnyRequest = showingStatus (λ before after. statusByte (conditions before) (before .notes .request))
 
 -- ---- requests
 
