@@ -1,21 +1,23 @@
--- The number of a C call tells its whole answer. Assumes nothing.
+-- The number of a C call tells its whole answer, and the room beside it. Assumes nothing.
 use Prim.Native.Nat.{ℕ}
+use native.Mathlib.Omega.{arith}
 use mathlib.Core.Path.{_≡_, refl, sym, ap, _∙_}
 use mathlib.Core.Bool.{Bool, true, false}
 use lib.ListN.{length}
 use lib.Dec.{eqb}
 use borrow.Author.Tests.{eqb-true}
 use Rattle.answers.specs.Answers.{part, isRefusal}
-use Rattle.answers.specs.Word.{word}
+use Rattle.answers.specs.Word.{word, wordWith}
 use Rattle.codec.specs.Blocks.{isState, fittingBlock}
-use Rattle.boundary.specs.Product.{Product, Held, shown, said}
+use Rattle.boundary.specs.Product.{Product, Held, shown, said, room}
 use Rattle.boundary.specs.CCalls.{Lent, CDid, storeOf, heldIn, opened, fitting, cStep}
-use Rattle.boundary.specs.Numbers.{answerOf, partOf, answerBy, cAnswer}
+use Rattle.boundary.specs.Numbers.{roomTold, answerOf, partOf, answerBy, roomBy, cAnswer, cRoom}
 use Rattle.boundary.specs.CRuns.{wordBy, answerWord, Whole}
-use Rattle.boundary.specs.CLaws.{RefusalKeepsAll, AnswersTold}
+use Rattle.boundary.specs.CLaws.{RefusalKeepsAll, AnswersTold, RoomsTold}
 use Rattle.boundary.specs.Formed.{Formed}
 use Rattle.boundary.specs.Kept.{Kept, Tells}
 use Rattle.boundary.proofs.Laws.{by-call, show-step, shown-place, misfit-refused, wrong-block-refused, step-refusal-keeps}
+use Rattle.boundary.proofs.Words.{room-read, no-room-alone, same-told, told-small}
 use Rattle.boundary.proofs.Opened.{typed-held, call-means}
 
 module _ (P : Product) (F : Formed P) where
@@ -31,6 +33,19 @@ module _ (P : Product) (F : Formed P) where
   pub on-answer : (c : P .OnState) (l : Lent) → cAnswer P (P .on c) l ≡ answerOf (P .given) (cStep P (P .on c) l .word)
   unfolding cAnswer answerBy
   on-answer c l = λ i. answerBy P (F .called c i) (cStep P (P .on c) l .word) l
+
+  -- and the room
+  create-room : (m : ℕ) (l : Lent) → cRoom P (P .create m) l ≡ roomTold (cStep P (P .create m) l .word)
+  unfolding cRoom roomBy
+  create-room m l = λ i. roomBy P (F .created m i) (cStep P (P .create m) l .word)
+
+  show-room : (side : ℕ) (l : Lent) → cRoom P (P .show side) l ≡ 0
+  unfolding cRoom roomBy
+  show-room side l = λ i. roomBy P (F .showed side i) (cStep P (P .show side) l .word)
+
+  on-room : (c : P .OnState) (l : Lent) → cRoom P (P .on c) l ≡ roomTold (cStep P (P .on c) l .word)
+  unfolding cRoom roomBy
+  on-room c l = λ i. roomBy P (F .called c i) (cStep P (P .on c) l .word)
 
   shown-told : (side : ℕ) (l : Lent) → cAnswer P (P .show side) l ≡ said P (P .show side) (opened P l)
   unfolding partOf
@@ -55,15 +70,41 @@ module _ (P : Product) (F : Formed P) where
       c
 
   module _ (K : Kept P) where
-    pub answers-told : AnswersTold P
+    -- the numbers of create and of a call on a state
+    create-number : (m : ℕ) (l : Lent) → Whole P l → cStep P (P .create m) l .word ≡ word (said P (P .create m) (opened P l))
     unfolding answerWord wordBy
+    create-number m l h = call-means P F K (P .create m) l h .word ∙ (λ i. wordBy P (F .created m i) (P .create m) (opened P l))
+
+    on-number : (x : P .OnState) (l : Lent) → Whole P l →
+        cStep P (P .on x) l .word ≡ wordWith (said P (P .on x) (opened P l)) (room P (P .on x) (opened P l))
+    unfolding answerWord wordBy
+    on-number x l h = call-means P F K (P .on x) l h .word ∙ (λ i. wordBy P (F .called x i) (P .on x) (opened P l))
+
+    on-tells : (x : P .OnState) (l : Lent) → Whole P l → Tells P (said P (P .on x) (opened P l))
+    on-tells x l h = K .told-on x (heldIn P l) (typed-held P F K l (h .lendable))
+
+    pub answers-told : AnswersTold P
     answers-told c l h =
         by-call P F (λ x. cAnswer P x l ≡ said P x (opened P l))
-        (λ m. create-answer m l ∙ ap (answerOf (P .given)) (call-means P F K (P .create m) l h .word ∙ (λ i. wordBy P (F .created m i) (P .create m) (opened P l)))
-        ∙ K .told-create m (opened P l))
+        (λ m. create-answer m l ∙ ap (answerOf (P .given)) (create-number m l h) ∙ K .told-create m (opened P l))
         (λ side. shown-told side l)
-        (λ x. on-answer x l ∙ ap (answerOf (P .given)) (call-means P F K (P .on x) l h .word ∙ (λ i. wordBy P (F .called x i) (P .on x) (opened P l)))
-        ∙ K .told-on x (heldIn P l) (typed-held P F K l (h .lendable)))
+        (λ x. on-answer x l ∙ ap (answerOf (P .given)) (on-number x l h)
+        ∙ same-told (P .given) (said P (P .on x) (opened P l)) (room P (P .on x) (opened P l)) ∙ on-tells x l h)
+        c
+
+    pub rooms-told : RoomsTold P
+    rooms-told c l h =
+        by-call P F (λ x. cRoom P x l ≡ room P x (opened P l))
+        (λ m.
+        let a = said P (P .create m) (opened P l) in
+        create-room m l ∙ ap roomTold (create-number m l h ∙ sym (no-room-alone a))
+        ∙ room-read a 0 (told-small (P .given) (F .valued) a (K .told-create m (opened P l))) (omega arith) ∙ sym (F .creates-alone m (opened P l)))
+        (λ side. show-room side l ∙ sym (F .shows-alone side (opened P l)))
+        (λ x.
+        let a = said P (P .on x) (opened P l) in
+        on-room x l ∙ ap roomTold (on-number x l h)
+        ∙ room-read a (room P (P .on x) (opened P l)) (told-small (P .given) (F .valued) a (on-tells x l h))
+        (K .room-on x (heldIn P l) (typed-held P F K l (h .lendable))))
         c
 
     pub refusal-keeps-all : RefusalKeepsAll P

@@ -9,7 +9,7 @@ use lib.Dec.{eqb}
 use borrow.Author.Tests.{eq-eqb, ne-eqb}
 use Rattle.answers.specs.Answers.{Said, refused, part, isRefusal}
 use Rattle.answers.specs.Refusals.{firstRefusal}
-use Rattle.answers.specs.Word.{word, kindOf, valueOf}
+use Rattle.answers.specs.Word.{word, wordWith, kindOf, valueOf}
 use Rattle.store.specs.declared.Ring.{Ring}
 use Rattle.store.specs.Ring.{Fit, run}
 use Rattle.store.proofs.Laws.{run-part}
@@ -17,12 +17,20 @@ use Rattle.branches.proofs.Branches.{cond-true, by-cond}
 use Rattle.codec.specs.Blocks.{packed, isState}
 use Rattle.codec.proofs.Same.{state-length, state-packed, means, means-none}
 use Rattle.boundary.specs.Product.{Product, Held, held, Kind, creating, showing, calling, fitsHeld, shown, checks, said, after}
-use Rattle.boundary.specs.CCalls.{Lent, lent, cDid, refusedBy, placeWord, storeOf, stateIn, heldIn, opened, blockAfter, closed, createdFor, placeOf, shownWord, cBy, cStep}
+use Rattle.boundary.specs.CCalls.{Lent, lent, cDid, refusedBy, placeWord, storeOf, stateIn, heldIn, opened, blockAfter, closed, createdFor, calledFor, placeOf, shownWord, cBy, cStep}
 use Rattle.boundary.specs.Formed.{MadeAlike, Formed}
+use Rattle.boundary.proofs.Words.{no-room-alone}
 
--- what the C functions write of what a call did: the answer's number, and the block
+-- what the C functions write of what a call did: this number, and the block
+abbrev pub WrittenBy : (P : Product) → ℕ → List ℕ → P .Did → ℕ → List ℕ → Type 0
+WrittenBy P n b d r b′ = (r ≡ n) × (b′ ≡ blockAfter P b (P .saidIn d) (P .apart (P .leftIn d) .state))
+
+-- the number of the answer alone, or with the room told beside it
 abbrev pub Written : (P : Product) → List ℕ → P .Did → ℕ → List ℕ → Type 0
-Written P b d r b′ = (r ≡ word (P .saidIn d)) × (b′ ≡ blockAfter P b (P .saidIn d) (P .apart (P .leftIn d) .state))
+Written P b d r b′ = WrittenBy P (word (P .saidIn d)) b d r b′
+
+abbrev pub WrittenWith : (P : Product) → List ℕ → P .Did → ℕ → List ℕ → Type 0
+WrittenWith P b d r b′ = WrittenBy P (wordWith (P .saidIn d) (P .roomIn d)) b d r b′
 
 module _ (P : Product) (F : Formed P) where
   -- ---- a state that does not fit is refused
@@ -55,22 +63,28 @@ module _ (P : Product) (F : Formed P) where
     pub may-write : (d : P .Did) → Did d → isRefusal (P .saidIn d) ≡ false → length b ≡ P .layout .len
     may-write d e h = state-length (P .layout) b (had-state d e h)
 
-    -- the C function answered and left what the call did
-    pub written : (d : P .Did) → Did d → (r : ℕ) (b′ : List ℕ) → Written P b d r b′ →
+    -- the C function answered and left what the call did, and told its room
+    pub written-with : (d : P .Did) → Did d → (r : ℕ) (b′ : List ℕ) → WrittenWith P b d r b′ →
         cDid r b′ (P .apart (P .leftIn d) .first) (P .apart (P .leftIn d) .second) ≡ cStep P (P .on c) (lent b xs ys)
-    unfolding cStep cBy closed
-    written d e r b′ t =
+    unfolding cStep cBy calledFor closed
+    written-with d e r b′ t =
         (λ i. cDid (t .0 i) (t .1 i) (P .apart (P .leftIn d) .first) (P .apart (P .leftIn d) .second))
-        ∙ ap (λ (x : P .Did). closed P (lent b xs ys) (P .saidIn x) (P .apart (P .leftIn x))) (e ∙ ap (λ (y : P .State). P .step (P .on c) (P .world (held y xs ys))) m)
+        ∙ ap (λ (x : P .Did). calledFor P (lent b xs ys) (P .saidIn x) (P .roomIn x) (P .apart (P .leftIn x)))
+        (e ∙ ap (λ (y : P .State). P .step (P .on c) (P .world (held y xs ys))) m)
         ∙ (λ i. cBy P (sym (F .called c) i) (P .on c) (lent b xs ys))
 
+    -- the same of a call that tells no room
+    pub written : (d : P .Did) → Did d → (r : ℕ) (b′ : List ℕ) → Written P b d r b′ → P .roomIn d ≡ 0 →
+        cDid r b′ (P .apart (P .leftIn d) .first) (P .apart (P .leftIn d) .second) ≡ cStep P (P .on c) (lent b xs ys)
+    written d e r b′ t z = written-with d e r b′ (t .0 ∙ sym (no-room-alone (P .saidIn d)) ∙ ap (wordWith (P .saidIn d)) (sym z), t .1)
+
     -- a call that leaves all as it was has the block's bytes to leave
-    pub looked : (d : P .Did) → Did d → P .leftIn d ≡ P .world (held s xs ys) → (r : ℕ) → r ≡ word (P .saidIn d) →
+    pub looked : (d : P .Did) → Did d → P .leftIn d ≡ P .world (held s xs ys) → (r : ℕ) → r ≡ word (P .saidIn d) → P .roomIn d ≡ 0 →
         cDid r b xs ys ≡ cStep P (P .on c) (lent b xs ys)
-    looked d e q r t =
+    looked d e q r t z =
         let o : P .apart (P .leftIn d) ≡ held s xs ys = ap (P .apart) q ∙ F .back (held s xs ys) in
         (λ i. cDid r b (sym o i .first) (sym o i .second))
-        ∙ written d e r b (t, by-cond (λ (x : List ℕ). b ≡ x) (isRefusal (P .saidIn d)) _ _ (λ z. refl) (unchanged o))
+        ∙ written d e r b (t, by-cond (λ (x : List ℕ). b ≡ x) (isRefusal (P .saidIn d)) _ _ (λ z. refl) (unchanged o)) z
       where
         unchanged : P .apart (P .leftIn d) ≡ held s xs ys → isRefusal (P .saidIn d) ≡ false → b ≡ packed (P .layout) (P .apart (P .leftIn d) .state)
         unchanged o z =
@@ -110,7 +124,7 @@ module _ (P : Product) (F : Formed P) where
         now : P .State
         now = P .apart (P .leftIn d) .state
 
-        kept : (t : Bool) → isRefusal (P .saidIn d) ≡ t → cDid (word (P .saidIn d)) (blockAfter P b (P .saidIn d) now) xs ys ≡ closed P (lent b xs ys) given left
+        kept : (t : Bool) → isRefusal (P .saidIn d) ≡ t → cDid (word (P .saidIn d)) (blockAfter P b (P .saidIn d) now) xs ys ≡ closed P (lent b xs ys) (word given) given left
         kept true z =
             let n : isRefusal given ≡ true = ap isRefusal (sym same) ∙ z in
             let o : left ≡ heldIn P (lent b xs ys) = ap (P .apart) (F .refuses (P .create m) (opened P (lent b xs ys)) .leaves n) ∙ F .back (heldIn P (lent b xs ys)) in
@@ -119,7 +133,7 @@ module _ (P : Product) (F : Formed P) where
         kept false z =
             let q : P .apart (P .leftIn d) ≡ left = ap (λ (x : P .Did). P .apart (P .leftIn x)) e ∙ ap (P .apart) (alike .made (ap (λ (x : P .Did). isRefusal (P .saidIn x)) (sym e) ∙ z)) in
             (λ i. cDid (word (P .saidIn d)) (blockAfter P b (P .saidIn d) now) (sym ex i) (sym ey i))
-            ∙ (λ i. closed P (lent b xs ys) (same i) (q i))
+            ∙ (λ i. closed P (lent b xs ys) (word (same i)) (same i) (q i))
 
 -- ---- showing
 

@@ -8,12 +8,12 @@ use lib.ListN.{length}
 use lib.Dec.{eqb}
 use borrow.Author.Tests.{eqb-true}
 use Rattle.branches.proofs.Branches.{and-left, by-cond}
-use Rattle.answers.specs.Answers.{done, refused, isRefusal}
-use Rattle.answers.specs.Word.{word, kindOf, valueOf}
+use Rattle.answers.specs.Answers.{Said, done, refused, isRefusal}
+use Rattle.answers.specs.Word.{word, wordWith, kindOf, valueOf}
 use Rattle.codec.specs.Blocks.{isState, fittingBlock}
 use Rattle.codec.proofs.Same.{state-length}
 use Rattle.codec.proofs.Laws.{packed-length}
-use Rattle.boundary.specs.Product.{Product, Held, fitsHeld, said, after}
+use Rattle.boundary.specs.Product.{Product, Held, fitsHeld, said, room, after}
 use Rattle.boundary.specs.CCalls.{Lent, CDid, heldIn, opened, fitting, closed, cStep}
 use Rattle.boundary.specs.Numbers.{answerOf}
 use Rattle.boundary.specs.CFitting.{BlockKeepsFit, CreateFits, SameLengths, LengthsStay}
@@ -57,13 +57,16 @@ module _ (P : Product) (F : Formed P) (K : Kept P) where
       w : P .World
       w = opened P l
 
+      a : Said
+      a = said P (P .create m) w
+
       pick : (t : Bool) → eqb (length (l .block)) (P .layout .len) ≡ t → fitting P (cStep P (P .create m) l .lent) ≡ true
       pick true q =
-          let c : cStep P (P .create m) l ≡ closed P l (said P (P .create m) w) (P .apart (after P (P .create m) w)) = create-call P F m l (eqb-true (length (l .block)) (P .layout .len) q) in
-          let n : word (said P (P .create m) w) ≡ word done = ap (λ (x : CDid). x .word) (sym c) ∙ e in
-          let d : said P (P .create m) w ≡ done = sym (K .told-create m w) ∙ ap (answerOf (P .given)) n ∙ done-told (P .given) in
+          let c : cStep P (P .create m) l ≡ closed P l (word a) a (P .apart (after P (P .create m) w)) = create-call P F m l (eqb-true (length (l .block)) (P .layout .len) q) in
+          let n : word a ≡ word done = ap (λ (x : CDid). x .word) (sym c) ∙ e in
+          let d : a ≡ done = sym (K .told-create m w) ∙ ap (answerOf (P .given)) n ∙ done-told (P .given) in
           let o : opened P (cStep P (P .create m) l .lent) ≡ after P (P .create m) w =
-          ap (λ (x : CDid). opened P (x .lent)) c ∙ closed-world P F K l (said P (P .create m) w) (after P (P .create m) w) (refusal-keeps P F (P .create m) w) (K .made-ranged m w d) in
+          ap (λ (x : CDid). opened P (x .lent)) c ∙ closed-world P F K l (word a) a (after P (P .create m) w) (refusal-keeps P F (P .create m) w) (K .made-ranged m w d) in
           to-block (cStep P (P .create m) l .lent) (subst Fits (sym o) (K .makes-fit m w d))
       pick false q =
           let z : _≡_ {A = ℕ} (word (refused 1)) (word done) = ap (λ (x : CDid). x .word) (sym (wrong-block-refused P F m l q)) ∙ e in
@@ -75,9 +78,9 @@ module _ (P : Product) (F : Formed P) (K : Kept P) where
   unfolding closed
   lengths-stay c l = pick (eqb (length (l .block)) (P .layout .len)) refl
     where
-      closing : (c : P .Call) → cStep P c l ≡ closed P l (said P c (opened P l)) (P .apart (after P c (opened P l))) → length (l .block) ≡ P .layout .len →
+      closing : (c : P .Call) (n : ℕ) → cStep P c l ≡ closed P l n (said P c (opened P l)) (P .apart (after P c (opened P l))) → length (l .block) ≡ P .layout .len →
           SameLengths l (cStep P c l .lent)
-      closing c q e =
+      closing c n q e =
           let s = subst (λ (h : Held (P .State)). SameSizes h (P .apart (after P c (opened P l)))) (F .back (heldIn P l)) (K .sizes c (opened P l)) in
           subst (λ (x : CDid). SameLengths l (x .lent)) (sym q)
           (record {
@@ -94,7 +97,7 @@ module _ (P : Product) (F : Formed P) (K : Kept P) where
       pick true q =
           let e : length (l .block) ≡ P .layout .len = eqb-true (length (l .block)) (P .layout .len) q in
           by-call P F (λ x. SameLengths l (cStep P x l .lent))
-          (λ m. closing (P .create m) (create-call P F m l e) e)
+          (λ m. closing (P .create m) (word (said P (P .create m) (opened P l))) (create-call P F m l e) e)
           (λ side. same-lengths l _ (ap (λ (x : CDid). x .lent) (show-step P F side l)))
-          (λ x. closing (P .on x) (on-step P F x l) e)
+          (λ x. closing (P .on x) (wordWith (said P (P .on x) (opened P l)) (room P (P .on x) (opened P l))) (on-step P F x l) e)
           c

@@ -9,15 +9,16 @@ use lib.Dec.{eqb}
 use borrow.Author.Tests.{eqb-false, eqb-true, eq-eqb}
 use Rattle.branches.proofs.Branches.{by-cond, cond-true, cond-false}
 use Rattle.answers.specs.Answers.{Said, refused, part, isRefusal}
-use Rattle.answers.specs.Word.{word}
+use Rattle.answers.specs.Word.{word, wordWith}
 use Rattle.codec.specs.Blocks.{packed}
 use Rattle.codec.proofs.Laws.{packed-length, packed-means, meaning-fits}
-use Rattle.boundary.specs.Product.{Product, Held, held, Kind, creating, showing, calling, callOf, fitsHeld, shown, said, after}
-use Rattle.boundary.specs.CCalls.{Lent, lent, CDid, cDid, refusedBy, placeWord, storeOf, heldIn, opened, fitting, blockAfter, closed, createdFor, placeOf, shownWord, cBy, cStep}
+use Rattle.boundary.specs.Product.{Product, Held, held, Kind, creating, showing, calling, callOf, fitsHeld, shown, said, room, after}
+use Rattle.boundary.specs.CCalls.{Lent, lent, CDid, cDid, refusedBy, placeWord, storeOf, heldIn, opened, fitting, blockAfter, closed, createdFor, calledFor, placeOf, shownWord, cBy, cStep}
 use Rattle.boundary.specs.CRuns.{packedHeld, packedWorld, wordBy, answerWord}
 use Rattle.boundary.specs.CLaws.{OneResultInC, ShownPlace, MisfitShowsNothing, MisfitRefused, WrongBlockRefused, SameCall}
 use Rattle.boundary.specs.Formed.{Formed}
 use Rattle.boundary.proofs.Closing.{misfit-said, part-word, Shown, shown-part}
+use Rattle.boundary.proofs.Words.{no-room-alone}
 
 pub one-result-in-c : (P : Product) → OneResultInC P
 one-result-in-c P c l n m b b′ xs xs′ ys ys′ p q =
@@ -48,12 +49,14 @@ module _ (P : Product) (F : Formed P) where
   unfolding cStep cBy
   show-step side l = λ i. cBy P (F .showed side i) (P .show side) l
 
-  pub on-step : (c : P .OnState) (l : Lent) → cStep P (P .on c) l ≡ closed P l (said P (P .on c) (opened P l)) (P .apart (after P (P .on c) (opened P l)))
-  unfolding cStep cBy
+  pub on-step : (c : P .OnState) (l : Lent) →
+      cStep P (P .on c) l ≡
+      closed P l (wordWith (said P (P .on c) (opened P l)) (room P (P .on c) (opened P l))) (said P (P .on c) (opened P l)) (P .apart (after P (P .on c) (opened P l)))
+  unfolding cStep cBy calledFor
   on-step c l = λ i. cBy P (F .called c i) (P .on c) l
 
   pub create-call : (m : ℕ) (l : Lent) → length (l .block) ≡ P .layout .len →
-      cStep P (P .create m) l ≡ closed P l (said P (P .create m) (opened P l)) (P .apart (after P (P .create m) (opened P l)))
+      cStep P (P .create m) l ≡ closed P l (word (said P (P .create m) (opened P l))) (said P (P .create m) (opened P l)) (P .apart (after P (P .create m) (opened P l)))
   unfolding createdFor
   create-call m l e = create-step m l ∙ cond-true _ _ _ (eq-eqb (length (l .block)) (P .layout .len) e)
 
@@ -68,9 +71,9 @@ module _ (P : Product) (F : Formed P) where
   refusal-keeps c w = F .refuses c w .leaves
 
   -- a refusal leaves state and stores, and so the block
-  closed-keeps : (l : Lent) (d : Said) (h : Held (P .State)) → h ≡ heldIn P l → isRefusal d ≡ true → closed P l d h .lent ≡ l
+  closed-keeps : (l : Lent) (n : ℕ) (d : Said) (h : Held (P .State)) → h ≡ heldIn P l → isRefusal d ≡ true → closed P l n d h .lent ≡ l
   unfolding closed
-  closed-keeps l d h k e = rw (e, k)
+  closed-keeps l n d h k e = rw (e, k)
 
   pub kept-held : (c : P .Call) (l : Lent) → isRefusal (said P c (opened P l)) ≡ true → P .apart (after P c (opened P l)) ≡ heldIn P l
   kept-held c l e = ap (P .apart) (refusal-keeps c (opened P l) e) ∙ F .back (heldIn P l)
@@ -79,7 +82,9 @@ module _ (P : Product) (F : Formed P) where
   unfolding closed
   misfit-refused c l e =
       let d : said P (P .on c) (opened P l) ≡ refused 2 = misfit-said P F c (heldIn P l) (fits-in l ∙ e) in
-      on-step c l ∙ (λ i. closed P l (d i) (kept-held (P .on c) l (ap isRefusal d) i))
+      let z : room P (P .on c) (opened P l) ≡ 0 = F .alone (P .on c) (opened P l) (ap isRefusal d) in
+      on-step c l ∙ (λ i. closed P l (wordWith (d i) (z i)) (d i) (kept-held (P .on c) l (ap isRefusal d) i))
+      ∙ (λ i. record { word = no-room-alone (refused 2) i; lent = l })
 
   pub wrong-block-refused : WrongBlockRefused P
   unfolding createdFor
@@ -91,9 +96,9 @@ module _ (P : Product) (F : Formed P) where
   step-refusal-keeps c l =
       by-call (λ x. isRefusal (said P x (opened P l)) ≡ true → cStep P x l .lent ≡ l)
       (λ m e. ap (λ (r : CDid). r .lent) (create-step m l)
-      ∙ by-cond (λ (r : CDid). r .lent ≡ l) (eqb (length (l .block)) (P .layout .len)) _ _ (λ q. closed-keeps l _ _ (kept-held (P .create m) l e) e) (λ q. refl))
+      ∙ by-cond (λ (r : CDid). r .lent ≡ l) (eqb (length (l .block)) (P .layout .len)) _ _ (λ q. closed-keeps l _ _ _ (kept-held (P .create m) l e) e) (λ q. refl))
       (λ side e. ap (λ (r : CDid). r .lent) (show-step side l))
-      (λ x e. ap (λ (r : CDid). r .lent) (on-step x l) ∙ closed-keeps l _ _ (kept-held (P .on x) l e) e)
+      (λ x e. ap (λ (r : CDid). r .lent) (on-step x l) ∙ closed-keeps l _ _ _ (kept-held (P .on x) l e) e)
       c
 
   -- ---- showing
@@ -140,32 +145,33 @@ module _ (P : Product) (F : Formed P) where
     opened-packed : opened P (packedWorld P w) ≡ w
     opened-packed = ap (P .world) held-packed ∙ F .there w
 
-    closed-packed : (d : Said) (v : P .World) → (isRefusal d ≡ true → v ≡ w) →
-        closed P (packedWorld P w) d (P .apart v) ≡ record { word = word d; lent = packedWorld P v }
+    closed-packed : (n : ℕ) (d : Said) (v : P .World) → (isRefusal d ≡ true → v ≡ w) →
+        closed P (packedWorld P w) n d (P .apart v) ≡ record { word = n; lent = packedWorld P v }
     unfolding closed
-    closed-packed d v k = pick (isRefusal d) refl
+    closed-packed n d v k = pick (isRefusal d) refl
       where
         pick : (t : Bool) → isRefusal d ≡ t →
-            cDid (word d) (cond (isRefusal d) (packed (P .layout) (P .apart w .state)) (packed (P .layout) (P .apart v .state))) (P .apart v .first) (P .apart v .second) ≡
-            record { word = word d; lent = packedWorld P v }
+            cDid n (cond (isRefusal d) (packed (P .layout) (P .apart w .state)) (packed (P .layout) (P .apart v .state))) (P .apart v .first) (P .apart v .second) ≡
+            record { word = n; lent = packedWorld P v }
         pick true e = rw (e, k e)
         pick false e = rw e
 
-    met : (c : P .Call) → closed P (packedWorld P w) (said P c (opened P (packedWorld P w))) (P .apart (after P c (opened P (packedWorld P w)))) ≡
-        record { word = word (said P c w); lent = packedWorld P (after P c w) }
-    met c =
-        ap (λ (x : P .World). closed P (packedWorld P w) (said P c x) (P .apart (after P c x))) opened-packed
-        ∙ closed-packed (said P c w) (after P c w) (refusal-keeps c w)
+    met : (number : P .World → ℕ) (c : P .Call) →
+        closed P (packedWorld P w) (number (opened P (packedWorld P w))) (said P c (opened P (packedWorld P w))) (P .apart (after P c (opened P (packedWorld P w)))) ≡
+        record { word = number w; lent = packedWorld P (after P c w) }
+    met number c =
+        ap (λ (x : P .World). closed P (packedWorld P w) (number x) (said P c x) (P .apart (after P c x))) opened-packed
+        ∙ closed-packed (number w) (said P c w) (after P c w) (refusal-keeps c w)
 
   pub same-call : SameCall P
   unfolding answerWord wordBy
   same-call c w r =
       by-call (λ x. cStep P x (packedWorld P w) ≡ record { word = answerWord P x w; lent = packedWorld P (after P x w) })
-      (λ m. create-call m (packedWorld P w) (packed-length (P .layout) (P .apart w .state)) ∙ met w r (P .create m)
+      (λ m. create-call m (packedWorld P w) (packed-length (P .layout) (P .apart w .state)) ∙ met w r (λ v. word (said P (P .create m) v)) (P .create m)
       ∙ (λ i. record { word = wordBy P (sym (F .created m) i) (P .create m) w; lent = packedWorld P (after P (P .create m) w) }))
       (λ side. show-step side (packedWorld P w)
       ∙ (λ i. record { word = shownWord P side (held-packed w r i); lent = packedWorld P (sym (F .looks side w) i) })
       ∙ (λ i. record { word = wordBy P (sym (F .showed side) i) (P .show side) w; lent = packedWorld P (after P (P .show side) w) }))
-      (λ x. on-step x (packedWorld P w) ∙ met w r (P .on x)
+      (λ x. on-step x (packedWorld P w) ∙ met w r (λ v. wordWith (said P (P .on x) v) (room P (P .on x) v)) (P .on x)
       ∙ (λ i. record { word = wordBy P (sym (F .called x) i) (P .on x) w; lent = packedWorld P (after P (P .on x) w) }))
       c

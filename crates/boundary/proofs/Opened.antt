@@ -6,12 +6,12 @@ use mathlib.Core.List.{List, [], _∷_}
 use lib.ListN.{length}
 use Rattle.branches.proofs.Branches.{by-cond}
 use Rattle.answers.specs.Answers.{Said, isRefusal}
-use Rattle.answers.specs.Word.{word}
+use Rattle.answers.specs.Word.{word, wordWith}
 use Rattle.machine.specs.Machine.{finally}
 use Rattle.store.specs.Bytes.{Bytes}
 use Rattle.codec.specs.Blocks.{packed, meaning}
 use Rattle.codec.proofs.Laws.{packed-length, packed-bytes, packed-means, meaning-ranged}
-use Rattle.boundary.specs.Product.{Product, Held, held, machineOf, said, after}
+use Rattle.boundary.specs.Product.{Product, Held, held, machineOf, said, room, after}
 use Rattle.boundary.specs.CCalls.{Lent, CDid, stateIn, heldIn, opened, closed, shownWord, cStep}
 use Rattle.boundary.specs.CRuns.{wordBy, answerWord, words, cWords, Typed, Lendable, Whole, cFunctions}
 use Rattle.boundary.specs.CLaws.{Means, CallMeans, RunMeans, RunsMean}
@@ -41,8 +41,8 @@ module _ (P : Product) (F : Formed P) (K : Kept P) where
   -- ---- one call
 
   -- what a call that is closed leaves
-  module _ (l : Lent) (d : Said) (w : P .World) (k : isRefusal d ≡ true → w ≡ opened P l) (r : P .layout .Ranged (P .apart w .state)) where
-    pub closed-world : opened P (closed P l d (P .apart w) .lent) ≡ w
+  module _ (l : Lent) (n : ℕ) (d : Said) (w : P .World) (k : isRefusal d ≡ true → w ≡ opened P l) (r : P .layout .Ranged (P .apart w .state)) where
+    pub closed-world : opened P (closed P l n d (P .apart w) .lent) ≡ w
     unfolding closed
     closed-world = pick (isRefusal d) refl
       where
@@ -54,7 +54,7 @@ module _ (P : Product) (F : Formed P) (K : Kept P) where
         pick false e = rw (e, packed-means (P .layout) (P .noState) (P .apart w .state) r) (F .there w)
 
     pub closed-block : length (l .block) ≡ P .layout .len → Bytes (l .block) →
-        (length (closed P l d (P .apart w) .lent .block) ≡ P .layout .len) × Bytes (closed P l d (P .apart w) .lent .block)
+        (length (closed P l n d (P .apart w) .lent .block) ≡ P .layout .len) × Bytes (closed P l n d (P .apart w) .lent .block)
     unfolding closed
     closed-block e h =
         by-cond (λ (b : List ℕ). (length b ≡ P .layout .len) × Bytes b) (isRefusal d) _ _
@@ -65,15 +65,22 @@ module _ (P : Product) (F : Formed P) (K : Kept P) where
     typed : Typed P (opened P l)
     typed = opened-typed l (h .lendable)
 
-    -- a call that is closed
-    abbrev IsClosed : P .Call → Type 0
-    IsClosed c = cStep P c l ≡ closed P l (said P c (opened P l)) (P .apart (after P c (opened P l)))
+    -- a call that is closed with this number
+    abbrev IsClosed : P .Call → ℕ → Type 0
+    IsClosed c n = cStep P c l ≡ closed P l n (said P c (opened P l)) (P .apart (after P c (opened P l)))
 
-    closed-means : (c : P .Call) → IsClosed c → word (said P c (opened P l)) ≡ answerWord P c (opened P l) → Means P c l
+    -- the numbers of create and of a call on a state
+    abbrev created : ℕ → ℕ
+    created m = word (said P (P .create m) (opened P l))
+
+    abbrev called : P .OnState → ℕ
+    called x = wordWith (said P (P .on x) (opened P l)) (room P (P .on x) (opened P l))
+
+    closed-means : (c : P .Call) (n : ℕ) → IsClosed c n → n ≡ answerWord P c (opened P l) → Means P c l
     unfolding closed
-    closed-means c q a =
+    closed-means c n q a =
         record {
-          world = ap (λ (x : CDid). opened P (x .lent)) q ∙ closed-world l (said P c (opened P l)) (after P c (opened P l)) (refusal-keeps P F c (opened P l)) (K .ranged c (opened P l) typed);
+          world = ap (λ (x : CDid). opened P (x .lent)) q ∙ closed-world l n (said P c (opened P l)) (after P c (opened P l)) (refusal-keeps P F c (opened P l)) (K .ranged c (opened P l) typed);
           word = ap (λ (x : CDid). x .word) q ∙ a;
         }
 
@@ -81,7 +88,7 @@ module _ (P : Product) (F : Formed P) (K : Kept P) where
     unfolding answerWord wordBy
     meant =
         by-call P F (λ c. Means P c l)
-        (λ m. closed-means (P .create m) (create-call P F m l (h .size)) (λ i. wordBy P (sym (F .created m) i) (P .create m) (opened P l)))
+        (λ m. closed-means (P .create m) (created m) (create-call P F m l (h .size)) (λ i. wordBy P (sym (F .created m) i) (P .create m) (opened P l)))
         (λ side. record {
           world = ap (λ (x : CDid). opened P (x .lent)) (show-step P F side l) ∙ sym (F .looks side (opened P l));
           word =
@@ -89,23 +96,23 @@ module _ (P : Product) (F : Formed P) (K : Kept P) where
               ∙ (λ i. shownWord P side (sym (F .back (heldIn P l)) i))
               ∙ (λ i. wordBy P (sym (F .showed side) i) (P .show side) (opened P l));
         })
-        (λ x. closed-means (P .on x) (on-step P F x l) (λ i. wordBy P (sym (F .called x) i) (P .on x) (opened P l)))
+        (λ x. closed-means (P .on x) (called x) (on-step P F x l) (λ i. wordBy P (sym (F .called x) i) (P .on x) (opened P l)))
 
     -- the block stays one of the one length, and of bytes
     abbrev BlockGood : Lent → Type 0
     BlockGood x = (length (x .block) ≡ P .layout .len) × Bytes (x .block)
 
-    closing : (c : P .Call) → IsClosed c → BlockGood (cStep P c l .lent)
-    closing c q =
+    closing : (c : P .Call) (n : ℕ) → IsClosed c n → BlockGood (cStep P c l .lent)
+    closing c n q =
         subst (λ (x : CDid). BlockGood (x .lent)) (sym q)
-        (closed-block l (said P c (opened P l)) (after P c (opened P l)) (refusal-keeps P F c (opened P l)) (K .ranged c (opened P l) typed) (h .size) (h .lendable .block))
+        (closed-block l n (said P c (opened P l)) (after P c (opened P l)) (refusal-keeps P F c (opened P l)) (K .ranged c (opened P l) typed) (h .size) (h .lendable .block))
 
     block-kept : (c : P .Call) → BlockGood (cStep P c l .lent)
     block-kept =
         by-call P F (λ c. BlockGood (cStep P c l .lent))
-        (λ m. closing (P .create m) (create-call P F m l (h .size)))
+        (λ m. closing (P .create m) (created m) (create-call P F m l (h .size)))
         (λ side. subst (λ (x : CDid). BlockGood (x .lent)) (sym (show-step P F side l)) (h .size, h .lendable .block))
-        (λ x. closing (P .on x) (on-step P F x l))
+        (λ x. closing (P .on x) (called x) (on-step P F x l))
 
     pub whole-kept : (c : P .Call) → P .Fair c → Whole P (cStep P c l .lent)
     whole-kept c b =

@@ -1,4 +1,4 @@
--- A C call refuses exactly when a check of the table is given. Assumes nothing.
+-- A C call refuses exactly when a check of the table is given, and by its number alone. Assumes nothing.
 use Prim.Native.Nat.{ℕ}
 use native.Mathlib.Omega.{arith}
 use mathlib.Core.Path.{_≡_, refl, sym, ap, subst, _∙_}
@@ -9,16 +9,19 @@ use lib.Dec.{eqb}
 use borrow.Author.Tests.{eqb-true}
 use Rattle.answers.specs.Refusals.{check, firstRefusal}
 use Rattle.answers.specs.Refusing.{Refuses}
-use Rattle.answers.specs.Answers.{Said, refused, isRefusal}
-use Rattle.answers.specs.Word.{word}
-use Rattle.boundary.specs.Product.{Product, Held, Kind, creating, showing, calling, checks, said}
+use Rattle.answers.specs.Answers.{Said, refused, part, isRefusal}
+use Rattle.answers.specs.Word.{word, wordWith}
+use Rattle.boundary.specs.Product.{Product, Held, Kind, creating, showing, calling, checks, shown, said}
 use Rattle.boundary.specs.CCalls.{Lent, CDid, refusedBy, heldIn, opened, cStep}
 use Rattle.boundary.specs.Numbers.{answerOf, partOf, cAnswer}
+use Rattle.boundary.specs.CRuns.{wordBy, answerWord, Whole}
+use Rattle.boundary.specs.CLaws.{RefusalAlone}
 use Rattle.boundary.specs.CRefusals.{cChecks, RefusedExactlyInC}
 use Rattle.boundary.specs.Formed.{Formed}
 use Rattle.boundary.specs.Kept.{Kept}
 use Rattle.boundary.proofs.Laws.{by-call, fits-in, show-step, misfit-refused, wrong-block-refused}
-use Rattle.boundary.proofs.Words.{refusal-told}
+use Rattle.boundary.proofs.Words.{refusal-told, no-room-alone}
+use Rattle.boundary.proofs.Opened.{call-means}
 use Rattle.boundary.proofs.Answers.{create-answer, show-answer, on-answer, other-misfits, answers-told, refusal-keeps-all}
 
 -- a call that is refused by the first of its checks
@@ -112,3 +115,44 @@ module _ (P : Product) (F : Formed P) where
             accepts = λ z. ap isRefusal a ∙ r .accepts (n ∙ z);
             leaves = refusal-keeps-all P F K c l h;
           }
+
+  -- ---- the number of a refusal is the refusal's alone
+
+  -- a call that refuses is answered by the number of the refusal
+  refused-word : (c : P .Call) (w : P .World) (n : ℕ) → said P c w ≡ refused n → answerWord P c w ≡ word (refused n)
+  unfolding answerWord wordBy
+  refused-word c w n =
+      by-call P F (λ x. said P x w ≡ refused n → answerWord P x w ≡ word (refused n))
+      (λ m e. (λ i. wordBy P (F .created m i) (P .create m) w) ∙ ap word e)
+      (λ side e. let z : part (shown P side (P .apart w)) ≡ refused n = sym (F .shows side w) ∙ e in cc)
+      (λ x e. (λ i. wordBy P (F .called x i) (P .on x) w)
+      ∙ (λ i. wordWith (e i) (F .alone (P .on x) w (ap isRefusal e) i)) ∙ no-room-alone (refused n))
+      c
+
+  -- with a block of another length
+  other-alone : (c : P .Call) (l : Lent) (n : ℕ) → eqb (length (l .block)) (P .layout .len) ≡ false → cAnswer P c l ≡ refused n → cStep P c l ≡ refusedBy n l
+  unfolding partOf
+  other-alone c l n e =
+      by-call P F (λ x. cAnswer P x l ≡ refused n → cStep P x l ≡ refusedBy n l)
+      (λ m q.
+      let r : cStep P (P .create m) l ≡ refusedBy 1 l = wrong-block-refused P F m l e in
+      let t : refused 1 ≡ refused n = sym (create-answer P F m l ∙ ap (λ (x : CDid). answerOf (P .given) (x .word)) r ∙ refusal-told (P .given) 1 (omega arith)) ∙ q in
+      r ∙ (λ i. record { word = word (t i); lent = l }))
+      (λ side q. let z = sym (show-answer P F side l) ∙ q in cc)
+      (λ x q.
+      let r : cStep P (P .on x) l ≡ refusedBy 2 l = misfit-refused P F x l (other-misfits P F l e) in
+      let t : refused 2 ≡ refused n = sym (on-answer P F x l ∙ ap (λ (y : CDid). answerOf (P .given) (y .word)) r ∙ refusal-told (P .given) 2 (omega arith)) ∙ q in
+      r ∙ (λ i. record { word = word (t i); lent = l }))
+      c
+
+  pub refusal-alone : Kept P → RefusalAlone P
+  refusal-alone K c l n h e = pick (eqb (length (l .block)) (P .layout .len)) refl
+    where
+      pick : (t : Bool) → eqb (length (l .block)) (P .layout .len) ≡ t → cStep P c l ≡ refusedBy n l
+      pick false q = other-alone c l n q e
+      pick true q =
+          let w : Whole P l = record { size = eqb-true (length (l .block)) (P .layout .len) q; lendable = h } in
+          let a : said P c (opened P l) ≡ refused n = sym (answers-told P F K c l w) ∙ e in
+          let number : cStep P c l .word ≡ word (refused n) = call-means P F K c l w .word ∙ refused-word c (opened P l) n a in
+          let left : cStep P c l .lent ≡ l = refusal-keeps-all P F K c l h (ap isRefusal e) in
+          λ i. record { word = number i; lent = left i }

@@ -1,14 +1,15 @@
 -- What the number of an answer tells. Assumes nothing.
-use Prim.Native.Nat.{ℕ, _<_}
+use Prim.Native.Nat.{ℕ, _/_, _%_, _<_}
 use native.Mathlib.Omega.{arith}
-use mathlib.Core.Path.{_≡_, refl, ap, _∙_}
+use mathlib.Core.Path.{_≡_, refl, ap, subst, _∙_}
 use mathlib.Core.List.{List, [], _∷_}
+use lib.Dec.{eqb}
 use Rattle.branches.proofs.Branches.{by-cond}
 use Rattle.answers.specs.Refusals.{Check, firstRefusal}
 use Rattle.frame.specs.Frame.{controlOf, dataOf, made}
 use Rattle.answers.specs.Answers.{Said, done, none, byte, frame, refused, part, cell, lines}
-use Rattle.answers.specs.Word.{word, kindOf, valueOf}
-use Rattle.boundary.specs.Numbers.{WordTells, ReservedZero, saidBy, answerOf}
+use Rattle.answers.specs.Word.{word, wordWith, kindOf, valueOf}
+use Rattle.boundary.specs.Numbers.{roomTold, WordTells, ReservedZero, NoRoomAlone, saidBy, answerOf}
 
 -- there are six kinds of answer
 few-kinds : (a : Said) → kindOf a < 6
@@ -22,19 +23,68 @@ few-kinds (part xs) = omega arith
 few-kinds (cell n) = omega arith
 few-kinds (lines n) = omega arith
 
-pub word-tells : WordTells
+-- a number without room has 24 bits
+word-small : (a : Said) → valueOf a < 65536 → word a < 16777216
 unfolding word
-word-tells a h = (omega (arith, few-kinds a), omega arith)
+word-small a h = omega (arith, few-kinds a)
+
+-- and tells the kind and the value
+alone-tells : (a : Said) → valueOf a < 65536 → (word a / 65536 % 256 ≡ kindOf a) × (word a % 65536 ≡ valueOf a)
+unfolding word
+alone-tells a h = (omega (arith, few-kinds a), omega arith)
+
+-- the bits below the room are those of the number without it
+low-bits : (a : Said) (r : ℕ) → (wordWith a r / 65536 % 256 ≡ word a / 65536 % 256) × (wordWith a r % 65536 ≡ word a % 65536)
+unfolding wordWith
+low-bits a r = (omega arith, omega arith)
+
+pub room-read : (a : Said) (r : ℕ) → valueOf a < 65536 → r < 65536 → roomTold (wordWith a r) ≡ r
+unfolding wordWith roomTold
+room-read a r h k = omega (arith, word-small a h)
+
+pub word-tells : WordTells
+word-tells a r h k =
+    let low = low-bits a r in
+    let w = alone-tells a h in
+    (low .0 ∙ w .0, (low .1 ∙ w .1, room-read a r h k))
 
 pub reserved-zero : ReservedZero
-unfolding word
-reserved-zero a h = omega (arith, few-kinds a)
+unfolding wordWith
+reserved-zero a r h k = (omega (arith, word-small a h), omega (arith, word-small a h))
+
+pub no-room-alone : NoRoomAlone
+unfolding wordWith
+no-room-alone a = omega arith
 
 -- an answer whose value has 16 bits is told by its number, if its kind and value tell it
 module _ (given : ℕ → Said) where
   by-word : (a : Said) → valueOf a < 65536 → saidBy given (kindOf a) (valueOf a) ≡ a → answerOf given (word a) ≡ a
   unfolding answerOf
-  by-word a h e = let w = word-tells a h in (λ i. saidBy given (w .0 i) (w .1 i)) ∙ e
+  by-word a h e = let w = alone-tells a h in (λ i. saidBy given (w .0 i) (w .1 i)) ∙ e
+
+  -- the room does not change what answer is told
+  pub same-told : (a : Said) (r : ℕ) → answerOf given (wordWith a r) ≡ answerOf given (word a)
+  unfolding answerOf
+  same-told a r = let low = low-bits a r in λ i. saidBy given (low .0 i) (low .1 i)
+
+  -- an answer that its number tells has a value of 16 bits
+  module _ (valued : (n : ℕ) → valueOf (given n) ≡ n) where
+    abbrev Small : Said → Type 0
+    Small a = valueOf a < 65536
+
+    said-small : (k v : ℕ) → v < 65536 → Small (saidBy given k v)
+    unfolding saidBy valueOf
+    said-small k v h =
+        by-cond Small (eqb k 0) _ _ (λ _. omega arith)
+        (λ _. by-cond Small (eqb k 1) _ _ (λ _. omega arith)
+        (λ _. by-cond Small (eqb k 2) _ _ (λ _. omega (arith, valued v))
+        (λ _. by-cond Small (eqb k 3) _ _ (λ _. omega arith)
+        (λ _. by-cond Small (eqb k 5) _ _ (λ _. h)
+        (λ _. h)))))
+
+    pub told-small : (a : Said) → answerOf given (word a) ≡ a → Small a
+    unfolding answerOf
+    told-small a e = subst Small e (said-small (word a / 65536 % 256) (word a % 65536) (omega arith))
 
   pub done-told : answerOf given (word done) ≡ done
   unfolding kindOf valueOf saidBy

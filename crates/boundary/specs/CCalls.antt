@@ -7,9 +7,9 @@ use mathlib.Core.List.{List}
 use lib.ListN.{length}
 use lib.Dec.{eqb}
 use Rattle.answers.specs.Answers.{Said, refused, part, isRefusal}
-use Rattle.answers.specs.Word.{word}
+use Rattle.answers.specs.Word.{word, wordWith}
 use Rattle.codec.specs.Blocks.{packed, meaning, fittingBlock}
-use Rattle.boundary.specs.Product.{Product, Held, held, Kind, creating, showing, calling, shown, said, after}
+use Rattle.boundary.specs.Product.{Product, Held, held, Kind, creating, showing, calling, shown, said, room, after}
 
 -- the buffers lent at every call
 pub record Lent : Type 0 where
@@ -59,13 +59,17 @@ module _ (P : Product) where
   abbrev pub blockAfter : List ℕ → Said → P .State → List ℕ
   blockAfter b d s = cond (isRefusal d) b (packed (P .layout) s)
 
-  -- what a call did, for a caller that lent these buffers: its answer and what it left
-  unfoldable pub closed : Lent → Said → Held (P .State) → CDid
-  closed l d h = cDid (word d) (blockAfter (l .block) d (h .state)) (h .first) (h .second)
+  -- what a call did, for a caller that lent these buffers: the number of its answer, and what it left
+  unfoldable pub closed : Lent → ℕ → Said → Held (P .State) → CDid
+  closed l n d h = cDid n (blockAfter (l .block) d (h .state)) (h .first) (h .second)
 
-  -- Sizes and refusals, the table, create: a size, or the length of the block
+  -- Sizes and refusals, the table, create: a size, or the length of the block; it tells no room
   unfoldable pub createdFor : Lent → Said → Held (P .State) → CDid
-  createdFor l d h = cond (eqb (length (l .block)) (P .layout .len)) (closed l d h) (refusedBy 1 l)
+  createdFor l d h = cond (eqb (length (l .block)) (P .layout .len)) (closed l (word d) d h) (refusedBy 1 l)
+
+  -- a call on a state tells the room beside its answer
+  unfoldable pub calledFor : Lent → Said → ℕ → Held (P .State) → CDid
+  calledFor l d n h = closed l (wordWith d n) d h
 
   -- Sizes and refusals, showing: an empty part is the number 0
   abbrev pub placeOf : ℕ → P .State → ℕ
@@ -78,7 +82,7 @@ module _ (P : Product) where
   unfoldable pub cBy : Kind (P .OnState) → P .Call → Lent → CDid
   cBy (creating m) c l = createdFor l (said P c (opened l)) (P .apart (after P c (opened l)))
   cBy (showing side) c l = record { word = shownWord side (heldIn l); lent = l }
-  cBy (calling x) c l = closed l (said P c (opened l)) (P .apart (after P c (opened l)))
+  cBy (calling x) c l = calledFor l (said P c (opened l)) (room P c (opened l)) (P .apart (after P c (opened l)))
 
   unfoldable pub cStep : P .Call → Lent → CDid
   cStep c l = cBy (P .kind c) c l

@@ -5,13 +5,13 @@ use mathlib.Core.Bool.{true, false}
 use mathlib.Core.List.{List}
 use lib.ListN.{length, take, drop}
 use lib.Dec.{eqb}
-use Rattle.machine.specs.Machine.{AllFair, finally, Law, Obeys, ObeysAll}
+use Rattle.machine.specs.Machine.{narrowed, AllFair, finally, Law, Obeys, ObeysAll}
 use Rattle.machine.specs.Opening.{Opens}
-use Rattle.answers.specs.Answers.{Said, isRefusal}
-use Rattle.boundary.specs.Product.{Product, Held, machineOf, shown, said, after}
+use Rattle.answers.specs.Answers.{Answered, refused, isRefusal}
+use Rattle.boundary.specs.Product.{Product, Held, tellingOf, machineOf, shown, said, room, after}
 use Rattle.boundary.specs.CCalls.{Lent, CDid, cDid, refusedBy, storeOf, opened, fitting, shownWord, cStep, CPromised}
-use Rattle.boundary.specs.Numbers.{cAnswer}
-use Rattle.boundary.specs.CRuns.{packedWorld, answerWord, words, cWords, Typed, Lendable, Whole, cFunctions}
+use Rattle.boundary.specs.Numbers.{cAnswer, cRoom}
+use Rattle.boundary.specs.CRuns.{packedWorld, answerWord, words, cWords, Typed, Lendable, Whole, cTelling, cFunctions}
 
 module _ (P : Product) where
   -- ---- the answer
@@ -48,6 +48,10 @@ module _ (P : Product) where
   -- whatever the block is and how long it is
   abbrev pub RefusalKeepsAll : Type 0
   RefusalKeepsAll = (c : P .Call) (l : Lent) → Lendable P l → isRefusal (cAnswer P c l) ≡ true → cStep P c l .lent ≡ l
+
+  -- the same with the whole number, and so without any room
+  abbrev pub RefusalAlone : Type 0
+  RefusalAlone = (c : P .Call) (l : Lent) (n : ℕ) → Lendable P l → cAnswer P c l ≡ refused n → cStep P c l ≡ refusedBy n l
 
   -- ---- every C function is the call of its name
 
@@ -93,16 +97,29 @@ module _ (P : Product) where
   abbrev pub AnswersTold : Type 0
   AnswersTold = (c : P .Call) (l : Lent) → Whole P l → cAnswer P c l ≡ said P c (opened P l)
 
+  -- and the room that the call tells beside it
+  abbrev pub RoomsTold : Type 0
+  RoomsTold = (c : P .Call) (l : Lent) → Whole P l → cRoom P c l ≡ room P c (opened P l)
+
   -- ---- laws
 
-  -- step by step the C functions do what the product does on the world that the buffers stand for, a block that is no state included
+  -- step by step the C functions do what the product does on the world that the buffers stand for, a block that is no state included; they answer
+  -- the same and tell the same room
   abbrev pub CIsTheProduct : Type 0
-  CIsTheProduct = Opens (cFunctions P) (machineOf P)
+  CIsTheProduct = Opens (cTelling P) (tellingOf P)
 
-  -- so whatever law the product obeys, they obey
+  -- and so where only the answers are seen
+  abbrev pub CAnswersAsTheProduct : Type 0
+  CAnswersAsTheProduct = Opens (cFunctions P) (machineOf P)
+
+  -- so whatever law the product obeys, they obey; of what is told by the answer and the room, a law may see any part: the answers alone, or both
   abbrev pub LawsHoldInC : Type 1
-  LawsHoldInC = (L : Law (P .World) (P .Call) Said) → Obeys (machineOf P) L → Obeys (cFunctions P) L
+  LawsHoldInC =
+      (Part : Type 0) (part : Answered → Part) (L : Law (P .World) (P .Call) Part) → Obeys (narrowed part (tellingOf P)) L →
+      Obeys (narrowed part (cTelling P)) L
 
   -- and all of a list of laws
   abbrev pub AllHoldInC : Type 1
-  AllHoldInC = (Ls : List (Law (P .World) (P .Call) Said)) → ObeysAll (machineOf P) Ls → ObeysAll (cFunctions P) Ls
+  AllHoldInC =
+      (Part : Type 0) (part : Answered → Part) (Ls : List (Law (P .World) (P .Call) Part)) → ObeysAll (narrowed part (tellingOf P)) Ls →
+      ObeysAll (narrowed part (cTelling P)) Ls

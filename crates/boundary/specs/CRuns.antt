@@ -3,14 +3,14 @@ use Prim.Native.Nat.{ℕ}
 use mathlib.Core.Path.{_≡_}
 use mathlib.Core.List.{List, [], _∷_}
 use lib.ListN.{length}
-use Rattle.machine.specs.Machine.{Machine}
-use Rattle.answers.specs.Answers.{Said}
-use Rattle.answers.specs.Word.{word}
+use Rattle.machine.specs.Machine.{Machine, narrowed}
+use Rattle.answers.specs.Answers.{Said, Answered}
+use Rattle.answers.specs.Word.{word, wordWith}
 use Rattle.store.specs.Bytes.{Bytes}
 use Rattle.codec.specs.Blocks.{packed}
-use Rattle.boundary.specs.Product.{Product, Held, Kind, creating, showing, calling, said, after}
+use Rattle.boundary.specs.Product.{Product, Held, Kind, creating, showing, calling, said, room, after}
 use Rattle.boundary.specs.CCalls.{Lent, lent, opened, shownWord, cStep}
-use Rattle.boundary.specs.Numbers.{cAnswer}
+use Rattle.boundary.specs.Numbers.{cAnswer, cRoom}
 
 module _ (P : Product) where
   -- the buffers that a state and its stores, and so a world, are lent in
@@ -24,7 +24,7 @@ module _ (P : Product) where
   unfoldable pub wordBy : Kind (P .OnState) → P .Call → P .World → ℕ
   wordBy (creating m) c w = word (said P c w)
   wordBy (showing side) c w = shownWord P side (P .apart w)
-  wordBy (calling x) c w = word (said P c w)
+  wordBy (calling x) c w = wordWith (said P c w) (room P c w)
 
   unfoldable pub answerWord : P .Call → P .World → ℕ
   answerWord c w = wordBy (P .kind c) c w
@@ -55,7 +55,19 @@ module _ (P : Product) where
     pub size : length (l .block) ≡ P .layout .len
     pub lendable : Lendable l
 
-  -- the C functions as a machine: the buffers stand for a world, and the number tells the answer; the types give a block of the one length, bytes
-  -- and right numbers
+  -- the C functions as a machine: the buffers stand for a world, and the number tells the answer and the room beside it; the types give a block
+  -- of the one length, bytes and right numbers
+  abbrev pub cTelling : Machine (P .World) (P .Call) Answered
+  cTelling =
+      record {
+        Own = Lent;
+        stands = opened P;
+        answer = λ c l. record { said = cAnswer P c l; room = cRoom P c l };
+        after = λ c l. cStep P c l .lent;
+        Fine = Whole;
+        Fair = P .Fair;
+      }
+
+  -- the same where only the answers are seen
   abbrev pub cFunctions : Machine (P .World) (P .Call) Said
-  cFunctions = record { Own = Lent; stands = opened P; answer = cAnswer P; after = λ c l. cStep P c l .lent; Fine = Whole; Fair = P .Fair }
+  cFunctions = narrowed (λ a. a .said) cTelling

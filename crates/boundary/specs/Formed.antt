@@ -4,10 +4,11 @@ use mathlib.Core.Path.{_≡_}
 use mathlib.Core.Bool.{true, false}
 use mathlib.Core.List.{List}
 use Rattle.answers.specs.Answers.{part, isRefusal}
+use Rattle.answers.specs.Word.{valueOf}
 use Rattle.answers.specs.Refusals.{firstRefusal}
 use Rattle.answers.specs.Refusing.{Refuses}
 use Rattle.store.specs.Ring.{Fit}
-use Rattle.boundary.specs.Product.{Product, Held, held, creating, showing, calling, callOf, fitsHeld, shown, checks, said, after}
+use Rattle.boundary.specs.Product.{Product, Held, held, creating, showing, calling, callOf, fitsHeld, shown, checks, said, room, after}
 
 -- a create in two worlds with the same stores answers the same, and makes the same where it is done
 pub record MadeAlike (P : Product) (m : ℕ) (w v : P .World) : Type 0 where
@@ -32,3 +33,9 @@ pub record Formed (P : Product) : Type 0 where
   pub shows : (side : ℕ) (w : P .World) → said P (P .show side) w ≡ part (shown P side (P .apart w))
   pub looks : (side : ℕ) (w : P .World) → after P (P .show side) w ≡ w
   pub creates : (m : ℕ) (s t : P .State) (xs ys : List ℕ) → MadeAlike P m (P .world (held s xs ys)) (P .world (held t xs ys))
+  -- a refusal is its number alone, without any room; showing and create tell none at all
+  pub alone : (c : P .Call) (w : P .World) → isRefusal (said P c w) ≡ true → room P c w ≡ 0
+  pub shows-alone : (side : ℕ) (w : P .World) → room P (P .show side) w ≡ 0
+  pub creates-alone : (m : ℕ) (w : P .World) → room P (P .create m) w ≡ 0
+  -- the answer that kind 2 makes of a value has that value
+  pub valued : (n : ℕ) → valueOf (P .given n) ≡ n

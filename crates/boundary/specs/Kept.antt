@@ -1,11 +1,11 @@
 -- What every call of a product keeps, and that the number of its answer tells it.
-use Prim.Native.Nat.{ℕ}
+use Prim.Native.Nat.{ℕ, _<_}
 use mathlib.Core.Path.{_≡_}
 use mathlib.Core.Bool.{true}
 use lib.ListN.{length}
 use Rattle.answers.specs.Answers.{Said, done}
 use Rattle.answers.specs.Word.{word}
-use Rattle.boundary.specs.Product.{Product, Held, fitsHeld, said, after}
+use Rattle.boundary.specs.Product.{Product, Held, fitsHeld, said, room, after}
 use Rattle.boundary.specs.Numbers.{answerOf}
 use Rattle.boundary.specs.CRuns.{Typed}
 
@@ -36,6 +36,8 @@ pub record Kept (P : Product) : Type 0 where
   -- the number of every answer but that of showing tells it
   pub told-create : (m : ℕ) (w : P .World) → Tells P (said P (P .create m) w)
   pub told-on : (c : P .OnState) (h : Held (P .State)) → TypedHeld P h → Tells P (said P (P .on c) (P .world h))
+  -- and the room told beside it has 16 bits
+  pub room-on : (c : P .OnState) (h : Held (P .State)) → TypedHeld P h → room P (P .on c) (P .world h) < 65536
   -- fitting is kept and made, and the lengths of the stores stay
   pub keeps-fit : (c : P .Call) (w : P .World) → P .Fine w → fitsHeld P (P .apart w) ≡ true → fitsHeld P (P .apart (after P c w)) ≡ true
   pub makes-fit : (m : ℕ) (w : P .World) → said P (P .create m) w ≡ done → fitsHeld P (P .apart (after P (P .create m) w)) ≡ true

@@ -4,8 +4,8 @@ use mathlib.Core.Bool.{Bool, cond, not}
 use mathlib.Core.List.{List, [], _∷_}
 use lib.ListN.{length}
 use lib.Dec.{eqb}
-use Rattle.machine.specs.Machine.{Machine}
-use Rattle.answers.specs.Answers.{Said}
+use Rattle.machine.specs.Machine.{Machine, narrowed}
+use Rattle.answers.specs.Answers.{Said, Answered}
 use Rattle.answers.specs.Refusals.{Check, check}
 use Rattle.store.specs.declared.Ring.{Ring}
 use Rattle.store.specs.Ring.{run}
@@ -47,9 +47,10 @@ pub record Product : Type 1 where
   pub show : ℕ → Call
   pub on : OnState → Call
   pub kind : Call → Kind OnState
-  -- what a call does: its answer, and the world that it leaves
+  -- what a call does: its answer, the room that it tells beside it, 0 where it tells none, and the world that it leaves
   pub Did : Type 0
   pub saidIn : Did → Said
+  pub roomIn : Did → ℕ
   pub leftIn : Did → World
   pub step : Call → World → Did
   -- what create tests of its number and the lengths of two stores, and the tests of a call on a state that fits
@@ -62,16 +63,30 @@ pub record Product : Type 1 where
   pub given : ℕ → Said
 
 module _ (P : Product) where
-  -- what a call answers, and what it leaves
+  -- what a call answers, the room that it tells, and what it leaves
   abbrev pub said : P .Call → P .World → Said
   said c w = P .saidIn (P .step c w)
+
+  abbrev pub room : P .Call → P .World → ℕ
+  room c w = P .roomIn (P .step c w)
 
   abbrev pub after : P .Call → P .World → P .World
   after c w = P .leftIn (P .step c w)
 
-  -- the product as a machine
+  -- the product as a machine that tells the room beside every answer, and the same where only the answers are seen
+  abbrev pub tellingOf : Machine (P .World) (P .Call) Answered
+  tellingOf =
+      record {
+        Own = P .World;
+        stands = λ w. w;
+        answer = λ c w. record { said = said c w; room = room c w };
+        after = after;
+        Fine = P .Fine;
+        Fair = P .Fair;
+      }
+
   abbrev pub machineOf : Machine (P .World) (P .Call) Said
-  machineOf = record { Own = P .World; stands = λ w. w; answer = said; after = after; Fine = P .Fine; Fair = P .Fair }
+  machineOf = narrowed (λ a. a .said) tellingOf
 
   -- the call of this kind
   abbrev pub callOf : Kind (P .OnState) → P .Call

@@ -8,6 +8,7 @@ use lib.ListN.{length}
 use Rattle.answers.specs.Refusals.{Check, firstRefusal}
 use Rattle.answers.specs.Refusing.{Refuses}
 use Rattle.answers.specs.Answers.{isRefusal}
+use Rattle.answers.specs.Word.{valueOf}
 use Rattle.boundary.specs.Product as product
 use Rattle.boundary.specs.Formed.{Formed}
 use Rattle.mailstate.specs.declared.State.{State}
@@ -52,7 +53,7 @@ named (show side) = refl
 named (on c) = refl
 
 pub formed : Formed mailboxes
-unfolding step refusedOr checks notRefused shown product.shown
+unfolding step refusedOr checks notRefused shown product.shown valueOf
 formed =
     record {
       there = λ w. refl;
@@ -68,4 +69,8 @@ formed =
       shows = λ side w. refl;
       looks = λ side w. refl;
       creates = λ a s t xs ys. record { answer = same-answer a s t xs ys; made = same-made a s t xs ys };
+      alone = λ c w e. refl;
+      shows-alone = λ side w. refl;
+      creates-alone = λ a w. refl;
+      valued = λ n. refl;
     }

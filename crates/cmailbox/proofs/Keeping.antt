@@ -186,6 +186,7 @@ kept =
           record { state = ranged-kept c w (t .state); first = k .0; second = k .1 };
       told-create = λ a w. told (create a) w (λ b. refl) (λ xs. refl);
       told-on = λ c h t. told (on c) (mailboxes .world h) (never-byte c) (never-part c);
+      room-on = λ c h t. omega arith;
       keeps-fit = λ c w h e. keeps-fit c w tt e;
       makes-fit = λ a w e. create-makes-fit (create a) w tt a refl e;
       sizes = λ c w. let s = keeps-stores c w tt in record { first = s .tobus; second = s .toloop };

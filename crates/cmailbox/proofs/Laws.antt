@@ -1,4 +1,5 @@
 -- The laws of the C functions of a mailbox, each by the law of any product. Assumes nothing.
+use Rattle.answers.specs.Answers.{Said}
 use Rattle.boundary.proofs.Laws as laws
 use Rattle.boundary.proofs.Opened as opened
 use Rattle.boundary.proofs.Runs as runs
@@ -8,7 +9,7 @@ use Rattle.boundary.proofs.Fitting as fitting
 use Rattle.boundary.proofs.Seen as seen
 use Rattle.cmailbox.specs.Mailbox.{mailboxes}
 use Rattle.cmailbox.specs.CLaws.{OneResultInC, ShownPlace, MisfitShowsNothing, MisfitRefused, WrongBlockRefused, RefusalKeepsAll, RefusedExactlyInC}
-use Rattle.cmailbox.specs.CLaws.{AnswersTold, BlockKeepsFit, CreateFits, LengthsStay, SameCall, SameEnd, SameWords, CallMeans, RunsMean}
+use Rattle.cmailbox.specs.CLaws.{RefusalAlone, AnswersTold, NoRoomTold, BlockKeepsFit, CreateFits, LengthsStay, SameCall, SameEnd, SameWords, CallMeans, RunsMean}
 use Rattle.cmailbox.specs.CLaws.{CIsTheMailbox, LawsHoldInC, AllHoldInC, AllLawsInC}
 use Rattle.maillaws.specs.Laws as all
 use Rattle.maillaws.proofs.Laws.{all-obeyed}
@@ -39,6 +40,12 @@ refused-exactly-in-c = refusals.refused-exactly-in-c mailboxes formed kept
 pub answers-told : AnswersTold
 answers-told = answers.answers-told mailboxes formed kept
 
+pub refusal-alone : RefusalAlone
+refusal-alone = refusals.refusal-alone mailboxes formed kept
+
+pub no-room-told : NoRoomTold
+no-room-told = answers.rooms-told mailboxes formed kept
+
 pub block-keeps-fit : BlockKeepsFit
 block-keeps-fit = fitting.block-keeps-fit mailboxes formed kept
 
@@ -64,13 +71,13 @@ pub runs-mean : RunsMean
 runs-mean = opened.runs-mean mailboxes formed kept
 
 pub c-is-the-mailbox : CIsTheMailbox
-c-is-the-mailbox = seen.c-is-the-product mailboxes formed kept
+c-is-the-mailbox = seen.c-answers-as-the-product mailboxes formed kept
 
 pub laws-hold-in-c : LawsHoldInC
-laws-hold-in-c = seen.laws-hold-in-c mailboxes formed kept
+laws-hold-in-c = seen.laws-hold-in-c mailboxes formed kept Said (λ a. a .said)
 
 pub all-hold-in-c : AllHoldInC
-all-hold-in-c = seen.all-hold-in-c mailboxes formed kept
+all-hold-in-c = seen.all-hold-in-c mailboxes formed kept Said (λ a. a .said)
 
 pub all-laws-in-c : AllLawsInC
 all-laws-in-c = all-hold-in-c all.laws all-obeyed

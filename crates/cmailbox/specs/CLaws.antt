@@ -1,12 +1,15 @@
 -- What holds of every C function of a mailbox, and of every run of them: the laws of the C functions of any product, said of this one.
+use mathlib.Core.Path.{_≡_}
 use Rattle.machine.specs.Opening.{Opens}
 use Rattle.machine.specs.Machine.{Obeys, ObeysAll}
 use mathlib.Core.List.{List}
+use Rattle.boundary.specs.CCalls.{Lent}
+use Rattle.boundary.specs.Numbers.{cRoom}
 use Rattle.boundary.specs.CLaws as laws
 use Rattle.boundary.specs.CRuns as runs
 use Rattle.boundary.specs.CRefusals as refusals
 use Rattle.boundary.specs.CFitting as fitting
-use Rattle.mailbox.specs.Calls.{step}
+use Rattle.mailbox.specs.Calls.{Call, step}
 use Rattle.maillaws.specs.Mailboxes.{Machine, Law, mailbox}
 use Rattle.maillaws.specs.Laws as all
 use Rattle.cmailbox.specs.Mailbox.{mailboxes}
@@ -38,9 +41,17 @@ RefusalKeepsAll = laws.RefusalKeepsAll mailboxes
 abbrev pub RefusedExactlyInC : Type 0
 RefusedExactlyInC = refusals.RefusedExactlyInC mailboxes
 
+-- a refusal is its number alone
+abbrev pub RefusalAlone : Type 0
+RefusalAlone = laws.RefusalAlone mailboxes
+
 -- the number of a C call tells its whole answer
 abbrev pub AnswersTold : Type 0
 AnswersTold = laws.AnswersTold mailboxes
+
+-- and no room beside it
+abbrev pub NoRoomTold : Type 0
+NoRoomTold = (c : Call) (l : Lent) → runs.Whole mailboxes l → cRoom mailboxes c l ≡ 0
 
 -- fitting is kept and made, and all lengths stay
 abbrev pub BlockKeepsFit : Type 0

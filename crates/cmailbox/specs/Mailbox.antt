@@ -22,7 +22,7 @@ kindOf (create a) = creating a
 kindOf (show side) = showing side
 kindOf (on c) = calling c
 
--- the first store is the way to the bus, the second the way to the loop; create is given the bus address
+-- the first store is the way to the bus, the second the way to the loop; create is given the bus address, and no call tells any room
 abbrev pub mailboxes : Product
 mailboxes =
     record {
@@ -44,6 +44,7 @@ mailboxes =
       kind = kindOf;
       Did = Did;
       saidIn = λ d. d .said;
+      roomIn = λ d. 0;
       leftIn = λ d. d .world;
       step = step;
       obeyed = sizesObeyed;

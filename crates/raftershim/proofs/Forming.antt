@@ -1,12 +1,13 @@
 -- The bridge is formed as a product with C functions has to be. Assumes nothing.
 use Prim.Native.Nat.{ℕ}
-use mathlib.Core.Path.{_≡_, refl, sym, subst}
+use mathlib.Core.Path.{_≡_, refl, sym, subst, _∙_}
 use mathlib.Core.Bool.{Bool, true, false, false≢true}
 use mathlib.Core.List.{List}
 use lib.ListN.{length}
 use Rattle.answers.specs.Refusals.{Check, firstRefusal}
 use Rattle.answers.specs.Refusing.{Refuses}
 use Rattle.answers.specs.Answers.{isRefusal}
+use Rattle.answers.specs.Word.{valueOf}
 use Rattle.boundary.specs.Product as product
 use Rattle.boundary.specs.Formed.{Formed}
 use Rattle.state.specs.declared.State.{State}
@@ -15,6 +16,7 @@ use Rattle.state.proofs.Fits.{rx-fits, tx-fits}
 use Rattle.block.proofs.Laws.{no-state-misfits}
 use Rattle.bridge.specs.Calls.{Call, create, show, on, World, world, Did, checks, notRefused, refusedOr, shown, step}
 use Rattle.laws.proofs.Answers as bridge-answers
+use Rattle.laws.proofs.Refusing.{by-refusal}
 use Rattle.raftershim.specs.Bridge.{callKind, bridges}
 
 -- the checks of a call are those of its kind
@@ -50,8 +52,19 @@ named (create m) = refl
 named (show side) = refl
 named (on c) = refl
 
+-- a refusal tells no room, and create tells none at all
+alone : (c : Call) (w : World) → isRefusal (step c w .said) ≡ true → step c w .room ≡ 0
+alone c w =
+    by-refusal (λ (d : Did). isRefusal (d .said) ≡ true → d .room ≡ 0) c w
+    (λ _ e. absurd (false≢true (sym (bridge-answers.accepted c w .taken) ∙ e)))
+    (λ _ e. refl)
+
+create-alone : (m : ℕ) (w : World) → step (create m) w .room ≡ 0
+unfolding notRefused
+create-alone m w = by-refusal (λ (d : Did). d .room ≡ 0) (create m) w (λ _. refl) (λ _. refl)
+
 pub formed : Formed bridges
-unfolding step refusedOr checks notRefused shown product.shown
+unfolding step refusedOr checks notRefused shown product.shown valueOf
 formed =
     record {
       there = λ w. refl;
@@ -67,4 +80,8 @@ formed =
       shows = λ side w. refl;
       looks = λ side w. refl;
       creates = λ m s t xs ys. record { answer = same-answer m s t xs ys; made = same-made m s t xs ys };
+      alone = alone;
+      shows-alone = λ side w. refl;
+      creates-alone = create-alone;
+      valued = λ n. refl;
     }

@@ -5,7 +5,7 @@ use Rattle.block.proofs.Laws.{start-ranged}
 use Rattle.bridge.specs.Calls.{create, on}
 use Rattle.laws.proofs.Fitting.{keeps-fit, create-fits-so, stores-stay, keeps-bytes}
 use Rattle.raftershim.specs.Bridge.{bridges}
-use Rattle.raftershim.proofs.Kept.{tx-kept, ranged-kept, done-ranged}
+use Rattle.raftershim.proofs.Kept.{tx-kept, ranged-kept, done-ranged, room-small}
 use Rattle.raftershim.proofs.Small.{told-or, create-told, on-told}
 
 pub kept : Kept bridges
@@ -21,6 +21,7 @@ kept =
           record { state = ranged-kept c w (t .state) (t .first); first = keeps-bytes c w b (t .first); second = tx-kept c w (t .state) (t .second) };
       told-create = λ m w. told-or (create m) w (λ _. create-told m w);
       told-on = λ c h t. let w = bridges .world h in told-or (on c) w (on-told c w (t .state) (t .first) (t .second));
+      room-on = λ c h t. room-small c (bridges .world h) (t .state) (t .first);
       keeps-fit = keeps-fit;
       makes-fit = create-fits-so;
       sizes = λ c w. let s = stores-stay c w in record { first = s .rx; second = s .tx };

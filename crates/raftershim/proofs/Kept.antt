@@ -31,8 +31,8 @@ use Rattle.laws.proofs.Small.{put-bytes}
 use Rattle.block.specs.States.{CountsRanged, Ranged}
 use Rattle.store.specs.Bytes.{Bytes}
 use Rattle.block.proofs.Laws.{counts-ranged, fits-ranged, obeyed-ranged}
-use Rattle.bridge.specs.Calls.{Call, on, create, reset, write, lineByte, lineBreak, key, nextLineByte, loopFrame}
-use Rattle.bridge.specs.Calls.{show, World, Did, checks, outcome, settledBy, txAfter, notRefused, refusedOr, step}
+use Rattle.bridge.specs.Calls.{OnState, Call, on, create, reset, write, lineByte, lineBreak, key, nextLineByte, loopFrame}
+use Rattle.bridge.specs.Calls.{show, World, Did, checks, outcome, settledBy, txAfter, roomOf, notRefused, refusedOr, step}
 use Rattle.laws.proofs.Refusing.{by-refusal}
 use Rattle.laws.proofs.Ways.{Way, isNext, isBack, isLast, isDamaged, isStored, isPassed, isCleared}
 use Rattle.laws.proofs.Ways.{isObeyed, isAssigned, isSendAsked, isTold, isFinishing, isReady, isIdentified, way}
@@ -188,3 +188,21 @@ done-ranged m w e = pick (sizesObeyed m (length (w .rx)) (length (w .tx))) refl
     pick : (t : Bool) → sizesObeyed m (length (w .rx)) (length (w .tx)) ≡ t → Ranged (step (create m) w .world .state)
     pick true q = made-ranged m w q
     pick false q = let z : refused 1 ≡ done = rw q at e in let o : _≡_ {A = ℕ} 0 1 = cc in absurd (omega (arith, o))
+
+-- ---- the room that is told
+
+-- no store of a state whose numbers fit their places has more room than 16 bits tell
+room-ranged : (c : OnState) (s : State) → Ranged s → roomOf c s < 65536
+unfolding roomOf
+room-ranged (lineByte b) s h = omega arith
+room-ranged (loopFrame f) s h = omega arith
+room-ranged reset s h = omega arith
+room-ranged (write n v) s h = omega arith
+room-ranged lineBreak s h = omega arith
+room-ranged key s h = omega arith
+room-ranged nextLineByte s h = omega arith
+
+pub room-small : (c : OnState) (w : World) → Ranged (w .state) → Bytes (w .rx) → step (on c) w .room < 65536
+unfolding notRefused
+room-small c w h k =
+    by-refusal (λ (d : Did). Ranged (d .world .state) → d .room < 65536) (on c) w (λ _ r. room-ranged c _ r) (λ _ r. omega arith) (ranged-kept (on c) w h k)

@@ -2,7 +2,7 @@
 use Rattle.boundary.proofs.Laws as laws
 use Rattle.boundary.proofs.Words as words
 use Rattle.raftershim.specs.Bridge.{bridges}
-use Rattle.raftershim.specs.CLaws.{OneResultInC, WordTells, ReservedZero, ShownPlace, MisfitShowsNothing, MisfitRefused, WrongBlockRefused, SameCall}
+use Rattle.raftershim.specs.CLaws.{OneResultInC, WordTells, ReservedZero, NoRoomAlone, ShownPlace, MisfitShowsNothing, MisfitRefused, WrongBlockRefused, SameCall}
 use Rattle.raftershim.proofs.Forming.{formed}
 
 pub one-result-in-c : OneResultInC
@@ -13,6 +13,9 @@ word-tells = words.word-tells
 
 pub reserved-zero : ReservedZero
 reserved-zero = words.reserved-zero
+
+pub no-room-alone : NoRoomAlone
+no-room-alone = words.no-room-alone
 
 pub misfit-refused : MisfitRefused
 misfit-refused = laws.misfit-refused bridges formed

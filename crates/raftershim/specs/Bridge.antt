@@ -38,6 +38,7 @@ bridges =
       kind = callKind;
       Did = Did;
       saidIn = λ d. d .said;
+      roomIn = λ d. d .room;
       leftIn = λ d. d .world;
       step = step;
       obeyed = sizesObeyed;

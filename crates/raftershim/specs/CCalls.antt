@@ -3,6 +3,7 @@
 use Prim.Native.Nat.{ℕ}
 use mathlib.Core.List.{List}
 use Rattle.answers.specs.Answers.{Said}
+use Rattle.answers.specs.Word.{wordWith}
 use Rattle.boundary.specs.CCalls as boundary
 use Rattle.state.specs.declared.State.{State}
 use Rattle.bridge.specs.Calls.{Call, World, Did}
@@ -32,7 +33,7 @@ blockAfter b d s = boundary.blockAfter bridges b d s
 
 -- what a call of the bridge did, for a caller that lent these buffers
 abbrev pub closed : Lent → Did → CDid
-closed l d = boundary.closed bridges l (d .said) (bridges .apart (d .world))
+closed l d = boundary.closed bridges l (wordWith (d .said) (d .room)) (d .said) (bridges .apart (d .world))
 
 -- Sizes and refusals, the table, create: a size, or the length of the block
 abbrev pub createdFor : Lent → Did → CDid

@@ -10,12 +10,16 @@ use Rattle.raftershim.specs.Bridge.{bridges}
 abbrev pub OneResultInC : Type 0
 OneResultInC = boundary.OneResultInC bridges
 
--- the number tells the kind and the value, and the reserved bits, 24 to 63, are 0
+-- the number tells the kind, the value and the room, and the reserved bits, 24 to 31 and 48 to 63, are 0
 abbrev pub WordTells : Type 0
 WordTells = numbers.WordTells
 
 abbrev pub ReservedZero : Type 0
 ReservedZero = numbers.ReservedZero
+
+-- where no room is told it is the number of the answer alone
+abbrev pub NoRoomAlone : Type 0
+NoRoomAlone = numbers.NoRoomAlone
 
 -- Sizes and refusals, showing: from the oldest byte on, as far as the bytes stand together, as a part of the buffer of that side
 abbrev pub ShownPlace : Type 0
@@ -28,6 +32,10 @@ MisfitShowsNothing = boundary.MisfitShowsNothing bridges
 -- Forms, answers: the number of a C call tells its whole answer
 abbrev pub AnswersTold : Type 0
 AnswersTold = boundary.AnswersTold bridges
+
+-- The request for the room left: and the room that the call tells beside it
+abbrev pub RoomsTold : Type 0
+RoomsTold = boundary.RoomsTold bridges
 
 -- ---- refusals
 
@@ -44,6 +52,10 @@ WrongBlockRefused = boundary.WrongBlockRefused bridges
 -- whatever the block is and how long it is
 abbrev pub RefusalKeepsAll : Type 0
 RefusalKeepsAll = boundary.RefusalKeepsAll bridges
+
+-- the same with the whole number, and so without any room
+abbrev pub RefusalAlone : Type 0
+RefusalAlone = boundary.RefusalAlone bridges
 
 -- ---- every C function is the call of its name
 

@@ -10,6 +10,13 @@ use Rattle.raftershim.specs.CCalls.{Lent}
 abbrev pub answerOf : ℕ → Said
 answerOf n = boundary.answerOf byte n
 
--- the answer of a C call
+-- the room that it tells, in bits 32 to 47
+abbrev pub roomTold : ℕ → ℕ
+roomTold n = boundary.roomTold n
+
+-- the answer of a C call, and the room
 abbrev pub cAnswer : Call → Lent → Said
 cAnswer c l = boundary.cAnswer bridges c l
+
+abbrev pub cRoom : Call → Lent → ℕ
+cRoom c l = boundary.cRoom bridges c l

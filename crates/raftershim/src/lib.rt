@@ -5,20 +5,20 @@ ghost use lib.ListN.{length};
 ghost use Rattle.answers.specs.Answers.{said, isRefusal};
 ghost use Rattle.block.specs.Packed.{blockLen};
 ghost use Rattle.bridge.specs.Calls.{create, show, on, reset, write, lineByte, lineBreak, key, nextLineByte, loopFrame};
-ghost use Rattle.answers.specs.Word.{word};
+ghost use Rattle.answers.specs.Word.{wordWith};
 ghost use Rattle.raftershim.specs.ShownWord.{placeOf};
 ghost use Rattle.raftershim.specs.CCalls.{lent, cDid, blockAfter, CPromised};
 use answers::Answer;
 use state::Outcome;
 use state::State;
 
-// Writes the state over the block, unless the call was refused, and gives the answer's number.
-fn finished(block: &mut [u8], o: Outcome) -> u64
+// Writes the state over the block, unless the call was refused, and gives the answer's number, which tells this room; 0 where none is told.
+fn finished(block: &mut [u8], o: Outcome, room: u16) -> u64
     requires { ⌜ (isRefusal (said (o .answer)) ≡ false → length (now block) ≡ blockLen) ⌝ }
-    ensures { λ r. ⌜ (r ≡ word (said (o .answer))) × (now (block .exit) ≡ blockAfter (now (block .entry)) (said (o .answer)) (o .state)) ⌝ }
+    ensures { λ r. ⌜ (r ≡ wordWith (said (o .answer)) room) × (now (block .exit) ≡ blockAfter (now (block .entry)) (said (o .answer)) (o .state)) ⌝ }
 {
     let a = o.answer;
-    let w = answers::word_of(a);
+    let w = answers::word_with(a, room);
     if answers::is_refusal(a) {
         return w;
     }
@@ -46,7 +46,7 @@ pub extern "C" fn raftershim_create(block: &mut [u8], rx: &[u8], tx: &[u8], marg
         return answers::word_of(Answer::Refused(1));
     }
     let o = bridge::create(rx, tx, margin as usize);
-    finished(block, o)
+    finished(block, o, 0)
 }
 
 // Resets the state.
@@ -58,7 +58,7 @@ pub extern "C" fn raftershim_reset(block: &mut [u8], rx: &[u8], tx: &[u8]) -> u6
 {
     let s = block::meaning(block);
     let o = bridge::reset(s, rx, tx);
-    finished(block, o)
+    finished(block, o, 0)
 }
 
 // Writes a register.
@@ -76,10 +76,10 @@ pub extern "C" fn raftershim_write_register(
 {
     let s = block::meaning(block);
     let o = bridge::write_register(s, rx, tx, number, value);
-    finished(block, o)
+    finished(block, o, 0)
 }
 
-// Takes a line byte.
+// Takes a line byte, and tells the room of the receive store.
 #[no_mangle]
 pub extern "C" fn raftershim_line_byte(block: &mut [u8], rx: &mut [u8], tx: &[u8], byte: u8) -> u64
     ensures { λ r. ⌜ CPromised (on (lineByte byte))
@@ -87,8 +87,9 @@ pub extern "C" fn raftershim_line_byte(block: &mut [u8], rx: &mut [u8], tx: &[u8
         (cDid r (now (block .exit)) (now (rx .exit)) (now (tx .entry))) ⌝ }
 {
     let s = block::meaning(block);
-    let o = bridge::line_byte(s, rx, tx, byte);
-    finished(block, o)
+    let taken = bridge::line_byte(s, rx, tx, byte);
+    let o = taken.outcome;
+    finished(block, o, taken.room)
 }
 
 // Takes a break on the line.
@@ -100,7 +101,7 @@ pub extern "C" fn raftershim_break(block: &mut [u8], rx: &mut [u8], tx: &[u8]) -
 {
     let s = block::meaning(block);
     let o = bridge::take_break(s, rx, tx);
-    finished(block, o)
+    finished(block, o, 0)
 }
 
 // Takes a press of the MSRQ key.
@@ -112,7 +113,7 @@ pub extern "C" fn raftershim_key(block: &mut [u8], rx: &[u8], tx: &[u8]) -> u64
 {
     let s = block::meaning(block);
     let o = bridge::take_key(s, rx, tx);
-    finished(block, o)
+    finished(block, o, 0)
 }
 
 // Gives the next line byte.
@@ -124,10 +125,10 @@ pub extern "C" fn raftershim_next_line_byte(block: &mut [u8], rx: &[u8], tx: &[u
 {
     let s = block::meaning(block);
     let o = bridge::next_line_byte(s, rx, tx);
-    finished(block, o)
+    finished(block, o, 0)
 }
 
-// Takes a loop frame, and gives one.
+// Takes a loop frame, gives one, and tells the room of the transmit store.
 #[no_mangle]
 pub extern "C" fn raftershim_loop_frame(
     block: &mut [u8],
@@ -140,8 +141,9 @@ pub extern "C" fn raftershim_loop_frame(
         (cDid r (now (block .exit)) (now (rx .entry)) (now (tx .exit))) ⌝ }
 {
     let s = block::meaning(block);
-    let o = bridge::loop_frame(s, rx, tx, frame);
-    finished(block, o)
+    let given = bridge::loop_frame(s, rx, tx, frame);
+    let o = given.outcome;
+    finished(block, o, given.room)
 }
 
 // Where the oldest byte of a side's store is.

@@ -1,3 +1,4 @@
+use mathlib.Core.Path.{refl}
 use Rattle.mailbox.specs.Calls.{busByte}
 use Rattle.boundary.proofs.Closing.{may-write, written}
 use Rattle.cmailbox.specs.Mailbox.{mailboxes}
@@ -17,4 +18,4 @@ raftershim-mailbox-bus-byte-spec =
     (λ c. search needs)
     (λ c. search needs)
     (λ c. written mailboxes formed (busByte _ _) _ _ _ _ (c .before .before .before .before .before .before .before .before .meaning .ensures) _
-    (c .before .before .before .before .before .before .bus-byte .ensures) _ _ (c .before .before .finished .ensures)))
+    (c .before .before .before .before .before .before .bus-byte .ensures) _ _ (c .before .before .finished .ensures) refl))

@@ -1,3 +1,4 @@
+use mathlib.Core.Path.{refl}
 use Rattle.mailbox.specs.Calls.{busCommand}
 use Rattle.boundary.proofs.Closing.{may-write, written}
 use Rattle.cmailbox.specs.Mailbox.{mailboxes}
@@ -15,4 +16,4 @@ raftershim-mailbox-bus-command-spec =
     (λ c κs. may-write mailboxes formed (busCommand _) _ _ _ _ (c .before .before .meaning .ensures) _ (c .before .bus-command .ensures))
     (λ c. search needs)
     (λ c. written mailboxes formed (busCommand _) _ _ _ _ (c .before .before .before .before .before .meaning .ensures) _ (c .before .before .before .before .bus-command .ensures) _ _
-    (c .before .before .finished .ensures)))
+    (c .before .before .finished .ensures) refl))

@@ -1,4 +1,4 @@
-use mathlib.Core.Path.{ap, _∙_}
+use mathlib.Core.Path.{refl, ap, _∙_}
 use Rattle.mailbox.specs.Calls.{busLines, Did}
 use Rattle.boundary.proofs.Closing.{looked}
 use Rattle.cmailbox.specs.Mailbox.{mailboxes}
@@ -16,4 +16,4 @@ raftershim-mailbox-bus-lines-spec =
     (λ c κs. search needs)
     (λ c κs. search needs)
     (λ c. looked mailboxes formed busLines _ _ _ _ (c .before .before .meaning .ensures) _ (c .before .bus-lines .ensures)
-    (ap (λ (d : Did). d .world) (c .before .bus-lines .ensures) ∙ lines-leave _ _ _) _ (c .word-of .ensures)))
+    (ap (λ (d : Did). d .world) (c .before .bus-lines .ensures) ∙ lines-leave _ _ _) _ (c .word-of .ensures) refl))

@@ -1,3 +1,4 @@
+use mathlib.Core.Path.{refl}
 use Rattle.mailbox.specs.Calls.{loopFrame}
 use Rattle.boundary.proofs.Closing.{may-write, written}
 use Rattle.cmailbox.specs.Mailbox.{mailboxes}
@@ -17,4 +18,4 @@ raftershim-mailbox-loop-frame-spec =
     (λ c. search needs)
     (λ c. search needs)
     (λ c. written mailboxes formed (loopFrame _) _ _ _ _ (c .before .before .before .before .before .before .before .before .meaning .ensures) _
-    (c .before .before .before .before .before .before .loop-frame .ensures) _ _ (c .before .before .finished .ensures)))
+    (c .before .before .before .before .before .before .loop-frame .ensures) _ _ (c .before .before .finished .ensures) refl))

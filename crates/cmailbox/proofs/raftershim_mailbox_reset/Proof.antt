@@ -1,3 +1,4 @@
+use mathlib.Core.Path.{refl}
 use Rattle.mailbox.specs.Calls.{reset}
 use Rattle.boundary.proofs.Closing.{may-write, written}
 use Rattle.cmailbox.specs.Mailbox.{mailboxes}
@@ -15,4 +16,4 @@ raftershim-mailbox-reset-spec =
     (λ c κs. may-write mailboxes formed reset _ _ _ _ (c .before .before .meaning .ensures) _ (c .before .reset .ensures))
     (λ c. search needs)
     (λ c. written mailboxes formed reset _ _ _ _ (c .before .before .before .before .before .meaning .ensures) _ (c .before .before .before .before .reset .ensures) _ _
-    (c .before .before .finished .ensures)))
+    (c .before .before .finished .ensures) refl))

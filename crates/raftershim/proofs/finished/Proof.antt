@@ -10,11 +10,11 @@ finished-spec =
     (tie.spec
     (λ c κs. search needs)
     (λ c κs. search needs)
-    (λ c. (c .before .before .word-of .ensures, sym (cond-true _ _ _ (sym (c .before .is-refusal .ensures) ∙ c .if1 .taken))))
+    (λ c. (c .before .before .word-with .ensures, sym (cond-true _ _ _ (sym (c .before .is-refusal .ensures) ∙ c .if1 .taken))))
     (λ c κs. c .before .before .before .before .before .before .pre (sym (c .before .before .before .is-refusal .ensures) ∙ c .before .before .if1 .left))
     (λ c. search needs)
     (λ c. (
-      c .before .before .before .before .before .before .before .word-of .ensures,
+      c .before .before .before .before .before .before .before .word-with .ensures,
       c .before .before .pack .ensures ∙
           sym (cond-false _ _ _
           (sym (c .before .before .before .before .before .before .is-refusal .ensures) ∙ c .before .before .before .before .before .if1 .left)),

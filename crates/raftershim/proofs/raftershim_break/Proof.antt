@@ -1,5 +1,5 @@
 use Rattle.bridge.specs.Calls.{lineBreak}
-use Rattle.boundary.proofs.Closing.{may-write, written}
+use Rattle.boundary.proofs.Closing.{may-write, written-with}
 use Rattle.raftershim.specs.Bridge.{bridges}
 use Rattle.raftershim.proofs.Forming.{formed}
 use borrow.Author.Needs.{needs}
@@ -16,5 +16,5 @@ raftershim-break-spec =
     (c .before .before .before .take-break .ensures))
     (λ c. search needs)
     (λ c. search needs)
-    (λ c. written bridges formed lineBreak _ _ _ _ (c .before .before .before .before .before .before .before .before .meaning .ensures) _
+    (λ c. written-with bridges formed lineBreak _ _ _ _ (c .before .before .before .before .before .before .before .before .meaning .ensures) _
     (c .before .before .before .before .before .before .take-break .ensures) _ _ (c .before .before .finished .ensures)))

@@ -1,6 +1,7 @@
 use mathlib.Core.Path.{refl, _∙_}
 use Rattle.answers.specs.Answers.{said}
 use Rattle.boundary.proofs.Closing.{wrong-length, create-written}
+use Rattle.boundary.proofs.Words.{no-room-alone}
 use Rattle.raftershim.specs.Bridge.{bridges}
 use Rattle.raftershim.proofs.Forming.{formed}
 use borrow.Author.Needs.{needs}
@@ -18,4 +19,4 @@ raftershim-create-spec =
     (λ c κs. search needs)
     (λ c. search needs)
     (λ c. create-written bridges formed _ _ _ _ _ _ (c .before .before .before .before .before .if1 .left) (c .before .before .before .before .create .ensures) refl refl _ _
-    (c .before .before .finished .ensures)))
+    (c .before .before .finished .ensures .0 ∙ no-room-alone _, c .before .before .finished .ensures .1)))

@@ -1,5 +1,5 @@
 use Rattle.bridge.specs.Calls.{nextLineByte}
-use Rattle.boundary.proofs.Closing.{may-write, written}
+use Rattle.boundary.proofs.Closing.{may-write, written-with}
 use Rattle.raftershim.specs.Bridge.{bridges}
 use Rattle.raftershim.proofs.Forming.{formed}
 use borrow.Author.Needs.{needs}
@@ -14,5 +14,5 @@ raftershim-next-line-byte-spec =
     (λ c κs. search needs)
     (λ c κs. may-write bridges formed nextLineByte _ _ _ _ (c .before .before .meaning .ensures) _ (c .before .next-line-byte .ensures))
     (λ c. search needs)
-    (λ c. written bridges formed nextLineByte _ _ _ _ (c .before .before .before .before .before .meaning .ensures) _ (c .before .before .before .before .next-line-byte .ensures) _ _
+    (λ c. written-with bridges formed nextLineByte _ _ _ _ (c .before .before .before .before .before .meaning .ensures) _ (c .before .before .before .before .next-line-byte .ensures) _ _
     (c .before .before .finished .ensures)))
