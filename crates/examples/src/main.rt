@@ -128,10 +128,10 @@ fn called(s: State, rx: &mut [u8], tx: &mut [u8], line: &[u8], first: u8) -> Sta
     match first {
         99 => answered(bridge::create(rx, tx, a as usize)),
         114 => answered(bridge::write_register(s, rx, tx, a, b)),
-        108 => answered(bridge::line_byte(s, rx, tx, (a % 256) as u8)),
+        108 => answered(bridge::line_byte(s, rx, tx, (a % 256) as u8).outcome),
         110 => answered(bridge::next_line_byte(s, rx, tx)),
-        102 => answered(bridge::loop_frame(s, rx, tx, a * 256 + b)),
-        97 => answered(bridge::loop_frame(s, rx, tx, a)),
+        102 => answered(bridge::loop_frame(s, rx, tx, a * 256 + b).outcome),
+        97 => answered(bridge::loop_frame(s, rx, tx, a).outcome),
         _ => s,
     }
 }

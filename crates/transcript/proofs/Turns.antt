@@ -10,7 +10,8 @@ use borrow.Author.Tests.{eq-eqb, ne-eqb, not-true, not-false}
 use Rattle.state.specs.declared.State.{State}
 use Rattle.state.specs.declared.Outcome.{Outcome}
 use Rattle.answers.specs.Answers.{said, faultOf, isByte, byteIn}
-use Rattle.bridge.specs.Calls.{on, write, lineByte, nextLineByte, loopFrame, World, world, Did, did, step}
+use Rattle.bridge.specs.declared.Told.{Told}
+use Rattle.bridge.specs.Calls.{on, write, lineByte, nextLineByte, loopFrame, World, world, Did, did, told, step}
 use Rattle.transcript.specs.declared.Set.{Set}
 use Rattle.transcript.specs.Text.{decimal, answerText, bytesText, overwritten, Wrote}
 use Rattle.transcript.specs.Input.{high}
@@ -63,9 +64,9 @@ take-step : (x : List ℕ) (n i : ℕ) (w : World) → 0 < n → takeBytes n x i
 unfolding takeBytes
 take-step x n i w h = ap (λ (k : ℕ). takeBytes k x i w) (one-left n h)
 
-pub take-again : (x rx rx′ tx : List ℕ) (t : State) (i n : ℕ) (o : Outcome) {total : World} → 0 < n →
-    did o rx′ tx ≡ step (on (lineByte (getD x i 0))) (world t rx tx) →
-    takeBytes n x i (world t rx tx) ≡ total → takeBytes (n - 1) x (i + 1) (world (o .state) rx′ tx) ≡ total
+pub take-again : (x rx rx′ tx : List ℕ) (t : State) (i n : ℕ) (o : Told) {total : World} → 0 < n →
+    told o rx′ tx ≡ step (on (lineByte (getD x i 0))) (world t rx tx) →
+    takeBytes n x i (world t rx tx) ≡ total → takeBytes (n - 1) x (i + 1) (world (o .outcome .state) rx′ tx) ≡ total
 take-again x rx rx′ tx t i n o h e inv =
     ap (λ (d : Did). takeBytes (n - 1) x (i + 1) (d .world)) e ∙ sym (take-step x n i (world t rx tx) h) ∙ inv
 
@@ -116,15 +117,16 @@ pub record Offering (x rx tx₀ : List ℕ) (i n : ℕ) (out₀ : List ℕ) (to 
   pub small : at + 2 * left < 65536
 
 pub offer-again : {x rx tx₀ : List ℕ} {i n : ℕ} {out₀ : List ℕ} {to : ℕ} {t₀ : State} {tx out : List ℕ} {t : State} {at left k : ℕ}
-    (o : Outcome) (f r : ℕ) (tx′ out′ : List ℕ) → 0 < left → Offering x rx tx₀ i n out₀ to t₀ tx out t at left k → f ≡ high x at →
-    did o rx tx′ ≡ step (on (loopFrame f)) (world t rx tx) → (Wrote out k (answerText (said (o .answer))) out′ r) × (r ≤ k + 12) →
-    Offering x rx tx₀ i n out₀ to t₀ tx′ out′ (o .state) (at + 2) (left - 1) r
+    (o : Told) (f r : ℕ) (tx′ out′ : List ℕ) → 0 < left → Offering x rx tx₀ i n out₀ to t₀ tx out t at left k → f ≡ high x at →
+    told o rx tx′ ≡ step (on (loopFrame f)) (world t rx tx) → (Wrote out k (answerText (said (o .outcome .answer))) out′ r) × (r ≤ k + 12) →
+    Offering x rx tx₀ i n out₀ to t₀ tx′ out′ (o .outcome .state) (at + 2) (left - 1) r
 offer-again {x} {rx} {tx₀} {i} {n} {out₀} {to} {t₀} {tx} {out} {t} {at} {left} {k} o f r tx′ out′ h p q e w =
-    let d : did o rx tx′ ≡ step (on (loopFrame (high x at))) (world t rx tx) = e ∙ ap (λ (g : ℕ). step (on (loopFrame g)) (world t rx tx)) q in
-    let next : framesText left x at (world t rx tx) ≡ answerText (said (o .answer)) ++ framesText (left - 1) x (at + 2) (world (o .state) rx tx′) =
+    let d : told o rx tx′ ≡ step (on (loopFrame (high x at))) (world t rx tx) = e ∙ ap (λ (g : ℕ). step (on (loopFrame g)) (world t rx tx)) q in
+    let next : framesText left x at (world t rx tx) ≡
+    answerText (said (o .outcome .answer)) ++ framesText (left - 1) x (at + 2) (world (o .outcome .state) rx tx′) =
     frames-step x left at (world t rx tx) h ∙ ap (λ (g : Did). answerText (g .said) ++ framesText (left - 1) x (at + 2) (g .world)) (sym d) in
     let there : Rest out₀ to (framesText n x i (world t₀ rx tx₀)) out k
-    (answerText (said (o .answer)) ++ framesText (left - 1) x (at + 2) (world (o .state) rx tx′)) = rw next at (p .text) in
+    (answerText (said (o .outcome .answer)) ++ framesText (left - 1) x (at + 2) (world (o .outcome .state) rx tx′)) = rw next at (p .text) in
     record {
       reached = ap (λ (g : Did). framesWorld (left - 1) x (at + 2) (g .world)) d ∙ sym (world-step x left at (world t rx tx) h) ∙ p .reached;
       text = rest-again (omega (arith, p .room, p .fits)) there (w .0);

@@ -10,4 +10,5 @@ use Rattle.transcript.specs.Transcript.{store}
 -- create is done, whatever state stood there, and leaves the state that the registers are then set in
 abbrev pub StartsCreated : Type 0
 StartsCreated =
-    (s : State) → step (create 8) (world s store store) ≡ record { said = done; world = world (startState 8 (length store) (length store)) store store }
+    (s : State) →
+    step (create 8) (world s store store) ≡ record { said = done; room = 0; world = world (startState 8 (length store) (length store)) store store }

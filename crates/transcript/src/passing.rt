@@ -1,4 +1,4 @@
-// The passing of registers, line bytes and frames to the bridge, and the asking for line bytes.
+// The passing of registers, line bytes and frames to the bridge, and the asking for line bytes. The room that a call tells is not printed.
 ghost use mathlib.Core.Path.{_≡_};
 ghost use Prim.Native.Nat.{_+_, _*_, _≤_, _<_};
 ghost use lib.ListN.{length};
@@ -50,8 +50,8 @@ pub fn take_bytes(s: State, rx: &mut [u8], tx: &[u8], x: &[u8], i: usize, n: usi
     let mut at = i;
     let mut left = n;
     while 0 < left {
-        let o = bridge::line_byte(t, rx, tx, x[at]);
-        t = o.state;
+        let told = bridge::line_byte(t, rx, tx, x[at]);
+        t = told.outcome.state;
         at = at + 1;
         left = left - 1;
     }
@@ -78,7 +78,8 @@ pub fn offer_frames(
     let mut left = n;
     let mut k = to;
     while 0 < left {
-        let o = bridge::loop_frame(t, rx, tx, crate::input::high32_at(x, at));
+        let told = bridge::loop_frame(t, rx, tx, crate::input::high32_at(x, at));
+        let o = told.outcome;
         let a = o.answer;
         k = crate::text::put_answer(out, k, a);
         t = o.state;

@@ -36,30 +36,30 @@ put-answer-requires : tie.Need-put-answer-requires Inv-loop μ-loop
 put-answer-requires c κs =
     omega (
       arith,
-      c .before .before .before .before .before .before .loop-test .taken,
-      c .before .before .before .before .before .before .before .loop .inv .0 .room,
-      c .before .before .before .before .before .before .before .loop .inv .0 .fits,
+      c .before .before .before .before .before .before .before .loop-test .taken,
+      c .before .before .before .before .before .before .before .before .loop .inv .0 .room,
+      c .before .before .before .before .before .before .before .before .loop .inv .0 .fits,
     )
 
 add-at : tie.Need-add-at Inv-loop μ-loop
 add-at c = omega (
   arith,
-  c .before .before .before .before .before .before .before .before .before .before .before .loop .inv .0 .small,
-  c .before .before .before .before .before .before .before .before .before .before .loop-test .taken,
+  c .before .before .before .before .before .before .before .before .before .before .before .before .loop .inv .0 .small,
+  c .before .before .before .before .before .before .before .before .before .before .before .loop-test .taken,
 )
 
 sub-left : tie.Need-sub-left Inv-loop μ-loop
-sub-left c = omega (arith, c .before .before .before .before .before .before .before .before .before .before .loop-test .taken)
+sub-left c = omega (arith, c .before .before .before .before .before .before .before .before .before .before .before .loop-test .taken)
 
 loop-less : tie.Need-loop-less Inv-loop μ-loop
-loop-less c = omega (arith, c .before .before .before .before .before .before .before .before .before .before .loop-test .taken)
+loop-less c = omega (arith, c .before .before .before .before .before .before .before .before .before .before .before .loop-test .taken)
 
 loop-again : tie.Need-loop-again Inv-loop μ-loop
 loop-again c = (
-  offer-again _ _ _ _ _ (c .before .before .before .before .before .before .before .before .before .before .loop-test .taken)
-      (c .before .before .before .before .before .before .before .before .before .before .before .loop .inv .0)
-      (c .before .before .before .before .before .before .before .before .high32-at .ensures)
-      (c .before .before .before .before .before .before .before .loop-frame .ensures) (c .before .before .before .put-answer .ensures),
+  offer-again _ _ _ _ _ (c .before .before .before .before .before .before .before .before .before .before .before .loop-test .taken)
+      (c .before .before .before .before .before .before .before .before .before .before .before .before .loop .inv .0)
+      (c .before .before .before .before .before .before .before .before .before .high32-at .ensures)
+      (c .before .before .before .before .before .before .before .before .loop-frame .ensures) (c .before .before .before .put-answer .ensures),
   search needs,
 )
 
