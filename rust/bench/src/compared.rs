@@ -56,13 +56,20 @@ mod tests {
     fn a_bridge_that_differs_is_found() {
         let (peer, idle) = (bridge::peer::SIDE, bridge::IDLE);
         assert!(beside::<Bridge>(peer).is_ok());
-        // A line byte is answered as it should be, and is not stored.
+        // A register is answered as it should be, and is not written.
         let quiet = bridge::Side {
+            write_register: idle.write_register,
+            ..peer
+        };
+        let told = beside::<Bridge>(quiet).expect_err("a register is missing");
+        assert_eq!(told, "WriteRegister(10, 8): the blocks or stores differ");
+        // A line byte is answered done, without the room that is left.
+        let mute = bridge::Side {
             line_byte: idle.line_byte,
             ..peer
         };
-        let told = beside::<Bridge>(quiet).expect_err("a byte is missing");
-        assert_eq!(told, "LineByte(50): the blocks or stores differ");
+        let told = beside::<Bridge>(mute).expect_err("the room is missing");
+        assert!(told.starts_with("LineByte(50): the answers are"), "{told}");
         let mute = bridge::Side {
             loop_frame: idle.loop_frame,
             ..peer

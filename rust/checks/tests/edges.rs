@@ -3,7 +3,7 @@
 
 use model::block::{LEN, VERSION};
 use model::boundary::{kind, value, REFUSED};
-use raftershim_checks::answer::{framed, refused, DONE};
+use raftershim_checks::answer::{framed, refused, with_room, DONE};
 use raftershim_checks::bridge::archive;
 use raftershim_checks::bridge::call::{frame, Call};
 use raftershim_checks::bridge::Pair;
@@ -93,16 +93,37 @@ fn every_frame_and_frames_that_do_not_exist() {
 #[test]
 fn sides_that_do_not_exist() {
     let mut pair = Pair::create(4, 3, 1);
-    pair.expect(frame(5, 129), framed(5, 130));
-    pair.expect(frame(4, 33), framed(4, 33));
-    pair.expect(frame(0, 65), framed(0, 65));
-    pair.expect(Call::Line(50), DONE);
+    pair.expect(frame(5, 129), with_room(3, framed(5, 130)));
+    pair.expect(frame(4, 33), with_room(3, framed(4, 33)));
+    pair.expect(frame(0, 65), with_room(2, framed(0, 65)));
+    pair.expect(Call::Line(50), with_room(3, DONE));
     let mut neither = 0;
     for side in (0..300).chain([1 << 8, 1 << 16, 1 << 16 | 1, 1 << 31, u32::MAX]) {
         pair.expect(Call::Show(side), u64::from(side < 2));
         neither += usize::from(side >= 2);
     }
     println!("edges, show: 2 sides, {neither} that are neither");
+}
+
+#[test]
+fn rooms_of_stores_of_many_lengths() {
+    let mut told = 0;
+    for rx_len in [4, 5, 255, 256, 257, 300, 32_767, 32_768] {
+        for tx_len in [3, 4, 255, 256, 257, 300, 32_767, 32_768] {
+            let mut pair = Pair::create(rx_len, tx_len, 1);
+            pair.expect(Call::Line(17), with_room(rx_len, DONE));
+            pair.expect(Call::Line(50), with_room(rx_len - 1, DONE));
+            pair.expect(frame(6, 0), with_room(tx_len, framed(6, 0)));
+            pair.expect(frame(5, 129), with_room(tx_len, framed(5, 130)));
+            pair.expect(frame(4, 33), with_room(tx_len, framed(4, 33)));
+            pair.expect(frame(0, 65), with_room(tx_len - 1, framed(0, 65)));
+            pair.expect(Call::Line(19), with_room(rx_len - 1, DONE));
+            pair.expect(frame(4, 20), with_room(tx_len, framed(4, 20)));
+            pair.expect(Call::Line(17), with_room(rx_len, DONE));
+            told += pair.asked();
+        }
+    }
+    println!("edges, rooms: {told} as written");
 }
 
 #[test]

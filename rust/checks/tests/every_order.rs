@@ -9,6 +9,7 @@
 use raftershim_checks::bridge::call::{frame, Call};
 use raftershim_checks::bridge::{planted, TheBridge, MODEL};
 use raftershim_checks::explore::{explore, Letter, Plan};
+use raftershim_checks::implementation::Both;
 use raftershim_checks::machine::Machine;
 use raftershim_checks::played::play;
 use raftershim_checks::tally::Tally;
@@ -293,6 +294,54 @@ fn all_together() {
         "frames kept for the line",
         "status bytes back",
     ]);
+}
+
+/// The script of the first difference between these two, on a receive store of 4 and a transmit
+/// store of 3.
+fn shortest(both: Both<TheBridge>, calls: &[Call]) -> Script {
+    let letters: Vec<Letter<Call>> = calls.iter().copied().map(Make).collect();
+    let told = explore(&Plan {
+        both,
+        lens: [4, 3],
+        number: 1,
+        start: &[],
+        letters: &letters,
+        limit: EVERY_STATE,
+    });
+    let told = told.err().expect("it is found");
+    script_in(&told).expect("a script").parse().expect("sound")
+}
+
+#[test]
+fn a_wrong_room_is_found_by_the_shortest_way() {
+    let calls = [Line(50), Line(17), ASSIGN, LISTEN, frame(0, 65), Next, Key];
+    let faults = [
+        planted::ROOM_BEFORE,
+        planted::OTHER_STORES_ROOM,
+        planted::ROOM_ONLY_WHERE_STORED,
+        planted::ROOM_IN_EVERY_ANSWER,
+    ];
+    for fault in faults {
+        // The model says it, and without a second opinion the history. One call shows it.
+        for both in [[fault, MODEL], [fault, fault]] {
+            let script = shortest(both, &calls);
+            assert_eq!(script.steps.len(), 1 + 1, "{script}");
+        }
+    }
+}
+
+/// A room that is told with a refusal shows only where there is some, though not enough: at an end
+/// byte that needs three places.
+#[test]
+fn a_room_that_is_told_with_a_refusal_is_found() {
+    let fault = planted::ROOM_WITH_REFUSAL;
+    let calls = [Register(10, 4), ASSIGN, LISTEN, frame(0, 65), frame(2, 66)];
+    for both in [[fault, MODEL], [fault, fault]] {
+        let script = shortest(both, &calls);
+        assert_eq!(script.steps.len(), 1 + 5, "{script}");
+        assert!(play([fault, MODEL], &script).is_err());
+        assert!(play(TheBridge::BOTH, &script).is_ok());
+    }
 }
 
 #[test]

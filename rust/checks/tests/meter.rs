@@ -2,14 +2,19 @@
 //! 25 volts. Here the app asks for the status before it speaks, and the overrun bit keeps it quiet.
 
 use model::boundary::value;
-use raftershim_checks::answer::{framed, DONE};
+use raftershim_checks::answer::{framed, with_room, DONE};
 use raftershim_checks::bridge::call::{frame, Call};
 use raftershim_checks::bridge::Pair;
 
 /// Status bit 5.
 const OVERRUN: u64 = 1 << 5;
-const OVER: u64 = framed(5, 64);
-const DAMAGED: u64 = framed(5, 65);
+const OVER: u64 = out(5, 64);
+const DAMAGED: u64 = out(5, 65);
+
+/// A frame that goes on while the transmit store is empty, which has three places.
+const fn out(control: u64, data: u64) -> u64 {
+    with_room(3, framed(control, data))
+}
 
 /// The app at its place on the loop, with the bridge behind it.
 struct App {
@@ -30,14 +35,16 @@ impl App {
     fn new() -> App {
         let mut bridge = Pair::create(4, 3, 1);
         bridge.expect(Call::Register(10, 8), DONE);
-        bridge.expect(frame(5, 129), framed(5, 130));
-        bridge.expect(frame(4, 65), framed(4, 65));
+        bridge.expect(frame(5, 129), out(5, 130));
+        bridge.expect(frame(4, 65), out(4, 65));
         App { bridge }
     }
 
     fn meter_sends(&mut self, bytes: &[u8]) {
         for &byte in bytes {
-            self.bridge.expect(Call::Line(byte), DONE);
+            let held = self.bridge.state().expect("a state").receive.held;
+            let room = 4_usize.saturating_sub(held + 1);
+            self.bridge.expect(Call::Line(byte), with_room(room, DONE));
         }
     }
 

@@ -1,10 +1,11 @@
 //! The model behind the boundary of the C functions: the state as a lent block, the answer as one
 //! number of 64 bits.
 //!
-//! Bits 0 to 15 of an answer are its value, bits 16 to 23 its kind; bits 24 to 63 are reserved and 0
-//! for now. What a call refuses leaves the block and both stores as they were. Nothing is allocated.
+//! Bits 0 to 15 of an answer are its value, bits 16 to 23 its kind, and bits 32 to 47 the room that
+//! is left where the call tells it; the other bits are reserved and 0 for now. What a call refuses
+//! leaves the block and both stores as they were. Nothing is allocated.
 
-use crate::{block, Answer, Bridge};
+use crate::{block, Answer, Bridge, WithRoom};
 
 /// Kind: done, and nothing to hand out.
 pub const DONE: u64 = 0;
@@ -29,7 +30,19 @@ pub fn value(answer: u64) -> u64 {
     answer & 0xffff
 }
 
-/// The one number that stands for an answer.
+/// The room that an answer tells, and 0 where it tells none.
+#[inline]
+pub fn room(answer: u64) -> u64 {
+    answer >> 32 & 0xffff
+}
+
+/// The one number that stands for an answer with its room.
+#[inline]
+fn with_room(told: WithRoom) -> u64 {
+    word(told.answer) | (told.room.unwrap_or(0) as u64) << 32
+}
+
+/// The one number that stands for an answer that tells no room.
 #[inline]
 pub fn word(answer: Answer) -> u64 {
     match answer {
@@ -58,16 +71,16 @@ pub fn create(block: &mut [u8], rx: &[u8], tx: &[u8], margin: u32) -> u64 {
 /// Makes a call on the state in the block: "a block that is not a fitting state gets refusal 2".
 /// The model's call itself asks whether the state fits.
 #[inline]
-fn on_state(block: &mut [u8], call: impl FnOnce(&mut Bridge) -> Answer) -> u64 {
+fn on_state<T: Into<WithRoom>>(block: &mut [u8], call: impl FnOnce(&mut Bridge) -> T) -> u64 {
     let mut bridge = match block::unpack(block) {
         Some(bridge) => bridge,
         None => return word(Answer::Refused(2)),
     };
-    let answer = call(&mut bridge);
-    if !matches!(answer, Answer::Refused(_)) {
+    let told = call(&mut bridge).into();
+    if !matches!(told.answer, Answer::Refused(_)) {
         block.copy_from_slice(&block::pack(&bridge));
     }
-    word(answer)
+    with_room(told)
 }
 
 /// Gives the block what create gives for the same sizes and margin.
@@ -80,7 +93,7 @@ pub fn write_register(block: &mut [u8], rx: &[u8], tx: &[u8], number: u32, value
     on_state(block, |bridge| bridge.write_register(rx, tx, number, value))
 }
 
-/// Takes a byte from the line.
+/// Takes a byte from the line, and tells the room of the receive store.
 pub fn line_byte(block: &mut [u8], rx: &mut [u8], tx: &[u8], byte: u8) -> u64 {
     on_state(block, |bridge| bridge.line_byte(rx, tx, byte))
 }
@@ -100,7 +113,7 @@ pub fn next_line_byte(block: &mut [u8], rx: &[u8], tx: &[u8]) -> u64 {
     on_state(block, |bridge| bridge.next_line_byte(rx, tx))
 }
 
-/// Takes a loop frame and gives the one that goes on.
+/// Takes a loop frame and gives the one that goes on, and tells the room of the transmit store.
 pub fn loop_frame(block: &mut [u8], rx: &[u8], tx: &mut [u8], frame: u32) -> u64 {
     on_state(block, |bridge| bridge.loop_frame(rx, tx, frame))
 }

@@ -24,6 +24,34 @@ pub enum Answer {
     Refused(u8),
 }
 
+/// What a call answers that tells how much room is left: the taking of a line byte that of the
+/// receive store, the taking of a loop frame that of the transmit store, whether or not a byte was
+/// stored.
+#[derive(Clone, Copy, Debug, PartialEq, Eq)]
+pub struct WithRoom {
+    pub answer: Answer,
+    /// How many bytes the store can still take after the call. A refusal tells no room.
+    pub room: Option<usize>,
+}
+
+impl WithRoom {
+    /// The answer with what the store says of its room, which is not asked after a refusal.
+    fn of(answer: Answer, room: impl FnOnce() -> usize) -> WithRoom {
+        let room = match answer {
+            Answer::Refused(_) => None,
+            _ => Some(room()),
+        };
+        WithRoom { answer, room }
+    }
+}
+
+/// The other calls tell no room.
+impl From<Answer> for WithRoom {
+    fn from(answer: Answer) -> WithRoom {
+        WithRoom { answer, room: None }
+    }
+}
+
 /// Talker phase: not addressed to talk.
 pub const IDLE: u8 = 0;
 /// Talker phase: addressed, not active.
@@ -144,6 +172,11 @@ impl Ring {
         } else {
             None
         }
+    }
+
+    /// How many bytes a store of this length can still take.
+    fn room(&self, len: usize) -> usize {
+        len - self.held
     }
 
     /// "each later one to the place after the one before, and nothing else in a store is written"
@@ -376,8 +409,13 @@ impl Bridge {
         Answer::Done
     }
 
-    /// Takes a byte from the line.
-    pub fn line_byte(&mut self, rx: &mut [u8], tx: &[u8], byte: u8) -> Answer {
+    /// Takes a byte from the line, and tells the room of the receive store.
+    pub fn line_byte(&mut self, rx: &mut [u8], tx: &[u8], byte: u8) -> WithRoom {
+        let answer = self.take_line_byte(rx, tx, byte);
+        WithRoom::of(answer, || self.receive.room(rx.len()))
+    }
+
+    fn take_line_byte(&mut self, rx: &mut [u8], tx: &[u8], byte: u8) -> Answer {
         if !self.fits(rx.len(), tx.len()) {
             return Answer::Refused(2);
         }
@@ -462,8 +500,14 @@ impl Bridge {
         Answer::Byte(byte)
     }
 
-    /// Takes a loop frame. "Each frame taken gives exactly one frame out."
-    pub fn loop_frame(&mut self, rx: &[u8], tx: &mut [u8], frame: u32) -> Answer {
+    /// Takes a loop frame, and tells the room of the transmit store.
+    pub fn loop_frame(&mut self, rx: &[u8], tx: &mut [u8], frame: u32) -> WithRoom {
+        let answer = self.take_frame(rx, tx, frame);
+        WithRoom::of(answer, || self.transmit.room(tx.len()))
+    }
+
+    /// "Each frame taken gives exactly one frame out."
+    fn take_frame(&mut self, rx: &[u8], tx: &mut [u8], frame: u32) -> Answer {
         if !self.fits(rx.len(), tx.len()) {
             return Answer::Refused(2);
         }
@@ -474,7 +518,7 @@ impl Bridge {
         let frame = frame as u16;
         // "4, busy: we are listener, the frame is data, the transmit store lacks room for what it
         // adds"
-        let free = self.transmit_len - self.transmit.held;
+        let free = self.transmit.room(self.transmit_len);
         if self.listener && frame >> 8 < 4 && free < self.added(frame) {
             return Answer::Refused(4);
         }
@@ -732,7 +776,7 @@ impl Bridge {
     }
 
     fn receive_free(&self) -> usize {
-        self.receive_len - self.receive.held
+        self.receive.room(self.receive_len)
     }
 
     /// "Bit 0 transmit empty, 1 transmit not full, 2 receive not empty, 3 receive full, 4 break, 5

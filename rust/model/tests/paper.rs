@@ -1,6 +1,8 @@
 //! The paper's examples, its list of slips and the whole-run demands, as calls on the model.
 
-use raftershim_model::{Answer, Bridge, ACTIVE_DATA, ACTIVE_STATUS, IDLE, SERVICE, UNASSIGNED};
+use raftershim_model::boundary::{self, room};
+use raftershim_model::{block, Answer, Bridge, WithRoom};
+use raftershim_model::{ACTIVE_DATA, ACTIVE_STATUS, IDLE, SERVICE, UNASSIGNED};
 use Answer::{Byte, Done, Frame, NoByte, Refused};
 
 /// A bridge together with its two stores.
@@ -52,15 +54,20 @@ impl World {
     }
 
     fn call(&mut self, call: Call) -> Answer {
+        self.told(call).answer
+    }
+
+    /// The answer with the room that it tells.
+    fn told(&mut self, call: Call) -> WithRoom {
         let (bridge, rx, tx) = (&mut self.bridge, &mut self.rx, &mut self.tx);
         let under_way = u32::from(bridge.under_way);
         match call {
-            Call::Reset => bridge.reset(rx, tx),
-            Call::Write(number, value) => bridge.write_register(rx, tx, number, value),
+            Call::Reset => bridge.reset(rx, tx).into(),
+            Call::Write(number, value) => bridge.write_register(rx, tx, number, value).into(),
             Call::Line(byte) => bridge.line_byte(rx, tx, byte),
-            Call::Break => bridge.take_break(rx, tx),
-            Call::Key => bridge.take_key(rx, tx),
-            Call::Next => bridge.next_line_byte(rx, tx),
+            Call::Break => bridge.take_break(rx, tx).into(),
+            Call::Key => bridge.take_key(rx, tx).into(),
+            Call::Next => bridge.next_line_byte(rx, tx).into(),
             Call::Loop(frame) => bridge.loop_frame(rx, tx, frame),
             Call::Echo => bridge.loop_frame(rx, tx, under_way),
             Call::Damage => bridge.loop_frame(rx, tx, under_way ^ 1),
@@ -984,4 +991,79 @@ fn every_call_ends_on_drawn_states() {
     let [misfit, refused, taken] = count;
     println!("{misfit} misfits, {refused} other refusals, {taken} calls taken");
     assert!(misfit > 0 && refused > 0 && taken > 0);
+}
+
+/// What a call tells of the room, after its answer.
+fn room_told(world: &mut World, call: Call) -> (Answer, Option<usize>) {
+    let told = world.told(call);
+    (told.answer, told.room)
+}
+
+#[test]
+fn a_line_byte_tells_the_room_of_the_receive_store() {
+    let mut world = World::after(4, 3, 1, &[Call::Write(11, 8)]);
+    for (byte, room) in [(50, 3), (17, 3), (19, 3), (51, 2), (52, 1), (53, 0)] {
+        assert_eq!(room_told(&mut world, Call::Line(byte)), (Done, Some(room)));
+    }
+    // It is lost, and so there is still none; go is taken beside a full store.
+    assert_eq!(room_told(&mut world, Call::Line(54)), (Done, Some(0)));
+    assert_eq!(room_told(&mut world, Call::Line(17)), (Done, Some(0)));
+    assert_eq!(world.bridge.lost, 1);
+}
+
+#[test]
+fn a_frame_tells_the_room_of_the_transmit_store() {
+    let mut world = World::after(6, 7, 2, &[Call::Write(10, 4), Call::Line(50)]);
+    let passed = |control, data, room| (offer(control, data), Frame(f(control, data)), Some(room));
+    let steps = [
+        (offer(5, 129), Frame(f(5, 130)), Some(7)),
+        passed(6, 0, 7),
+        passed(0, 65, 7),
+        passed(4, 33, 7),
+        passed(0, 65, 6),
+        passed(2, 66, 3),
+        passed(6, 1, 3),
+        passed(4, 65, 3),
+        (offer(5, 96), Frame(f(0, 50)), Some(3)),
+        (Call::Damage, Frame(f(5, 65)), Some(3)),
+        passed(4, 33, 3),
+        passed(2, 67, 0),
+        (offer(0, 68), Refused(4), None),
+        (Call::Loop(2048), Refused(3), None),
+        passed(4, 20, 7),
+    ];
+    for (call, answer, room) in steps {
+        assert_eq!(room_told(&mut world, call), (answer, room), "{call:?}");
+    }
+}
+
+#[test]
+fn no_other_call_tells_any_room() {
+    let mut world = World::after(4, 3, 1, &[Call::Line(50)]);
+    let calls = [
+        Call::Next,
+        Call::Break,
+        Call::Key,
+        Call::Write(10, 8),
+        Call::Write(3, 0),
+        Call::Reset,
+    ];
+    for call in calls {
+        assert_eq!(world.told(call).room, None, "{call:?}");
+    }
+    let (mut rx, tx) = ([0; 5], [0; 3]);
+    assert_eq!(world.bridge.line_byte(&mut rx, &tx, 50).room, None);
+}
+
+#[test]
+fn the_number_of_an_answer_has_the_room_in_bits_32_to_47() {
+    let (mut rx, mut tx) = (vec![0; 32_768], vec![0; 3]);
+    let mut lent = [0; block::LEN];
+    assert_eq!(boundary::create(&mut lent, &rx, &tx, 1024), 0);
+    let number = boundary::line_byte(&mut lent, &mut rx, &tx, 17);
+    assert_eq!((number, room(number)), (32_768 << 32, 32_768));
+    let number = boundary::loop_frame(&mut lent, &rx, &mut tx, 0x581);
+    assert_eq!((number, room(number)), (3 << 32 | 3 << 16 | 0x582, 3));
+    let number = boundary::loop_frame(&mut lent, &rx, &mut tx, 2048);
+    assert_eq!((number, room(number)), (4 << 16 | 3, 0));
 }

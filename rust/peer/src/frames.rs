@@ -4,7 +4,7 @@ use crate::block::*;
 use crate::requests::{conditions, shows};
 use crate::ring::{RECEIVE, TRANSMIT};
 use crate::sending::{send, END};
-use crate::{FRAME, MISFIT, REFUSED};
+use crate::{with_room, FRAME, MISFIT, REFUSED};
 
 /// The talker's phases.
 const IDLE: u8 = 0;
@@ -47,7 +47,7 @@ fn taken(block: &mut Block, rx: &[u8], tx: &mut [u8], frame: u32) -> u64 {
         5 => ready(block, rx, data, service),
         _ => frame | service,
     };
-    FRAME | u64::from(out)
+    with_room(FRAME | u64::from(out), TRANSMIT.free(block))
 }
 
 /// Stores what a data frame adds for the line; false if there is no room for all of it.

@@ -22,7 +22,8 @@ use block::*;
 use requests::Watch;
 use ring::{RECEIVE, TRANSMIT};
 
-/// The answers: a kind in bits 16 to 23 above its value.
+/// The answers: a kind in bits 16 to 23 above its value. Where a call tells the room that is left, it
+/// is in bits 32 to 47.
 const DONE: u64 = 0;
 const NONE: u64 = 1 << 16;
 const BYTE: u64 = 2 << 16;
@@ -34,6 +35,12 @@ const MISFIT: u64 = REFUSED | 2;
 
 /// Bit 3 of a control register.
 const BIT_3: u8 = 8;
+
+/// An answer that tells this room.
+#[inline(always)]
+fn with_room(answer: u64, room: u16) -> u64 {
+    answer | u64::from(room) << 32
+}
 
 /// Makes a state in the block.
 pub fn create(block: &mut [u8], rx: &[u8], tx: &[u8], margin: u32) -> u64 {
@@ -105,23 +112,24 @@ fn taken(block: &mut Block, rx: &mut [u8], byte: u8) -> u64 {
     let protocol = block[R11] == BIT_3;
     if protocol && (byte == block[GO] || byte == block[STOP]) {
         block[FORBIDDEN] = (byte == block[STOP]).into();
-        return DONE;
+        return with_room(DONE, RECEIVE.free(block));
     }
     let watch = Watch::enabled(block);
-    let free = RECEIVE.free(block);
+    let mut free = RECEIVE.free(block);
     if free == 0 {
         block[OVERRUN_SEEN] = 1;
         block[OVERRUN_AGAIN] = 1;
         count(block, LOST);
     } else {
         RECEIVE.put(block, rx, byte);
+        free -= 1;
         count(block, STORED);
-        if protocol && free - 1 <= word(block, MARGIN) {
+        if protocol && free <= word(block, MARGIN) {
             block[HOLDING] = 1;
         }
     }
     watch.settle(block);
-    DONE
+    with_room(DONE, free)
 }
 
 /// Takes a break.

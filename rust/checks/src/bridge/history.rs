@@ -5,7 +5,7 @@ use super::call::{frame, Call};
 use super::rule::Rule;
 use super::second;
 use super::seen::{seen, Seen};
-use super::told::{Act, Reader, Told, Worth};
+use super::told::{Act, Heard, Reader, Told, Worth};
 use crate::lent::Buffers;
 use model::boundary::value;
 use model::{block, Bridge, UNASSIGNED};
@@ -164,6 +164,23 @@ impl History {
         self.become_of(held.len(), Fate::Missing);
     }
 
+    /// A call that the app itself makes.
+    fn act_of_app(&mut self, call: Call) -> Told {
+        let go = self.state().registers.c[4];
+        let (answer, seen) = self.call(call, By::App);
+        match (call, seen) {
+            (Call::Line(_), Seen::Accepted(_)) => Told::LineByte(LineByte::Stored),
+            (Call::Line(_), Seen::Lost) => Told::LineByte(LineByte::Lost),
+            (Call::Line(byte), _) if byte == go => Told::LineByte(LineByte::Go),
+            (Call::Line(_), _) => Told::LineByte(LineByte::Stop),
+            (Call::Reset, _) => {
+                self.call(FIND_LINE_ENDS, By::App);
+                Told::Answer(Ok(Answer::Done))
+            }
+            _ => Told::Answer(Answer::of(answer)),
+        }
+    }
+
     /// Plays the controller until a reading has ended, or nothing more is sent.
     fn read(&mut self) -> Told {
         if self.ended.is_empty() {
@@ -188,28 +205,25 @@ impl History {
 }
 
 impl Reader for History {
-    fn act(&mut self, act: Act) -> Told {
-        let call = match act {
-            Act::Read => return self.read(),
+    /// The room of the receive store goes by the bytes of the line that are held.
+    fn act(&mut self, act: Act) -> Heard {
+        let told = match act {
+            Act::Read => self.read(),
             Act::Gap => {
                 self.line.push((0, Fate::Missing));
-                return Told::Answer(Ok(Answer::Done));
-            }
-            Act::Call(call) => call,
-        };
-        let go = self.state().registers.c[4];
-        let (answer, seen) = self.call(call, By::App);
-        match (call, seen) {
-            (Call::Line(_), Seen::Accepted(_)) => Told::LineByte(Ok(LineByte::Stored)),
-            (Call::Line(_), Seen::Lost) => Told::LineByte(Ok(LineByte::Lost)),
-            (Call::Line(byte), _) if byte == go => Told::LineByte(Ok(LineByte::Go)),
-            (Call::Line(_), _) => Told::LineByte(Ok(LineByte::Stop)),
-            (Call::Reset, _) => {
-                self.call(FIND_LINE_ENDS, By::App);
                 Told::Answer(Ok(Answer::Done))
             }
-            _ => Told::Answer(Answer::of(answer)),
-        }
+            Act::Call(call) => self.act_of_app(call),
+        };
+        let state = self.state();
+        let room = match (act, &told) {
+            (Act::Read | Act::Call(Call::Line(_)), _) => state.receive_len - self.held().len(),
+            (Act::Call(Call::Frame(_)), Told::Answer(Ok(_))) => {
+                state.transmit_len - state.transmit.held
+            }
+            _ => return (told, None),
+        };
+        (told, Some(room as u16))
     }
 
     fn block(&self) -> [u8; BLOCK_LEN] {

@@ -9,6 +9,7 @@ mod draws;
 pub mod history;
 pub mod planted;
 pub mod promises;
+mod room;
 pub mod rule;
 pub mod run;
 mod scripted;

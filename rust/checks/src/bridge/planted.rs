@@ -1,9 +1,13 @@
 //! Wrong bridges, each the model with one fault planted: the checks must find every one.
 
 use super::call::Call;
-use super::TheBridge;
+use super::{Lent, TheBridge};
 use crate::implementation::Implementation as Any;
-use crate::planted::{changed, last_place_unwritten, planted, refused_yet_changed, version_taken};
+use crate::planted::{
+    changed, last_place_unwritten, planted, refused_yet_changed, right, version_taken,
+};
+use model::boundary::{kind, REFUSED};
+use model::{block, Bridge};
 
 type Implementation = Any<TheBridge>;
 
@@ -33,3 +37,86 @@ pub const LAST_PLACE_UNWRITTEN: Implementation = planted(last_place_unwritten::<
 
 /// Blocks of version 0 are taken as ours.
 pub const ANOTHER_VERSION_TAKEN: Implementation = planted(version_taken::<TheBridge, 0>);
+
+/// What is free in the receive and in the transmit store.
+fn free(state: &Bridge) -> [usize; 2] {
+    [
+        state.receive_len.saturating_sub(state.receive.held),
+        state.transmit_len.saturating_sub(state.transmit.held),
+    ]
+}
+
+/// Makes a call as the model does and tells another room: the one that is picked from what was free
+/// before the call and what is free after it, in the place of the right one.
+fn telling(
+    mut lent: Lent,
+    call: Call,
+    pick: fn(before: [usize; 2], after: [usize; 2], of: usize) -> usize,
+) -> u64 {
+    let before = block::unpack(lent.block);
+    let answer = right::<TheBridge>(lent.again(), call);
+    let of = match call {
+        Call::Line(_) => 0,
+        Call::Frame(_) => 1,
+        _ => return answer,
+    };
+    match (before, block::unpack(lent.block)) {
+        (Some(before), Some(after)) if kind(answer) != REFUSED => {
+            let room = pick(free(&before), free(&after), of);
+            answer & 0xffff_ffff | (room as u64) << 32
+        }
+        _ => answer,
+    }
+}
+
+/// The room told is that from before the call.
+pub const ROOM_BEFORE: Implementation =
+    planted(|lent, call| telling(lent, call, |before, _, of| before[of]));
+
+/// The room told is that of the other store.
+pub const OTHER_STORES_ROOM: Implementation =
+    planted(|lent, call| telling(lent, call, |_, after, of| after[1 - of]));
+
+/// No room is told where nothing went in: at go, at stop, and at a frame that stores nothing.
+pub const ROOM_ONLY_WHERE_STORED: Implementation = planted(|lent, call| {
+    telling(lent, call, |before, after, of| {
+        match after[of] < before[of] {
+            true => after[of],
+            false => 0,
+        }
+    })
+});
+
+/// A frame that is refused as busy tells the room that there is.
+pub const ROOM_WITH_REFUSAL: Implementation = planted(|mut lent, call| {
+    let answer = right::<TheBridge>(lent.again(), call);
+    match block::unpack(lent.block) {
+        Some(state) if answer == REFUSED << 16 | 4 => answer | (free(&state)[1] as u64) << 32,
+        _ => answer,
+    }
+});
+
+/// A device clear leaves a byte in the transmit store. The room that is told and the block agree.
+pub const CLEARED_BUT_ONE: Implementation = planted(|lent, call| {
+    let mut left = 0;
+    let answer = changed::<TheBridge>(lent, call, |before, after| {
+        if matches!(call, Call::Frame(0x414)) {
+            left = before.transmit.held.min(1);
+            after.transmit.held = left;
+        }
+    });
+    answer - ((left as u64) << 32)
+});
+
+/// The calls that tell no room tell that of the receive store.
+pub const ROOM_IN_EVERY_ANSWER: Implementation = planted(|mut lent, call| {
+    let answer = right::<TheBridge>(lent.again(), call);
+    match (call, block::unpack(lent.block)) {
+        (Call::Next | Call::Break | Call::Key | Call::Register(..) | Call::Reset, Some(state))
+            if kind(answer) != REFUSED =>
+        {
+            answer | (free(&state)[0] as u64) << 32
+        }
+        _ => answer,
+    }
+});

@@ -1,6 +1,7 @@
 //! The history of one run, kept whole, and demand 3 read literally against it.
 
 use super::promises::Promises;
+use super::room;
 use super::rule::Rule;
 use super::seen::{seen, Seen};
 use super::watch::counted;
@@ -12,6 +13,8 @@ use model::{Bridge, Ring};
 pub struct Run {
     /// Bytes held for the loop at the start, then all accepted.
     accepted: Vec<u8>,
+    /// How many of those the sends have read off, by the reading rule.
+    read_off: usize,
     /// Data frames sent from the receive store, the service bit aside.
     sent: Vec<u16>,
     /// Bytes held for the line at the start, then all added.
@@ -31,6 +34,7 @@ impl Watcher<TheBridge> for Run {
     fn starting(state: &Bridge, [rx, tx]: [&[u8]; 2]) -> Run {
         Run {
             accepted: held(state.receive, rx),
+            read_off: 0,
             sent: Vec::new(),
             added: held(state.transmit, tx),
             handed_out: Vec::new(),
@@ -39,26 +43,29 @@ impl Watcher<TheBridge> for Run {
     }
 
     /// Writes down a call. A register write, a device clear and a reset end the run that demand 3
-    /// speaks of: it is held to the demand as it was before them, and the next one starts. None of
-    /// the three writes a store.
+    /// speaks of: it is held to the demand as it was before them, and the next one starts with what
+    /// is left by history. None of the three writes a store.
     fn note(&mut self, made: &Made<TheBridge>) -> Result<u32, String> {
         let (before, after) = (made.before, made.after);
         let event = seen(before, made.call, made.answer);
         match event {
             Seen::Accepted(byte) => self.accepted.push(byte),
-            Seen::Sent(frame) => self.sent.push(frame),
+            Seen::Sent(frame) => {
+                self.sent.push(frame);
+                self.read(before);
+            }
+            Seen::SentNone => self.read(before),
             Seen::Added(bytes, len) => self.added.extend_from_slice(&bytes[..len]),
             Seen::HandedOut(byte) => self.handed_out.push(byte),
             Seen::Register | Seen::DeviceClear | Seen::Reset => {
                 self.check(before, made.stores)?;
-                let promises = self.promises;
-                *self = Run::starting(after, made.stores);
-                self.promises = promises;
+                self.start_again(event != Seen::Register);
             }
             _ => {}
         }
         counted(event, before, after)?;
         self.promises.note(before, event, after)?;
+        room::told(made.call, made.answer, self.free(made.stores))?;
         Ok(event.rows())
     }
 
@@ -78,5 +85,36 @@ impl Watcher<TheBridge> for Run {
             return Err("line bytes given and held are not those added".into());
         }
         Ok(())
+    }
+}
+
+impl Run {
+    /// A send reads off what the reading rule says of the bytes accepted.
+    fn read(&mut self, before: &Bridge) {
+        let unread = &self.accepted[self.read_off..];
+        self.read_off += Rule::of(&before.registers).send(unread).0;
+    }
+
+    /// Starts the next run with what this one, which was checked, has left; with nothing if that is
+    /// thrown away.
+    fn start_again(&mut self, thrown_away: bool) {
+        self.accepted.drain(..self.read_off);
+        self.added.drain(..self.handed_out.len());
+        if thrown_away {
+            self.accepted.clear();
+            self.added.clear();
+        }
+        self.read_off = 0;
+        self.sent.clear();
+        self.handed_out.clear();
+    }
+
+    /// What is free in the receive and in the transmit store, by what came in and what went out and
+    /// not by what the block has written down.
+    fn free(&self, [rx, tx]: [&[u8]; 2]) -> [usize; 2] {
+        [
+            (rx.len() + self.read_off).saturating_sub(self.accepted.len()),
+            (tx.len() + self.handed_out.len()).saturating_sub(self.added.len()),
+        ]
     }
 }

@@ -19,11 +19,11 @@ impl Scripted for TheBridge {
             } => return Line::Create([receive, transmit].map(|len| len as usize), margin),
             script::Call::Restore(ref block) => return Line::Restore(block.clone()),
             script::Call::State | script::Call::Mailbox(_) => return Line::Calls(Vec::new()),
-            script::Call::Line(ref bytes) => {
+            script::Call::Line(ref bytes) | script::Call::LineAndRoom(ref bytes) => {
                 return Line::Calls(bytes.iter().copied().map(Call::Line).collect())
             }
             script::Call::Next => Call::Next,
-            script::Call::Frame(frame) => Call::Frame(frame),
+            script::Call::Frame(frame) | script::Call::FrameAndRoom(frame) => Call::Frame(frame),
             script::Call::Break => Call::Break,
             script::Call::Key => Call::Key,
             script::Call::Register { number, value } => Call::Register(number, value),

@@ -1,7 +1,8 @@
 //! What an app does at a meter's bridge, and what it is told.
 
 use super::call::Call;
-use raftershim::{Answer, Answered, Frame, LineByte, Meter, Reading, Refusal, Register, BLOCK_LEN};
+use raftershim::BLOCK_LEN;
+use raftershim::{Answer, Answered, Frame, LineByte, Meter, Reading, Refusal, Register, WithRoom};
 
 /// What the app does.
 #[derive(Clone, Copy, Debug, PartialEq, Eq)]
@@ -26,13 +27,16 @@ pub enum Worth {
 #[derive(Clone, Debug, PartialEq, Eq)]
 pub enum Told {
     Answer(Answered),
-    LineByte(Result<LineByte, Refusal>),
+    LineByte(LineByte),
     Reading(Worth, Vec<u8>),
 }
 
+/// What an act gives, and the room that it tells, if it tells any.
+pub type Heard = (Told, Option<u16>);
+
 /// One that is told readings: the meter, the history, or one with a fault planted.
 pub trait Reader {
-    fn act(&mut self, act: Act) -> Told;
+    fn act(&mut self, act: Act) -> Heard;
 
     /// The block after it.
     fn block(&self) -> [u8; BLOCK_LEN];
@@ -45,18 +49,19 @@ where
     G: AsRef<[u8]> + AsMut<[u8]>,
     X: AsRef<[u8]> + AsMut<[u8]>,
 {
-    fn act(&mut self, act: Act) -> Told {
+    fn act(&mut self, act: Act) -> Heard {
         let call = match act {
-            Act::Read => return told(self.reading()),
-            Act::Gap => return Told::Answer(self.line_gap().map(Answer::from)),
+            Act::Read => return heard(self.reading_and_room(), told),
+            Act::Gap => return (Told::Answer(self.line_gap().map(Answer::from)), None),
             Act::Call(call) => call,
         };
-        Told::Answer(match call {
-            Call::Line(byte) => return Told::LineByte(self.line_byte(byte)),
+        let answered = match call {
+            Call::Line(byte) => return heard(self.line_byte_and_room(byte), Told::LineByte),
+            Call::Frame(frame) => {
+                let taken = Frame::try_from(frame).and_then(|out| self.loop_frame_and_room(out));
+                return heard(taken, |out| Told::Answer(Ok(out.into())));
+            }
             Call::Next => self.next_line_byte().map(Answer::from),
-            Call::Frame(frame) => Frame::try_from(frame)
-                .and_then(|frame| self.loop_frame(frame))
-                .map(Answer::from),
             Call::Break => self.line_break().map(Answer::from),
             Call::Key => self.key().map(Answer::from),
             Call::Register(number, value) => Register::try_from(number)
@@ -64,7 +69,8 @@ where
                 .map(Answer::from),
             Call::Reset => self.reset().map(Answer::from),
             Call::Show(_) => Ok(Answer::Done),
-        })
+        };
+        (Told::Answer(answered), None)
     }
 
     fn block(&self) -> [u8; BLOCK_LEN] {
@@ -72,12 +78,19 @@ where
     }
 }
 
-fn told(reading: Result<Reading, Refusal>) -> Told {
+/// What an act gave that tells a room, unless it is refused.
+fn heard<T>(given: Result<WithRoom<T>, Refusal>, told: impl FnOnce(T) -> Told) -> Heard {
+    match given {
+        Ok(given) => (told(given.answer), Some(given.room)),
+        Err(refusal) => (Told::Answer(Err(refusal)), None),
+    }
+}
+
+fn told(reading: Reading) -> Told {
     match reading {
-        Ok(Reading::Whole(text)) => Told::Reading(Worth::Whole, text.as_bytes().to_vec()),
-        Ok(Reading::Gap(text)) => Told::Reading(Worth::Gap, text.as_bytes().to_vec()),
-        Ok(Reading::NotEnded(text)) => Told::Reading(Worth::NotEnded, text.as_bytes().to_vec()),
-        Ok(other) => panic!("{other:?}"),
-        Err(refusal) => Told::Answer(Err(refusal)),
+        Reading::Whole(text) => Told::Reading(Worth::Whole, text.as_bytes().to_vec()),
+        Reading::Gap(text) => Told::Reading(Worth::Gap, text.as_bytes().to_vec()),
+        Reading::NotEnded(text) => Told::Reading(Worth::NotEnded, text.as_bytes().to_vec()),
+        other => panic!("{other:?}"),
     }
 }

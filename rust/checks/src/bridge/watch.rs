@@ -2,6 +2,7 @@
 
 use super::call::Call;
 use super::promises::Promises;
+use super::room;
 use super::rule::Rule;
 use super::seen::{seen, Seen};
 use super::TheBridge;
@@ -36,6 +37,10 @@ impl Watcher<TheBridge> for Watch {
         if let Call::Show(side) = made.call {
             self.shown(side, made.answer, made.stores)?;
         }
+        let [rx, tx] = made.stores;
+        let held = [self.unread.cells().len(), self.waiting.cells().len()];
+        let free = [rx.len() - held[0], tx.len() - held[1]];
+        room::told(made.call, made.answer, free)?;
         Ok(event.rows())
     }
 }

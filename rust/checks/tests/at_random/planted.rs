@@ -80,3 +80,63 @@ fn a_block_of_another_version_that_is_taken() {
     let found = Kind::ON_DAMAGED.found([fault, MODEL]).expect("it is found");
     assert!(found.steps <= 1, "{}", found.told);
 }
+
+/// An answer in words, and the room that it tells, which is 0 where it says none.
+fn apart(answer: &str) -> (&str, u16) {
+    match answer.split_once(", room ") {
+        None => (answer, 0),
+        Some((words, room)) => (words, room.parse().expect("a number")),
+    }
+}
+
+/// What a finding says between these two texts, and what it says after them.
+fn between<'a>(told: &'a str, [first, second]: [&str; 2]) -> (&'a str, &'a str) {
+    let (finding, _) = told.split_once(", after this script:\n").expect("a script");
+    let rest = finding.strip_prefix(first).expect(finding);
+    rest.split_once(second).expect(finding)
+}
+
+/// Holds a finding to "planted ANSWER, model ANSWER", of which the rooms differ and nothing else.
+fn only_rooms_differ(told: &str) {
+    let (planted, model) = between(told, ["planted ", ", model "]);
+    let (planted, model) = (apart(planted), apart(model));
+    assert!(planted.0 == model.0 && planted.1 != model.1, "{told}");
+}
+
+/// Holds a finding to "by history the room NUMBER is due, not ANSWER", which tells another one.
+fn another_room_is_due(told: &str) {
+    let (due, answer) = between(told, ["by history the room ", " is due, not "]);
+    assert_ne!(due.parse(), Ok(apart(answer).1), "{told}");
+}
+
+#[test]
+fn a_wrong_room_is_found_by_every_kind_of_runs() {
+    let faults = [
+        planted::ROOM_BEFORE,
+        planted::OTHER_STORES_ROOM,
+        planted::ROOM_ONLY_WHERE_STORED,
+        planted::ROOM_WITH_REFUSAL,
+        planted::ROOM_IN_EVERY_ANSWER,
+    ];
+    for fault in faults {
+        for kind in [Kind::FROM_CREATE, Kind::FROM_STATES, Kind::ON_DAMAGED] {
+            let found = kind.found([fault, MODEL]).expect("it is found");
+            only_rooms_differ(&found.told);
+        }
+        // Where both tell it wrong alike, the history of the run finds it.
+        for kind in [Kind::FROM_CREATE, Kind::FROM_STATES] {
+            let found = kind.found([fault, fault]).expect("it is found");
+            another_room_is_due(&found.told);
+        }
+    }
+}
+
+/// What the block says of a store is not what the room is held to.
+#[test]
+fn a_room_that_only_the_block_bears_out_is_found() {
+    let fault = planted::CLEARED_BUT_ONE;
+    for kind in [Kind::FROM_CREATE, Kind::FROM_STATES] {
+        let found = kind.found([fault, fault]).expect("it is found");
+        another_room_is_due(&found.told);
+    }
+}

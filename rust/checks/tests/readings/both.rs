@@ -126,7 +126,7 @@ impl<M: Reader> Both<M> {
                 return Err(format!("{act:?}: the blocks differ"));
             }
             counts.acts += 1;
-            match due {
+            match due.0 {
                 Told::Answer(Ok(Answer::Frame(out))) => self.last = out.into(),
                 Told::Reading(Worth::Whole, _) => counts.whole += 1,
                 Told::Reading(Worth::Gap, _) => counts.gaps += 1,

@@ -3,8 +3,8 @@
 use crate::at_random::runs;
 use crate::both::{our_meter, OurMeter, Sizes};
 use crate::every_order::{go_through, BYTES_AND_READS, PORT_GAPS};
-use raftershim::{Answer, BLOCK_LEN};
-use raftershim_checks::bridge::told::{Act, Reader, Told, Worth};
+use raftershim::{Answer, Side, BLOCK_LEN};
+use raftershim_checks::bridge::told::{Act, Heard, Reader, Told, Worth};
 
 /// The crate's meter, with what it tells made wrong.
 #[derive(Clone)]
@@ -30,6 +30,8 @@ enum Fault {
     PortUnheard,
     /// A byte that the port lost is said of the reading that is told next.
     PortTooEarly,
+    /// A reading tells the room that was before it.
+    RoomBefore,
 }
 
 impl Wrong {
@@ -40,7 +42,7 @@ impl Wrong {
             (Fault::NotAwaited, Worth::NotEnded) => Worth::Whole,
             (_, Worth::NotEnded) | (Fault::NotAwaited, _) => worth,
             (Fault::Unwarned, _) => Worth::Whole,
-            (Fault::PortUnheard, _) => worth,
+            (Fault::PortUnheard | Fault::RoomBefore, _) => worth,
             (Fault::PortTooEarly, _) => {
                 gap(std::mem::take(&mut self.noted) == 1 || worth == Worth::Gap)
             }
@@ -54,14 +56,20 @@ impl Wrong {
 }
 
 impl Reader for Wrong {
-    fn act(&mut self, act: Act) -> Told {
+    fn act(&mut self, act: Act) -> Heard {
         if let (Act::Gap, Fault::PortUnheard | Fault::PortTooEarly) = (act, self.fault) {
             self.noted = 1;
-            return Told::Answer(Ok(Answer::Done));
+            return (Told::Answer(Ok(Answer::Done)), None);
         }
-        match self.meter.act(act) {
-            Told::Reading(worth, text) => Told::Reading(self.worth(worth), text),
-            told => told,
+        let before = self.meter.bridge().room(Side::Receive).ok();
+        match (self.meter.act(act), self.fault) {
+            ((Told::Reading(worth, text), _), Fault::RoomBefore) => {
+                (Told::Reading(worth, text), before)
+            }
+            ((Told::Reading(worth, text), room), _) => {
+                (Told::Reading(self.worth(worth), text), room)
+            }
+            (heard, _) => heard,
         }
     }
 
@@ -87,6 +95,7 @@ fn every_order_finds_each_fault() {
         (Fault::NotAwaited, BYTES_AND_READS),
         (Fault::PortUnheard, PORT_GAPS),
         (Fault::PortTooEarly, PORT_GAPS),
+        (Fault::RoomBefore, BYTES_AND_READS),
     ];
     for (fault, plan) in faults {
         let reader = wrong(plan.sizes, fault);
@@ -97,13 +106,14 @@ fn every_order_finds_each_fault() {
 
 #[test]
 fn runs_at_random_find_each_fault() {
-    let makes: [fn(Sizes) -> Wrong; 6] = [
+    let makes: [fn(Sizes) -> Wrong; 7] = [
         |sizes| wrong(sizes, Fault::Unwarned),
         |sizes| wrong(sizes, Fault::ByCount),
         |sizes| wrong(sizes, Fault::OneLate),
         |sizes| wrong(sizes, Fault::NotAwaited),
         |sizes| wrong(sizes, Fault::PortUnheard),
         |sizes| wrong(sizes, Fault::PortTooEarly),
+        |sizes| wrong(sizes, Fault::RoomBefore),
     ];
     for make in makes {
         let finding = runs(make, 100).unwrap_err();
