@@ -17,7 +17,15 @@
  *
  *   bits 0 to 15    the value: a line byte, a frame or the number of a refusal, and 0 where there is none
  *   bits 16 to 23   the kind: 0 done, 1 none, 2 a line byte, 3 a frame, 4 refused
- *   bits 24 to 63   reserved: 0 for now, and a reader masks them off, as RAFTERSHIM_KIND and RAFTERSHIM_VALUE do
+ *   bits 24 to 31   reserved: 0 for now
+ *   bits 32 to 47   the room, 0 to 32768: how many bytes more a store can hold after the call
+ *   bits 48 to 63   reserved: 0 for now
+ *
+ * A reader masks off what it does not read, as RAFTERSHIM_KIND, RAFTERSHIM_VALUE and RAFTERSHIM_ROOM do.
+ *
+ * Two functions tell the room, whatever the byte or the frame did: raftershim_line_byte that of the receive store, and
+ * raftershim_loop_frame that of the transmit store. A refusal is its number alone and has 0 there, and so has every other function that
+ * answers such a number. RAFTERSHIM_ROOM is not for raftershim_show.
  *
  * A frame is 11 bits: three control bits above eight data bits, control * 256 + data.
  *
@@ -43,9 +51,10 @@
 extern "C" {
 #endif
 
-/* The kind and the value of an answer, whatever its reserved bits are. */
+/* The kind, the value and the room of an answer, whatever its other bits are. */
 #define RAFTERSHIM_KIND(answer) ((uint32_t)((answer) >> 16) & 0xFFu)
 #define RAFTERSHIM_VALUE(answer) ((uint32_t)(answer) & 0xFFFFu)
+#define RAFTERSHIM_ROOM(answer) ((uint32_t)((answer) >> 32) & 0xFFFFu)
 
 #define RAFTERSHIM_DONE 0u
 #define RAFTERSHIM_NONE 1u
@@ -185,7 +194,8 @@ uint64_t raftershim_write_register(uint8_t *block, uint64_t block_len, const uin
 
 /*
  * Takes a byte from the line: go and stop permit or forbid our sending while the protocol is on, any other byte is stored in the
- * receive store, or lost if that is full. Answers done.
+ * receive store, or lost if that is full. Answers done, and the room of the receive store: go and stop leave it as it is, and after a
+ * byte that is lost it is 0.
  * Refusal 2: the block is not a state that fits the stores.
  */
 uint64_t raftershim_line_byte(uint8_t *block, uint64_t block_len, uint8_t *rx, uint64_t rx_len, const uint8_t *tx, uint64_t tx_len,
@@ -213,7 +223,8 @@ uint64_t raftershim_next_line_byte(uint8_t *block, uint64_t block_len, const uin
                                    uint64_t tx_len);
 
 /*
- * Takes a frame from the loop. Answers the one frame that goes on.
+ * Takes a frame from the loop. Answers the one frame that goes on, and the room of the transmit store: whichever frame it is, whether or
+ * not a byte was stored. After a device clear it is the whole store. What a send frees in the receive store is not in it.
  * Refusal 2: the block is not a state that fits the stores. Refusal 3: the frame is above 2047. Refusal 4: busy, offer the frame again
  * when the line has taken bytes.
  */

@@ -2,7 +2,8 @@
  * One reading at a time from a meter, and whether a byte is missing in it.
  *
  * The meter sends ten readings into a store of eight bytes and is not held off. Once the loop is late: the point of 2.5 comes when the
- * store is full. The program prints 25 and says that a byte is missing there, and in no other reading.
+ * store is full. The program prints 25 and says that a byte is missing there, and in no other reading. Its last line is the room that
+ * was left before each reading, which the answers to the bytes tell.
  */
 #include <stdio.h>
 
@@ -18,9 +19,11 @@ static struct gaps gaps;
 
 #define LENT block, sizeof block, rx, sizeof rx, tx, sizeof tx
 
-static void from_line(uint8_t byte) {
-    raftershim_line_byte(LENT, byte);
+/* A byte from the line; gives the room that is left after it. */
+static unsigned from_line(uint8_t byte) {
+    uint64_t answer = raftershim_line_byte(LENT, byte);
     gaps_note(&gaps, block);
+    return RAFTERSHIM_ROOM(answer);
 }
 
 /* The frame that the bridge answers; the frames of this program are never refused. */
@@ -42,14 +45,18 @@ static void one_reading(void) {
 }
 
 int main(void) {
+    unsigned room[sizeof line / sizeof *line] = {0};
     raftershim_create(LENT, 1);
     raftershim_write_register(LENT, LINE_ENDS);
     raftershim_write_register(LENT, NO_PROTOCOL);
     on_loop(ASSIGN_1);
     on_loop(TALK_1);
     for (size_t i = 0; i < sizeof line / sizeof *line; i++) {
-        for (const char *byte = line[i]; *byte; byte++) from_line((uint8_t)*byte);
+        for (const char *byte = line[i]; *byte; byte++) room[i] = from_line((uint8_t)*byte);
         one_reading();
     }
+    fputs("room before each reading:", stdout);
+    for (size_t i = 0; i < sizeof room / sizeof *room; i++) printf(" %u", room[i]);
+    putchar('\n');
     return 0;
 }

@@ -14,6 +14,10 @@ static uint64_t block_len = BLOCK, rx_len, tx_len;
 #define SECOND tx
 #include "compare.h"
 
+/* what the two calls answer that tell a room: done, and a frame */
+#define TAKEN(room) ROOM(room, DONE)
+#define OUT(room, c, d) ROOM(room, FRAME(c, d))
+
 #define B block, block_len
 #define R rx, rx_len
 #define T tx, tx_len
@@ -32,12 +36,16 @@ static uint64_t next(void) { return raftershim_next_line_byte(B, R, T); }
 static uint64_t frame(uint32_t c, uint32_t d) { return raftershim_loop_frame(B, R, T, c << 8 | d); }
 static uint64_t show(uint32_t side) { return raftershim_show(B, R, T, side); }
 
-/* the header reads an answer alike, whatever its reserved bits are */
+/* the header reads kind, value and room alike, whatever the other bits are */
 static void reserved(void) {
     IS(RAFTERSHIM_KIND(BYTE(50)), RAFTERSHIM_BYTE);
     IS(RAFTERSHIM_VALUE(BYTE(50)), 50);
     IS(RAFTERSHIM_KIND(~0ull << 24 | BYTE(50)), RAFTERSHIM_BYTE);
     IS(RAFTERSHIM_VALUE(~0ull << 24 | BYTE(50)), 50);
+    IS(RAFTERSHIM_ROOM(BYTE(50)), 0);
+    IS(RAFTERSHIM_ROOM(OUT(32768, 7, 255)), 32768);
+    IS(RAFTERSHIM_VALUE(OUT(32768, 7, 255)), 2047);
+    IS(RAFTERSHIM_ROOM(OUT(7, 5, 64) | 0xFFFFull << 48 | 0xFFull << 24), 7);
 }
 
 /* the sizes that only the longest stores have */
@@ -85,7 +93,7 @@ static void misfits(void) {
 
 static void other_blocks(void) {
     IS(create(8, 3, 3), DONE);
-    IS(line(50), DONE);
+    IS(line(50), TAKEN(7));
     block_len = BLOCK - 1;
     misfits();
     block_len = BLOCK + 1;
@@ -146,41 +154,42 @@ static void registers(void) {
 /* "Store 8, m 3: the fourth byte does not hold off, the fifth begins holding off, the ninth is lost; two held ends it." */
 static void holding(void) {
     IS(create(8, 3, 3), DONE);
-    for (uint8_t b = 1; b <= 4; b++) IS(line(b), DONE);
+    for (uint8_t b = 1; b <= 4; b++) IS(line(b), TAKEN(8 - b));
     IS(next(), NONE);
-    IS(line(5), DONE);
+    IS(line(5), TAKEN(3));
     IS(next(), BYTE(19));
     IS(next(), NONE);
-    for (uint8_t b = 6; b <= 9; b++) IS(line(b), DONE);
+    for (uint8_t b = 6; b <= 8; b++) IS(line(b), TAKEN(8 - b));
+    IS(line(9), TAKEN(0));
     IS(show(0), PART(0, 8));
     for (int i = 0; i < 8; i++) IS(rx[i], (uint64_t)i + 1);
     IS(show(1), 0);
     IS(show(2), 0);
-    IS(frame(5, 128), FRAME(5, 129));
-    IS(frame(4, 64), FRAME(4, 64));
-    IS(frame(5, 96), FRAME(0, 1));
-    for (uint32_t d = 1; d <= 5; d++) IS(frame(0, d), FRAME(0, d + 1));
+    IS(frame(5, 128), OUT(3, 5, 129));
+    IS(frame(4, 64), OUT(3, 4, 64));
+    IS(frame(5, 96), OUT(3, 0, 1));
+    for (uint32_t d = 1; d <= 5; d++) IS(frame(0, d), OUT(3, 0, d + 1));
     IS(next(), BYTE(17));
     IS(show(0), PART(6, 2));
-    IS(line(10), DONE);
+    IS(line(10), TAKEN(5));
     IS(show(0), PART(6, 2));
     IS(rx[0], 10);
-    IS(frame(0, 6), FRAME(0, 7));
-    IS(frame(0, 7), FRAME(0, 8));
+    IS(frame(0, 6), OUT(3, 0, 7));
+    IS(frame(0, 7), OUT(3, 0, 8));
     IS(show(0), PART(0, 1));
-    IS(frame(3, 8), FRAME(5, 65));
+    IS(frame(3, 8), OUT(3, 5, 65));
 }
 
 /* "Transmit store 3, R10 bit 2 on: an end byte is taken at none held, busy at one." "Frame 2,047 passes; 2,048: refusal 3." */
 static void listening(void) {
     IS(create(8, 3, 3), DONE);
-    IS(frame(5, 158), FRAME(5, 159));
-    IS(frame(4, 32 + 30), FRAME(4, 32 + 30));
+    IS(frame(5, 158), OUT(3, 5, 159));
+    IS(frame(4, 32 + 30), OUT(3, 4, 32 + 30));
     IS(writes(10, 4), DONE);
-    IS(raftershim_loop_frame(B, R, T, 2047), FRAME(7, 255));
+    IS(raftershim_loop_frame(B, R, T, 2047), OUT(3, 7, 255));
     REFUSED(3, raftershim_loop_frame(B, R, T, 2048));
     REFUSED(3, raftershim_loop_frame(B, R, T, 0xFFFFFFFFu));
-    IS(frame(2, 65), FRAME(2, 65));
+    IS(frame(2, 65), OUT(0, 2, 65));
     IS(show(1), PART(0, 3));
     IS(tx[0], 65);
     IS(tx[1], 13);
@@ -189,13 +198,13 @@ static void listening(void) {
     IS(next(), BYTE(65));
     IS(next(), BYTE(13));
     REFUSED(4, frame(2, 66));
-    IS(frame(0, 66), FRAME(0, 66));
+    IS(frame(0, 66), OUT(1, 0, 66));
     IS(show(1), PART(2, 1));
     IS(next(), BYTE(10));
     IS(show(1), PART(0, 1));
-    IS(line(19), DONE);
+    IS(line(19), TAKEN(8));
     IS(next(), NONE);
-    IS(line(17), DONE);
+    IS(line(17), TAKEN(8));
     IS(next(), BYTE(66));
     IS(next(), NONE);
 }
@@ -203,18 +212,18 @@ static void listening(void) {
 /* "Status byte": break, key and overrun are told, and clear on return */
 static void status(void) {
     IS(create(8, 3, 3), DONE);
-    IS(frame(5, 129), FRAME(5, 130));
-    IS(frame(4, 64 + 1), FRAME(4, 64 + 1));
+    IS(frame(5, 129), OUT(3, 5, 130));
+    IS(frame(4, 64 + 1), OUT(3, 4, 64 + 1));
     IS(writes(2, 5), DONE);
     IS(writes(0, 8), DONE);
     IS(brk(), DONE);
     IS(key(), DONE);
     IS(raftershim_status(block), 3 + 16 + 64 + 128);
-    IS(frame(5, 97), FRAME(1, 3 + 16 + 64 + 128));
-    IS(frame(1, 3 + 16 + 64 + 128), FRAME(5, 64));
+    IS(frame(5, 97), OUT(3, 1, 3 + 16 + 64 + 128));
+    IS(frame(1, 3 + 16 + 64 + 128), OUT(3, 5, 64));
     IS(raftershim_status(block), 3);
-    IS(frame(5, 97), FRAME(0, 3));
-    IS(frame(0, 3), FRAME(5, 64));
+    IS(frame(5, 97), OUT(3, 0, 3));
+    IS(frame(0, 3), OUT(3, 5, 64));
     IS(reset(), DONE);
     memcpy(block_was, block, sizeof block);
     IS(create(8, 3, 3), DONE);
@@ -228,30 +237,125 @@ static void fields(void) {
     IS(block[RAFTERSHIM_AT_VERSION], RAFTERSHIM_VERSION);
     IS(RAFTERSHIM_TWO(block, RAFTERSHIM_AT_MARGIN), 3);
     IS(writes(11, 0), DONE);
-    for (uint8_t b = 1; b <= 10; b++) IS(line(b), DONE);
+    for (uint8_t b = 1; b <= 10; b++) IS(line(b), TAKEN(b < 8 ? 8 - b : 0));
     IS(RAFTERSHIM_STORED(block), 8);
     IS(RAFTERSHIM_LOST(block), 2);
     IS(RAFTERSHIM_RECEIVE_HELD(block), 8);
-    IS(frame(5, 129), FRAME(5, 130));
-    IS(frame(4, 64 + 1), FRAME(4, 64 + 1));
+    IS(frame(5, 129), OUT(3, 5, 130));
+    IS(frame(4, 64 + 1), OUT(3, 4, 64 + 1));
     IS(raftershim_status(block), 3 + 4 + 8 + 32);
-    IS(frame(5, 97), FRAME(0, 3 + 4 + 8 + 32));
+    IS(frame(5, 97), OUT(3, 0, 3 + 4 + 8 + 32));
     IS(block[RAFTERSHIM_AT_TALKER], 3);
-    IS(frame(0, 3 + 4 + 8 + 32), FRAME(5, 64));
+    IS(frame(0, 3 + 4 + 8 + 32), OUT(3, 5, 64));
     IS(block[RAFTERSHIM_AT_SEEN_OVERRUN], 0);
-    IS(frame(5, 96), FRAME(0, 1));
+    IS(frame(5, 96), OUT(3, 0, 1));
     IS(RAFTERSHIM_TWO(block, RAFTERSHIM_AT_UNDER_WAY), 1);
-    IS(frame(0, 1), FRAME(0, 2));
+    IS(frame(0, 1), OUT(3, 0, 2));
     IS(RAFTERSHIM_SENT(block), 2);
     IS(RAFTERSHIM_RECEIVE_HELD(block), 6);
     IS(RAFTERSHIM_TWO(block, RAFTERSHIM_AT_RECEIVE_OLDEST), 2);
     IS(RAFTERSHIM_LOST(block), 2);
-    IS(frame(4, 32 + 1), FRAME(4, 32 + 1));
-    for (uint32_t d = 1; d <= 3; d++) IS(frame(0, d), FRAME(0, d));
+    IS(frame(4, 32 + 1), OUT(3, 4, 32 + 1));
+    for (uint32_t d = 1; d <= 3; d++) IS(frame(0, d), OUT(3 - d, 0, d));
     IS(RAFTERSHIM_TRANSMIT_HELD(block), 3);
     IS(raftershim_status(block), 4);
     for (int i = 0; i < 4; i++) block[RAFTERSHIM_AT_LOST + i] = (uint8_t)(i + 0xF1);
     IS(RAFTERSHIM_LOST(block), 0xF4F3F2F1u);
+}
+
+/* line bytes tell the room of the receive store: stored, go, stop, the one that fills it, and lost */
+static void room_of_line_bytes(void) {
+    IS(create(6, 3, 2), DONE);
+    IS(line(50), TAKEN(5));
+    IS(line(17), TAKEN(5));
+    IS(line(19), TAKEN(5));
+    for (uint8_t b = 1; b <= 4; b++) IS(line(b), TAKEN(5 - b));
+    IS(line(51), TAKEN(0));
+    IS(RAFTERSHIM_LOST(block), 0);
+    IS(line(52), TAKEN(0));
+    IS(RAFTERSHIM_LOST(block), 1);
+    IS(line(17), TAKEN(0));
+    IS(line(19), TAKEN(0));
+    /* two sends free two places: the next byte that comes from the line tells it */
+    IS(frame(5, 129), OUT(3, 5, 130));
+    IS(frame(4, 65), OUT(3, 4, 65));
+    IS(frame(5, 96), OUT(3, 0, 50));
+    IS(frame(0, 50), OUT(3, 0, 1));
+    IS(line(17), TAKEN(2));
+    IS(line(53), TAKEN(1));
+    /* without the protocol the characters are data */
+    IS(writes(11, 0), DONE);
+    IS(line(17), TAKEN(0));
+}
+
+/* a frame of each kind tells the room of the transmit store, whether it stores a byte, three, or none */
+static void room_of_frames(void) {
+    IS(create(6, 7, 2), DONE);
+    IS(writes(10, 4), DONE);
+    IS(line(50), TAKEN(5));
+    IS(frame(6, 0), OUT(7, 6, 0));
+    IS(frame(5, 129), OUT(7, 5, 130));
+    IS(frame(0, 65), OUT(7, 0, 65));
+    IS(frame(4, 33), OUT(7, 4, 33));
+    IS(frame(0, 65), OUT(6, 0, 65));
+    IS(frame(2, 66), OUT(3, 2, 66));
+    IS(frame(4, 0), OUT(3, 4, 0));
+    IS(frame(7, 255), OUT(3, 7, 255));
+    IS(frame(5, 64), OUT(3, 5, 64));
+    IS(frame(4, 65), OUT(3, 4, 65));
+    IS(frame(0, 67), OUT(3, 0, 67));
+    IS(frame(5, 97), OUT(3, 0, 2 + 4));
+    IS(frame(0, 2 + 4), OUT(3, 5, 64));
+    IS(frame(5, 96), OUT(3, 0, 50));
+    IS(frame(0, 51), OUT(3, 5, 65));
+    IS(frame(5, 96), OUT(3, 5, 64));
+    IS(frame(4, 33), OUT(3, 4, 33));
+    IS(frame(3, 68), OUT(0, 3, 68));
+    IS(next(), BYTE(65));
+    IS(frame(6, 0), OUT(1, 6, 0));
+    IS(frame(1, 69), OUT(0, 1, 69));
+    IS(frame(4, 20), OUT(7, 4, 20));
+    IS(frame(0, 70), OUT(6, 0, 70));
+    IS(frame(4, 4), OUT(7, 4, 4));
+}
+
+/* a refusal is its number alone, and no other call tells a room, though both stores have some */
+static void no_room_told(void) {
+    IS(create(6, 7, 2), DONE);
+    IS(frame(5, 129), OUT(7, 5, 130));
+    IS(frame(4, 33), OUT(7, 4, 33));
+    IS(frame(0, 65), OUT(6, 0, 65));
+    IS(line(50), TAKEN(5));
+    IS(writes(10, 12), DONE);
+    IS(brk(), DONE);
+    IS(key(), DONE);
+    IS(next(), BYTE(65));
+    IS(next(), NONE);
+    REFUSED(3, raftershim_loop_frame(B, R, T, 2048));
+    REFUSED(5, writes(3, 0));
+    REFUSED(6, writes(0, 16));
+    REFUSED(7, writes(11, 4));
+    REFUSED(8, writes(20, 19));
+    for (uint32_t d = 1; d <= 5; d++) IS(frame(0, d), OUT(7 - d, 0, d));
+    REFUSED(4, frame(2, 66));
+    rx_len = 7;
+    REFUSED(2, line(50));
+    REFUSED(2, frame(6, 0));
+    rx_len = 6;
+    IS(frame(6, 0), OUT(2, 6, 0));
+    IS(show(0), PART(0, 1));
+    IS(reset(), DONE);
+    REFUSED(1, create(6, 7, 3));
+}
+
+/* the longest stores: the largest room fills the bits that it has */
+static void large_rooms(void) {
+    IS(create(MOST, MOST, 1024), DONE);
+    IS(line(19), TAKEN(MOST));
+    IS(frame(6, 0), OUT(MOST, 6, 0));
+    for (uint32_t left = MOST; left > 0; left--) IS(line(50), TAKEN(left - 1));
+    IS(line(50), TAKEN(0));
+    IS(frame(6, 0), OUT(MOST, 6, 0));
 }
 
 /* the paper's run of `onepass` */
@@ -259,13 +363,13 @@ static void onepass(void) {
     static const uint8_t bytes[] = {0x32, 0x2E, 0x35, 0x0D, 0x0A};
     IS(create(64, 64, 8), DONE);
     IS(writes(10, 8), DONE);
-    for (uint64_t i = 0; i < sizeof bytes; i++) IS(line(bytes[i]), DONE);
-    IS(frame(5, 129), FRAME(5, 130));
-    IS(frame(4, 65), FRAME(4, 65));
-    IS(frame(5, 96), FRAME(0, 50));
-    IS(frame(0, 50), FRAME(0, 46));
-    IS(frame(0, 46), FRAME(2, 53));
-    IS(frame(2, 53), FRAME(5, 64));
+    for (uint64_t i = 0; i < sizeof bytes; i++) IS(line(bytes[i]), TAKEN(63 - i));
+    IS(frame(5, 129), OUT(64, 5, 130));
+    IS(frame(4, 65), OUT(64, 4, 65));
+    IS(frame(5, 96), OUT(64, 0, 50));
+    IS(frame(0, 50), OUT(64, 0, 46));
+    IS(frame(0, 46), OUT(64, 2, 53));
+    IS(frame(2, 53), OUT(64, 5, 64));
     IS(next(), NONE);
 }
 
@@ -278,6 +382,10 @@ int main(void) {
     listening();
     status();
     fields();
+    room_of_line_bytes();
+    room_of_frames();
+    no_room_told();
+    if (MOST == 32768) large_rooms();
     onepass();
     return ended("the paper");
 }

@@ -44,6 +44,8 @@ static inline uint64_t changed(void) { return (memcmp(block_was, block, sizeof b
 #define BYTE(b) (2ull << 16 | (b))
 #define FRAME(c, d) (3ull << 16 | (c) << 8 | (d))
 #define PART(start, len) ((uint64_t)(start) << 32 | (len))
+/* an answer that tells this room */
+#define ROOM(room, answer) ((uint64_t)(room) << 32 | (answer))
 
 /* Says how many answers were compared, and gives the exit status. */
 static inline int ended(const char *source) {

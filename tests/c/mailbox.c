@@ -153,7 +153,7 @@ static void other_product(void) {
     misfits();
     IS(block[0], RAFTERSHIM_VERSION);
     block_len = RAFTERSHIM_BLOCK_LEN;
-    IS(raftershim_line_byte(block, block_len, rx, sizeof rx, tx, sizeof tx, 50), DONE);
+    IS(raftershim_line_byte(block, block_len, rx, sizeof rx, tx, sizeof tx, 50), ROOM(7, DONE));
     block_len = BLOCK;
 }
 

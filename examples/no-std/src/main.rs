@@ -1,5 +1,6 @@
 //! The crate on a chip without a divide instruction and without the standard library: a meter's ten
-//! readings, of which one has lost its point, through a store of eight bytes.
+//! readings, of which one has lost its point, through a store of eight bytes. The last line is the
+//! room that was left before each reading.
 //!
 //! `sh examples/run.sh` runs it on the emulated board. The C library of the board brings what an
 //! archive asks of its surroundings, and the console.
@@ -47,6 +48,15 @@ fn print_reading(reading: Reading) {
     print(b"\n");
 }
 
+/// A room of a store of eight bytes has one digit.
+fn print_rooms(rooms: [u16; LINE.len()]) {
+    print(b"room before each reading:");
+    for room in rooms {
+        print(&[b' ', b'0' + room as u8]);
+    }
+    print(b"\n");
+}
+
 fn readings() -> Result<(), Refusal> {
     let stores = Stores {
         receive: [0; 8],
@@ -58,10 +68,12 @@ fn readings() -> Result<(), Refusal> {
     };
     let mut meter = Meter::create(stores, notes, 1)?;
     meter.write_register(Register::R11, 0)?;
-    for bytes in LINE {
-        meter.line_bytes(bytes.as_bytes())?;
+    let mut rooms = [0; LINE.len()];
+    for (room, bytes) in rooms.iter_mut().zip(LINE) {
+        *room = meter.line_bytes_and_room(bytes.as_bytes())?.room;
         print_reading(meter.reading()?);
     }
+    print_rooms(rooms);
     Ok(())
 }
 

@@ -56,7 +56,8 @@ pub type Answered = Result<Answer, Refusal>;
 impl Answer {
     /// Reads the word of 64 bits that a C function of the bridge answered.
     ///
-    /// Bits 24 to 63 are reserved and do not count. A word whose other bits the header does not
+    /// This reads bits 0 to 23. The room in bits 32 to 47 is for [`room_of`](Answer::room_of), and the
+    /// other bits are reserved: neither counts here. A word whose bits 0 to 23 the header does not
     /// describe is read as a refusal with the number 0, which no refusal has. The archive never
     /// gives such a word.
     ///
@@ -75,7 +76,28 @@ impl Answer {
         }
     }
 
-    /// Reads the word of 64 bits that a C function of the mailbox answered, in the same way.
+    /// The room that is in the word of 64 bits that a C function of the bridge answered: how many
+    /// bytes more a store can hold after the call.
+    ///
+    /// It is bits 32 to 47 of the word, whatever its other bits are. Of `raftershim_line_byte` it is
+    /// that of the receive store, and of `raftershim_loop_frame` that of the transmit store. A refusal
+    /// and all other functions tell none, and then it is 0. It is not for what `raftershim_show`
+    /// answers.
+    ///
+    /// ```
+    /// use raftershim::Answer;
+    ///
+    /// let word = 0x7_0003_0582;
+    /// assert_eq!(Answer::of(word).map(|answer| answer.to_string()), Ok("frame 5,130".into()));
+    /// assert_eq!(Answer::room_of(word), 7);
+    /// assert_eq!(Answer::room_of(0x4_0004), 0);
+    /// ```
+    pub fn room_of(word: u64) -> u16 {
+        (word >> 32 & 0xFFFF) as u16
+    }
+
+    /// Reads the word of 64 bits that a C function of the mailbox answered, in the same way. None
+    /// of them tells any room: bits 24 to 63 are reserved and do not count.
     ///
     /// ```
     /// use raftershim::{Answer, MailByte, Refusal};
@@ -95,7 +117,7 @@ impl Answer {
     }
 }
 
-/// The kind and the value of a word. The bits above are reserved: 0 for now, and not looked at.
+/// The kind and the value of a word. The bits above them are not looked at.
 fn kind_and_value(word: u64) -> (u64, u16) {
     (word >> 16 & 0xFF, (word & 0xFFFF) as u16)
 }
@@ -167,6 +189,37 @@ impl fmt::Display for Answer {
             Answer::Lines(lines) => write!(f, "{lines}"),
         }
     }
+}
+
+/// What a call gives, and how much room is left after it. The calls of a [`Bridge`](crate::Bridge)
+/// and of a [`Meter`](crate::Meter) that tell it end in `_and_room`, and each says whose room it is.
+///
+/// An app that shows the room, such as on a braille display, makes no call of its own for it.
+///
+/// ```
+/// use raftershim::{Bridge, LineByte, Stores, WithRoom};
+///
+/// let mut bridge = Bridge::create(Stores { receive: [0; 4], transmit: [0; 3] }, 1)?;
+/// let WithRoom { answer, room } = bridge.line_byte_and_room(50)?;
+/// assert_eq!((answer, room), (LineByte::Stored, 3));
+/// # Ok::<(), raftershim::Refusal>(())
+/// ```
+///
+/// The compiler warns a caller that does not look:
+///
+/// ```compile_fail
+/// #![deny(unused_must_use)]
+/// # use raftershim::{Bridge, Stores};
+/// # let mut bridge = Bridge::create(Stores { receive: [0; 4], transmit: [0; 3] }, 1).unwrap();
+/// bridge.line_byte_and_room(b'5').unwrap();
+/// ```
+#[derive(Clone, Copy, Debug, PartialEq, Eq, Hash)]
+#[must_use = "what the call gives is in it, such as that a byte is lost"]
+pub struct WithRoom<T> {
+    /// What the call gives.
+    pub answer: T,
+    /// How many bytes more the store can hold after the call, 0 to 32768.
+    pub room: u16,
 }
 
 /// What became of a byte from the line.

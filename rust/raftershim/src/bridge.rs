@@ -3,7 +3,8 @@
 use core::fmt;
 
 use crate::lend::{self, done, lend, part};
-use crate::{Answer, BadSize, Frame, LineByte, Refusal, Register, Saved, Side, State, BLOCK_LEN};
+use crate::BLOCK_LEN;
+use crate::{Answer, BadSize, Frame, LineByte, Refusal, Register, Saved, Side, State, WithRoom};
 
 /// The two stores of a bridge, by name so that they cannot be exchanged unseen.
 ///
@@ -43,16 +44,23 @@ pub struct Bridge<R, T> {
     stores: Stores<R, T>,
 }
 
-/// Makes a call that may write, and reads its answer.
-macro_rules! call {
+/// Makes a call that may write, and gives the word that it answers.
+macro_rules! word {
     ($bridge:expr, $function:ident $(, $argument:expr)*) => {
-        Answer::of(lend!(
+        lend!(
             as_mut_ptr,
             &mut $bridge.block,
             $bridge.stores.receive.as_mut(),
             $bridge.stores.transmit.as_mut(),
             $function $(, $argument)*
-        ))
+        )
+    };
+}
+
+/// Makes a call that may write, and reads its answer.
+macro_rules! call {
+    ($($call:tt)*) => {
+        Answer::of(word!($($call)*))
     };
 }
 
@@ -202,7 +210,10 @@ where
         }
     }
 
-    /// How many bytes more a store can hold.
+    /// How many bytes more a store can hold. The answers of
+    /// [`line_byte_and_room`](Bridge::line_byte_and_room) and
+    /// [`loop_frame_and_room`](Bridge::loop_frame_and_room) tell it too, so that an app that shows it
+    /// need not ask after each of them.
     ///
     /// # Errors
     ///
@@ -289,15 +300,44 @@ where
     /// ```
     #[must_use = "whether the byte is lost is in the answer"]
     pub fn line_byte(&mut self, byte: u8) -> Result<LineByte, Refusal> {
+        self.line_byte_and_room(byte).map(|taken| taken.answer)
+    }
+
+    /// Takes a byte from the line, as [`line_byte`](Bridge::line_byte) does, and gives how much room
+    /// the receive store has after it. Go and stop leave the room as it is, and after a byte that is
+    /// lost there is none.
+    ///
+    /// # Errors
+    ///
+    /// Refusal 2.
+    ///
+    /// ```
+    /// use raftershim::{Bridge, LineByte, Stores};
+    ///
+    /// let mut bridge = Bridge::create(Stores { receive: [0; 4], transmit: [0; 3] }, 1)?;
+    /// let mut rooms = Vec::new();
+    /// for byte in *b"12\x1334" {
+    ///     rooms.push(bridge.line_byte_and_room(byte)?.room);
+    /// }
+    /// assert_eq!(rooms, [3, 2, 2, 1, 0]);
+    /// let fifth = bridge.line_byte_and_room(b'5')?;
+    /// assert_eq!((fifth.answer, fifth.room), (LineByte::Lost, 0));
+    /// # Ok::<(), raftershim::Refusal>(())
+    /// ```
+    #[must_use = "whether the byte is lost is in the answer"]
+    pub fn line_byte_and_room(&mut self, byte: u8) -> Result<WithRoom<LineByte>, Refusal> {
         let before = State::of(&self.block);
-        done(call!(self, raftershim_line_byte, byte))?;
+        let word = word!(self, raftershim_line_byte, byte);
+        done(Answer::of(word))?;
         let after = State::of(&self.block);
-        Ok(match byte {
+        let answer = match byte {
             _ if after.stored != before.stored => LineByte::Stored,
             _ if after.lost != before.lost => LineByte::Lost,
             _ if byte == after.registers.c04 => LineByte::Go,
             _ => LineByte::Stop,
-        })
+        };
+        let room = Answer::room_of(word);
+        Ok(WithRoom { answer, room })
     }
 
     /// Takes a break on the line.
@@ -393,7 +433,38 @@ where
     /// ```
     #[must_use = "the frame that goes on along the loop is in the answer"]
     pub fn loop_frame(&mut self, frame: Frame) -> Result<Frame, Refusal> {
-        lend::frame(call!(self, raftershim_loop_frame, frame.into()))
+        self.loop_frame_and_room(frame).map(|taken| taken.answer)
+    }
+
+    /// Takes a frame from the loop, as [`loop_frame`](Bridge::loop_frame) does, and gives how much
+    /// room the transmit store has after it, whichever frame it is. A device clear empties the store,
+    /// so then all of it is room. What a send frees in the receive store is not told here: the next
+    /// byte that comes from the line tells it.
+    ///
+    /// # Errors
+    ///
+    /// Refusal 4 if the bridge is busy: offer the frame again when the line has taken bytes. And 2.
+    ///
+    /// ```
+    /// use raftershim::{Address, Bridge, Frame, Refusal, Stores};
+    ///
+    /// let mut bridge = Bridge::create(Stores { receive: [0; 64], transmit: [0; 3] }, 8)?;
+    /// bridge.loop_frame(Frame::auto_address(Address::FIRST))?;
+    /// let listen = Frame::listen_address(Address::FIRST);
+    /// assert_eq!(bridge.loop_frame_and_room(listen)?.room, 3);
+    /// let passed = bridge.loop_frame_and_room(Frame::data_byte(50))?;
+    /// assert_eq!((passed.answer, passed.room), (Frame::data_byte(50), 2));
+    /// assert_eq!(bridge.loop_frame_and_room(Frame::data_byte(46))?.room, 1);
+    /// assert_eq!(bridge.loop_frame_and_room(Frame::data_byte(53))?.room, 0);
+    /// assert_eq!(bridge.loop_frame_and_room(Frame::data_byte(13)), Err(Refusal::BUSY));
+    /// # Ok::<(), raftershim::Refusal>(())
+    /// ```
+    #[must_use = "the frame that goes on along the loop is in the answer"]
+    pub fn loop_frame_and_room(&mut self, frame: Frame) -> Result<WithRoom<Frame>, Refusal> {
+        let word = word!(self, raftershim_loop_frame, frame.into());
+        let answer = lend::frame(Answer::of(word))?;
+        let room = Answer::room_of(word);
+        Ok(WithRoom { answer, room })
     }
 
     /// Shows a store: the longest unbroken run of bytes from the oldest one, as a part of the

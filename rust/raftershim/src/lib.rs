@@ -80,9 +80,17 @@
 //! [`Reading`], the [`BusLines`], or nothing. A call that is refused gives a [`Refusal`] with its
 //! number, and leaves the state and both stores as they were.
 //!
+//! The answers to line bytes also tell how much room is left in the receive store, and the answers to
+//! frames how much is left in the transmit store. A caller that wants it makes the calls that end in
+//! `_and_room`, which give an answer [`WithRoom`]. Here a braille line is kept up to date without a
+//! call of its own:
+//!
+//! ```
+#![doc = include_str!("../examples/braille.rs")]
+//! ```
+//!
 //! Types that may get more cases or fields are marked so that a match needs a last arm for what is
-//! new. What an answer may come to say besides, such as the room left in a store, is told by the
-//! bridge after the call, as [`Bridge::room`] does, so no answer changes its type for it.
+//! new.
 //!
 //! # The archive
 //!
@@ -122,7 +130,7 @@ mod size;
 mod state;
 mod status;
 
-pub use answer::{Answer, Answered, LineByte};
+pub use answer::{Answer, Answered, LineByte, WithRoom};
 pub use bridge::{Bridge, Stores};
 pub use frame::{Address, Frame};
 pub use mailbox::{

@@ -4,7 +4,8 @@ use core::fmt;
 
 use crate::gaps::{place, Gaps};
 use crate::line::Line;
-use crate::{Address, BadSize, Bridge, Frame, LineByte, Reading, Refusal, Register, State, Stores};
+use crate::{Address, BadSize, Bridge, Frame, LineByte, Reading, Refusal, Register, Side, State};
+use crate::{Stores, WithRoom};
 
 /// The two buffers in which a [`Meter`] notes what it needs. What they hold at first does not
 /// matter.
@@ -170,11 +171,48 @@ where
     /// ```
     #[must_use = "the reading is told only once"]
     pub fn reading(&mut self) -> Result<Reading<'_>, Refusal> {
-        self.line.go_on();
-        if !self.line.has_news() {
-            self.read()?;
-        }
+        self.go_on()?;
         Ok(self.line.tell())
+    }
+
+    /// Reads one reading, as [`reading`](Meter::reading) does, and gives how much room the receive
+    /// store has after it. What was read off has left the store. A reading is many frames, whose
+    /// answers tell the other store. So the meter reads this room off the state that they left.
+    ///
+    /// With this and [`line_bytes_and_room`](Meter::line_bytes_and_room) an app always knows that room:
+    /// nothing else changes it but a reset, a device clear and frames of the app's own that make the
+    /// bridge send.
+    ///
+    /// # Errors
+    ///
+    /// Refusal 2 if a store no longer lends the length that it had.
+    ///
+    /// ```
+    /// use raftershim::{Meter, Notes, Reading, Stores};
+    ///
+    /// let stores = Stores { receive: [0; 8], transmit: [0; 3] };
+    /// let mut meter = Meter::create(stores, Notes { gaps: [0; 1], text: [0; 32] }, 3)?;
+    /// assert_eq!(meter.line_bytes_and_room(b"2.5\r\n7")?.room, 2);
+    /// let first = meter.reading_and_room()?;
+    /// assert!(matches!(first.answer, Reading::Whole(text) if text.as_bytes() == b"2.5"));
+    /// assert_eq!(first.room, 7);
+    /// # Ok::<(), raftershim::Refusal>(())
+    /// ```
+    #[must_use = "the reading is told only once"]
+    pub fn reading_and_room(&mut self) -> Result<WithRoom<Reading<'_>>, Refusal> {
+        self.go_on()?;
+        let room = self.bridge.room(Side::Receive)?;
+        let answer = self.line.tell();
+        Ok(WithRoom { answer, room })
+    }
+
+    /// Goes on from what was told last to what is to be told next.
+    fn go_on(&mut self) -> Result<(), Refusal> {
+        self.line.go_on();
+        match self.line.has_news() {
+            true => Ok(()),
+            false => self.read(),
+        }
     }
 
     /// Plays the controller until there is something to tell, or nothing more to read.
@@ -182,19 +220,24 @@ where
         let address = match self.bridge.state()?.address {
             Some(address) => address,
             None => {
-                self.offer(Frame::auto_address(Address::FIRST), Reader::Meter)?;
+                self.ask(Frame::auto_address(Address::FIRST))?;
                 Address::FIRST
             }
         };
-        self.offer(Frame::talk_address(address), Reader::Meter)?;
-        let mut out = self.offer(Frame::SEND_DATA, Reader::Meter)?;
+        self.ask(Frame::talk_address(address))?;
+        let mut out = self.ask(Frame::SEND_DATA)?;
         while out.is_data() {
             if self.line.has_news() {
-                self.offer(Frame::NOT_READY, Reader::Meter)?;
+                self.ask(Frame::NOT_READY)?;
             }
-            out = self.offer(out, Reader::Meter)?;
+            out = self.ask(out)?;
         }
         Ok(())
+    }
+
+    /// Offers a frame of the controller that is played here.
+    fn ask(&mut self, frame: Frame) -> Result<Frame, Refusal> {
+        self.offer(frame, Reader::Meter).map(|taken| taken.answer)
     }
 
     /// Takes bytes from the line, as a serial port hands them over, and gives how many of them were
@@ -215,11 +258,44 @@ where
     /// ```
     #[must_use = "refused bytes are not taken"]
     pub fn line_bytes(&mut self, bytes: &[u8]) -> Result<usize, Refusal> {
-        let mut lost = 0;
+        self.take(bytes).map(|(lost, _)| lost)
+    }
+
+    /// Takes bytes from the line, as [`line_bytes`](Meter::line_bytes) does, and gives how much room
+    /// the receive store has after the last of them. Without a byte it is the room that there is.
+    ///
+    /// # Errors
+    ///
+    /// Refusal 2.
+    ///
+    /// ```
+    /// use raftershim::{Meter, Notes, Stores, WithRoom};
+    ///
+    /// let stores = Stores { receive: [0; 8], transmit: [0; 3] };
+    /// let mut meter = Meter::create(stores, Notes { gaps: [0; 1], text: [0; 32] }, 3)?;
+    /// assert_eq!(meter.line_bytes_and_room(b"2.5\r\n")?, WithRoom { answer: 0, room: 3 });
+    /// assert_eq!(meter.line_bytes_and_room(b"12.7")?, WithRoom { answer: 1, room: 0 });
+    /// # Ok::<(), raftershim::Refusal>(())
+    /// ```
+    #[must_use = "refused bytes are not taken"]
+    pub fn line_bytes_and_room(&mut self, bytes: &[u8]) -> Result<WithRoom<usize>, Refusal> {
+        let (answer, told) = self.take(bytes)?;
+        let room = match told {
+            Some(room) => room,
+            None => self.bridge.room(Side::Receive)?,
+        };
+        Ok(WithRoom { answer, room })
+    }
+
+    /// Takes bytes from the line. Gives how many were lost, and the room that the last one told.
+    fn take(&mut self, bytes: &[u8]) -> Result<(usize, Option<u16>), Refusal> {
+        let (mut lost, mut room) = (0, None);
         for &byte in bytes {
-            lost += usize::from(self.line_byte(byte)? == LineByte::Lost);
+            let taken = self.line_byte_and_room(byte)?;
+            lost += usize::from(taken.answer == LineByte::Lost);
+            room = Some(taken.room);
         }
-        Ok(lost)
+        Ok((lost, room))
     }
 
     /// Takes a byte from the line, as [`Bridge::line_byte`] does.
@@ -229,9 +305,20 @@ where
     /// Refusal 2.
     #[must_use = "whether the byte is lost is in the answer"]
     pub fn line_byte(&mut self, byte: u8) -> Result<LineByte, Refusal> {
+        self.line_byte_and_room(byte).map(|taken| taken.answer)
+    }
+
+    /// Takes a byte from the line and gives how much room the receive store has after it, as
+    /// [`Bridge::line_byte_and_room`] does.
+    ///
+    /// # Errors
+    ///
+    /// Refusal 2.
+    #[must_use = "whether the byte is lost is in the answer"]
+    pub fn line_byte_and_room(&mut self, byte: u8) -> Result<WithRoom<LineByte>, Refusal> {
         let state = self.bridge.state()?;
-        let taken = self.bridge.line_byte(byte)?;
-        if taken == LineByte::Lost {
+        let taken = self.bridge.line_byte_and_room(byte)?;
+        if taken.answer == LineByte::Lost {
             self.missing_after_newest(&state);
         }
         Ok(taken)
@@ -340,6 +427,29 @@ where
     /// ```
     #[must_use = "the frame that goes on along the loop is in the answer"]
     pub fn loop_frame(&mut self, frame: Frame) -> Result<Frame, Refusal> {
+        self.loop_frame_and_room(frame).map(|taken| taken.answer)
+    }
+
+    /// Takes a frame from the loop, as [`loop_frame`](Meter::loop_frame) does, and gives how much room
+    /// the transmit store has after it, as [`Bridge::loop_frame_and_room`] does.
+    ///
+    /// # Errors
+    ///
+    /// Refusal 4 if the bridge is busy, and 2.
+    ///
+    /// ```
+    /// use raftershim::{Address, Frame, Meter, Notes, Stores};
+    ///
+    /// let stores = Stores { receive: [0; 64], transmit: [0; 64] };
+    /// let mut meter = Meter::create(stores, Notes { gaps: [0; 8], text: [0; 32] }, 8)?;
+    /// // A byte that sets the meter's range.
+    /// meter.loop_frame(Frame::auto_address(Address::FIRST))?;
+    /// meter.loop_frame(Frame::listen_address(Address::FIRST))?;
+    /// assert_eq!(meter.loop_frame_and_room(Frame::data_byte(b'R'))?.room, 63);
+    /// # Ok::<(), raftershim::Refusal>(())
+    /// ```
+    #[must_use = "the frame that goes on along the loop is in the answer"]
+    pub fn loop_frame_and_room(&mut self, frame: Frame) -> Result<WithRoom<Frame>, Refusal> {
         self.offer(frame, Reader::App)
     }
 
@@ -406,18 +516,18 @@ where
     }
 
     /// Offers a frame to the bridge and notes what it did to the bytes held for the loop.
-    fn offer(&mut self, frame: Frame, reader: Reader) -> Result<Frame, Refusal> {
+    fn offer(&mut self, frame: Frame, reader: Reader) -> Result<WithRoom<Frame>, Refusal> {
         let before = self.bridge.state()?;
-        let out = self.bridge.loop_frame(frame)?;
+        let taken = self.bridge.loop_frame_and_room(frame)?;
         let after = self.bridge.state()?;
         let gone = usize::from(before.receive.held.saturating_sub(after.receive.held));
         match (frame.is_command(), after.sent == before.sent) {
             (true, _) if gone > 0 => self.thrown_away(&before),
             (true, _) => {}
             (false, true) => self.read_off(&before, gone, None, reader),
-            (false, false) => self.read_off(&before, gone, Some(out), reader),
+            (false, false) => self.read_off(&before, gone, Some(taken.answer), reader),
         }
-        Ok(out)
+        Ok(taken)
     }
 
     /// A send has taken bytes off: first the ends of lines that came by themselves, then what

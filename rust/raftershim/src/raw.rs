@@ -4,8 +4,10 @@
 //! [`Bridge`](crate::Bridge) and [`Mailbox`](crate::Mailbox) call them safely; this module is for a
 //! caller that lends buffers of its own. Every function answers a word, which
 //! [`Answer::of`](crate::Answer::of) reads for the bridge and
-//! [`Answer::of_mailbox`](crate::Answer::of_mailbox) for the mailbox. The lengths of blocks and what
-//! shows a store are no such words.
+//! [`Answer::of_mailbox`](crate::Answer::of_mailbox) for the mailbox. The words of
+//! [`raftershim_line_byte`] and [`raftershim_loop_frame`] have the room that is left too, which
+//! [`Answer::room_of`](crate::Answer::room_of) reads. The lengths of blocks and what shows a store
+//! are no such words.
 //!
 //! # Safety
 //!
@@ -30,7 +32,7 @@
 //!     (created, raw::raftershim_line_byte(b, 56, r, 4, t, 3, 50))
 //! };
 //! assert_eq!((Answer::of(created), Answer::of(taken)), (Ok(Answer::Done), Ok(Answer::Done)));
-//! assert_eq!(rx[0], 50);
+//! assert_eq!((rx[0], Answer::room_of(taken)), (50, 3));
 //! ```
 
 mod mailbox;
@@ -136,7 +138,7 @@ extern "C" {
         value: u32,
     ) -> u64;
 
-    /// Takes a byte from the line. Answers done, or refusal 2.
+    /// Takes a byte from the line. Answers done and the room of the receive store, or refusal 2.
     ///
     /// # Safety
     ///
@@ -152,7 +154,7 @@ extern "C" {
     ///     raftershim_create(b, 56, r, 4, t, 3, 1);
     ///     raftershim_line_byte(b, 56, r, 4, t, 3, 50)
     /// };
-    /// assert_eq!((word, rx[0]), (0, 50));
+    /// assert_eq!((word, rx[0]), (0x3_0000_0000, 50));
     /// ```
     pub fn raftershim_line_byte(
         block: *mut u8,
@@ -245,7 +247,8 @@ extern "C" {
         tx_len: u64,
     ) -> u64;
 
-    /// Takes a frame from the loop. Answers the one frame that goes on, or refusal 2, 3 or 4.
+    /// Takes a frame from the loop. Answers the one frame that goes on and the room of the transmit
+    /// store, or refusal 2, 3 or 4.
     ///
     /// # Safety
     ///
@@ -261,7 +264,7 @@ extern "C" {
     ///     raftershim_create(b, 56, r, 4, t, 3, 1);
     ///     raftershim_loop_frame(b, 56, r, 4, t, 3, 0x581)
     /// };
-    /// assert_eq!(word, 0x3_0582);
+    /// assert_eq!(word, 0x3_0003_0582);
     /// ```
     pub fn raftershim_loop_frame(
         block: *mut u8,

@@ -97,6 +97,20 @@ fn words_of_the_mailbox_are_read() {
 }
 
 #[test]
+fn the_room_is_in_bits_32_to_47_and_nowhere_else() {
+    let answers = [0, 3 << 16 | 2047, 4 << 16 | 4, 0xFFFF_FFFF];
+    for answer in answers {
+        for room in [0, 1, 255, 256, 32_768, 0xFFFF] {
+            for reserved in [0, 1 << 48, 0xFFFF << 48] {
+                let word = answer | u64::from(room) << 32 | reserved;
+                assert_eq!(Answer::room_of(word), room, "word {word:#x}");
+                assert_eq!(Answer::of(word), Answer::of(answer), "word {word:#x}");
+            }
+        }
+    }
+}
+
+#[test]
 fn reserved_bits_do_not_count() {
     let described = [0, 1 << 16, 2 << 16 | 50, 3 << 16 | 2047, 4 << 16 | 4];
     for word in described.into_iter().chain([1, 5 << 16]) {

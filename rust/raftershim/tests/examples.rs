@@ -31,6 +31,7 @@ macro_rules! example {
     };
 }
 
+example!(braille, "../examples/braille.rs");
 example!(mailbox, "../examples/mailbox.rs");
 example!(meter, "../examples/meter.rs");
 example!(printer, "../examples/printer.rs");
@@ -45,6 +46,11 @@ fn said(example: fn() -> Result<(), Refusal>) -> String {
 #[test]
 fn a_meter() {
     assert_eq!(said(meter::run), include_str!("../examples/meter.txt"));
+}
+
+#[test]
+fn a_braille_line() {
+    assert_eq!(said(braille::run), include_str!("../examples/braille.txt"));
 }
 
 #[test]
@@ -77,6 +83,8 @@ fn the_program_of_readme_is_the_example() {
     let shown = [
         include_str!("../examples/meter.rs"),
         include_str!("../examples/meter.txt"),
+        include_str!("../examples/braille.rs"),
+        include_str!("../examples/braille.txt"),
         include_str!("../examples/mailbox.txt"),
     ];
     for text in shown {

@@ -30,9 +30,33 @@ pub fn write(bridge: &mut Bridge, number: u32, value: u32) -> Result<(), Refusal
     bridge.write_register(register, value)
 }
 
+/// Takes line bytes, one after the other.
+pub fn take_all(bridge: &mut Bridge, bytes: &[u8]) -> Said {
+    Said::became(bytes.iter().map(|&byte| bridge.line_byte(byte)))
+}
+
+/// Takes line bytes, one after the other, and says the room of the receive store after the last.
+pub fn take_all_and_room(bridge: &mut Bridge, bytes: &[u8]) -> Said {
+    let mut room = 0;
+    let taken = bytes.iter().map(|&byte| {
+        let taken = bridge.line_byte_and_room(byte)?;
+        room = taken.room;
+        Ok(taken.answer)
+    });
+    Said::became(taken).with_room(room)
+}
+
 /// Takes a loop frame.
 pub fn pass(bridge: &mut Bridge, frame: u32) -> Result<Frame, Refusal> {
     bridge.loop_frame(Frame::try_from(frame)?)
+}
+
+/// Takes a loop frame, and says the room of the transmit store after it.
+pub fn pass_and_room(bridge: &mut Bridge, frame: u32) -> Said {
+    match Frame::try_from(frame).and_then(|frame| bridge.loop_frame_and_room(frame)) {
+        Ok(taken) => Said::Answered(taken.answer.into()).with_room(taken.room),
+        Err(refusal) => Said::refused(refusal, &refusal),
+    }
 }
 
 /// Shows a store.

@@ -95,12 +95,17 @@ impl Player {
             Call::Register { number, value } => {
                 self.on_bridge(|bridge| said(on_bridge::write(bridge, number, value)))
             }
-            Call::Line(ref bytes) => self
-                .on_bridge(|bridge| Said::became(bytes.iter().map(|&byte| bridge.line_byte(byte)))),
+            Call::Line(ref bytes) => self.on_bridge(|bridge| on_bridge::take_all(bridge, bytes)),
+            Call::LineAndRoom(ref bytes) => {
+                self.on_bridge(|bridge| on_bridge::take_all_and_room(bridge, bytes))
+            }
             Call::Break => self.on_bridge(|bridge| said(bridge.line_break())),
             Call::Key => self.on_bridge(|bridge| said(bridge.key())),
             Call::Next => self.on_bridge(|bridge| said(bridge.next_line_byte())),
             Call::Frame(frame) => self.on_bridge(|bridge| said(on_bridge::pass(bridge, frame))),
+            Call::FrameAndRoom(frame) => {
+                self.on_bridge(|bridge| on_bridge::pass_and_room(bridge, frame))
+            }
             Call::Show(side) => self.on_bridge(|bridge| on_bridge::show(bridge, side)),
             Call::State => self.on_bridge(|bridge| on_bridge::state(bridge)),
             Call::Mailbox(ref call) => self.mailbox_answer(line, call, step),

@@ -12,6 +12,13 @@ pub enum Said {
     Answered(Answer),
     /// What became of bytes.
     Became(String),
+    /// What was answered or became of bytes, and the room that is left after it.
+    WithRoom {
+        /// The first of these in words.
+        said: String,
+        /// How many bytes more the store can hold.
+        room: u16,
+    },
     /// The bytes that a store showed.
     Shown(Vec<MailByte>),
     /// The facts of the state.
@@ -66,6 +73,17 @@ impl Said {
         Said::Became(counted(&bytes).unwrap_or_default())
     }
 
+    /// The same with the room that is left; a refusal has none.
+    pub fn with_room(self, room: u16) -> Said {
+        match self {
+            Said::Refused { .. } => self,
+            _ => Said::WithRoom {
+                said: self.to_string(),
+                room,
+            },
+        }
+    }
+
     /// The sentence that is as expected, if there is one.
     pub fn meeting(&self, expected: &Expected) -> Option<String> {
         let heard = self.to_string();
@@ -97,6 +115,7 @@ impl fmt::Display for Said {
         match self {
             Said::Answered(answer) => write!(f, "{answer}"),
             Said::Became(bytes) => f.write_str(bytes),
+            Said::WithRoom { said, room } => write!(f, "{said}, room {room}"),
             Said::Shown(bytes) if bytes.is_empty() => f.write_str("nothing"),
             Said::Shown(bytes) => {
                 f.write_str(&number_of(bytes.len() as u64, "byte", "bytes"))?;

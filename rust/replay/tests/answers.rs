@@ -3,6 +3,8 @@
 mod played;
 
 use played::{end, ends, play, strings};
+use raftershim::{Answer, Refusal};
+use raftershim_replay::say::Said;
 
 #[test]
 fn a_script_without_create_is_told_its_bridge() {
@@ -35,6 +37,45 @@ fn what_became_of_line_bytes() {
     // A lost byte is not done.
     assert_eq!(ends("create 4 3 1\nline \"12345\" => done").0, 1);
     assert_eq!(ends("create 4 3 1\nline \"12345\" => 5 stored").0, 1);
+}
+
+#[test]
+fn the_room_is_said_where_it_is_asked_for() {
+    let script = "create 4 3 1\nline \"12\" 19 room => 2 stored, 1 taken as stop, room 2\n\
+                  line \"345\" room => 2 stored, 1 lost, room 0\nline 17 room => 1 taken as go, room 0\n\
+                  frame 5,129 room => frame 5,130, room 3\nframe 4,33 => frame 4,33\n\
+                  frame 0,65 room => frame 0,65, room 2\nframe 0,66 room => frame 0,66 room 1\n\
+                  frame 0,67 room => frame 0,67, room 0\nframe 0,68 room => refusal 4\n\
+                  frame 2048 room => refusal 3\nnext => line byte 19\n";
+    assert_eq!(ends(script), end(0, "11 lines as expected, 0 differ"));
+    // Another room, a room that was not asked for, one that is not expected, and one with a refusal.
+    let wrong = [
+        "line 1 room => 1 stored, room 4",
+        "line 1 => 1 stored, room 3",
+        "line 1 room => 1 stored",
+        "frame 5,129 room => frame 5,130, room 4",
+        "frame 2048 room => refusal 3, room 3",
+    ];
+    for line in wrong {
+        assert_eq!(ends(&format!("create 4 3 1\n{line}\n")).0, 1, "{line}");
+    }
+    let (_, said, _) = play("create 4 3 1\nline 1 room\nframe 2048 room\n");
+    assert!(
+        said.contains("line 2: 1 stored, room 3\nline 3: refusal 3: "),
+        "{said}"
+    );
+}
+
+#[test]
+fn a_refusal_has_no_room_in_words_either() {
+    let refused = Said::refused(Refusal::MISFIT, &Refusal::MISFIT);
+    assert_eq!(refused.clone().with_room(3), refused);
+    let taken = [Ok("stored"), Err(Refusal::MISFIT)];
+    let said = Said::became(taken.into_iter()).with_room(3).to_string();
+    assert!(said.starts_with("1 stored, then refusal 2: "), "{said}");
+    assert!(!said.contains("room"), "{said}");
+    let said = Said::Answered(Answer::Done).with_room(3).to_string();
+    assert_eq!(said, "done, room 3");
 }
 
 #[test]

@@ -35,7 +35,7 @@ fn expecting(script: &str) -> Vec<usize> {
 #[test]
 fn every_script_is_as_expected() {
     let scripts = scripts();
-    assert!(scripts.len() >= 14, "only {} scripts", scripts.len());
+    assert!(scripts.len() >= 15, "only {} scripts", scripts.len());
     for (name, script) in scripts {
         let (status, said, mistakes) = play(&script);
         let expected = expecting(&script).len();

@@ -3,6 +3,9 @@
 use crate::{FrameName, MailboxCall, RegisterName};
 use std::fmt;
 
+/// The word after bytes of the line or a frame that asks for the room that is left.
+pub(crate) const ROOM: &str = "room";
+
 /// What a line speaks of.
 #[derive(Clone, Copy, Debug, PartialEq, Eq, Hash)]
 pub enum Product {
@@ -47,6 +50,8 @@ pub enum Call {
     },
     /// Take these line bytes, one after the other; there is at least one.
     Line(Vec<u8>),
+    /// Take these line bytes in the same way, and say the room that is left.
+    LineAndRoom(Vec<u8>),
     /// Take a break.
     Break,
     /// Take a press of the MSRQ key.
@@ -55,6 +60,8 @@ pub enum Call {
     Next,
     /// Take a loop frame.
     Frame(u32),
+    /// Take a loop frame, and say the room that is left.
+    FrameAndRoom(u32),
     /// Show a store.
     Show(Side),
     /// Say the state.
@@ -97,10 +104,15 @@ impl fmt::Display for Call {
             }
             Call::Restore(bytes) => with_bytes(f, "restore", bytes),
             Call::Line(bytes) => with_bytes(f, "line", bytes),
+            Call::LineAndRoom(bytes) => {
+                with_bytes(f, "line", bytes)?;
+                write!(f, " {ROOM}")
+            }
             Call::Break => f.write_str("break"),
             Call::Key => f.write_str("key"),
             Call::Next => f.write_str("next"),
             Call::Frame(frame) => write!(f, "frame {}", FrameName(*frame)),
+            Call::FrameAndRoom(frame) => write!(f, "frame {} {ROOM}", FrameName(*frame)),
             Call::Show(side) => write!(f, "show {side}"),
             Call::State => f.write_str("state"),
             Call::Mailbox(call) => write!(f, "{call}"),

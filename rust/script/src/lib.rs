@@ -13,6 +13,8 @@
 //! let script: Script = "create 64 64 8\nline \"2.5\" 13 10 => 5 stored # a reading\n".parse()?;
 //! assert_eq!(script.steps[1].call, Call::Line(vec![50, 46, 53, 13, 10]));
 //! assert_eq!(script.to_string(), "create 64 64 8\nline 50 46 53 13 10 => 5 stored\n");
+//! let script: Script = "line \"2.5\" room => 3 stored, room 61\n".parse()?;
+//! assert_eq!(script.steps[0].call, Call::LineAndRoom(vec![50, 46, 53]));
 //! let script: Script = "mailbox 4 4 7\nbyte \"2.5\" end => 3 kept\n".parse()?;
 //! assert_eq!(script.to_string(), "mailbox 4 4 7\nbyte 50 46 53 end => 3 kept\n");
 //! # Ok::<(), raftershim_script::Unread>(())

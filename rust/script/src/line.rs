@@ -1,5 +1,6 @@
 //! One line of a script becomes one step, or a mistake.
 
+use crate::call::ROOM;
 use crate::word::{find_unquoted, number, text_bytes, words, Word};
 use crate::{
     Call, Command, Expected, FrameName, MailboxCall, Mistake, Product, RegisterName, Side, Wanted,
@@ -78,11 +79,11 @@ fn parse_call(
         (Bridge, "reset") => rest("reset").end(Call::Reset),
         (Bridge, "restore") => rest("restore").bytes().map(Call::Restore),
         (Bridge, "register") => rest("register").register(),
-        (Bridge, "line") => rest("line").bytes().map(Call::Line),
+        (Bridge, "line") => rest("line").line_bytes(),
         (Bridge, "break") => rest("break").end(Call::Break),
         (Bridge, "key") => rest("key").end(Call::Key),
         (Bridge, "next") => rest("next").end(Call::Next),
-        (Bridge, "frame") => rest("frame").frame().map(Call::Frame),
+        (Bridge, "frame") => rest("frame").bridge_frame(),
         (Bridge, "show") => rest("show").side().map(Call::Show),
         (Bridge, "state") => rest("state").end(Call::State),
         (Mailbox, "reset") => mailbox(rest("reset").end(MailboxCall::Reset)),
@@ -138,6 +139,26 @@ impl Rest<'_> {
     /// Bytes and texts up to the end of the line, at least one.
     fn bytes(mut self) -> Result<Vec<u8>, Mistake> {
         self.bytes_before(None)
+    }
+
+    /// Bytes and texts up to the end of the line, at least one; the word room after them asks for
+    /// the room that is left.
+    fn line_bytes(mut self) -> Result<Call, Mistake> {
+        let bytes = self.bytes_before(Some(ROOM))?;
+        match self.words.next() {
+            None => Ok(Call::Line(bytes)),
+            Some(_) => self.end_after(ROOM, Call::LineAndRoom(bytes)),
+        }
+    }
+
+    /// A frame; the word room after it asks for the room that is left.
+    fn bridge_frame(mut self) -> Result<Call, Mistake> {
+        let frame = self.word(Wanted::Frame, FrameName::parse)?;
+        match self.words.next() {
+            None => Ok(Call::Frame(frame)),
+            Some(Word::Plain(ROOM)) => self.end_after(ROOM, Call::FrameAndRoom(frame)),
+            word => Err(self.mistake(Wanted::RoomOrNothing, word)),
+        }
     }
 
     /// Bytes and texts up to the end of the line, at least one; the word end after them is the
@@ -212,6 +233,12 @@ impl Rest<'_> {
         let word = self.words.next();
         let meant = word.and_then(Word::plain).and_then(meaning);
         meant.ok_or_else(|| self.mistake(wanted, word))
+    }
+
+    /// What was read, if no word is left after this one.
+    fn end_after<T>(mut self, word: &'static str, read: T) -> Result<T, Mistake> {
+        self.after = word;
+        self.end(read)
     }
 
     /// What was read, if no word is left.

@@ -104,6 +104,8 @@ pub enum Wanted {
     Command,
     /// A number up to this one, which a command's name takes.
     UpTo(u32),
+    /// The word that asks for the room that is left, or the end of the line.
+    RoomOrNothing,
     /// The end of the line.
     NothingMore,
 }
@@ -138,6 +140,7 @@ impl Wanted {
                 "UNL, UNT, MLA, MTA, LAD, TAD, SPE, SPD, DCL, SDC, PPC, PPE, PPD, PPU or a number"
             }
             Wanted::UpTo(_) => "a number",
+            Wanted::RoomOrNothing => "the word room or nothing more",
             Wanted::NothingMore => "nothing more",
         }
     }
@@ -148,7 +151,8 @@ impl fmt::Display for Wanted {
         f.write_str(self.words())?;
         match self {
             Wanted::Register | Wanted::Frame | Wanted::Command => Ok(()),
-            Wanted::Side | Wanted::Way | Wanted::NothingMore => Ok(()),
+            Wanted::Side | Wanted::Way => Ok(()),
+            Wanted::RoomOrNothing | Wanted::NothingMore => Ok(()),
             _ => write!(f, " from 0 to {}", self.largest()),
         }
     }

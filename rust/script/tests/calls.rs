@@ -51,6 +51,20 @@ fn line_bytes() {
     assert_eq!(call("line 255"), Call::Line(vec![255]));
     assert_eq!(call("line \"2.5\" 13 10"), Call::Line(b"2.5\r\n".to_vec()));
     assert_eq!(call("line \"# => \" 1"), Call::Line(b"# => \x01".to_vec()));
+    assert_eq!(call("line \"room\""), Call::Line(b"room".to_vec()));
+}
+
+#[test]
+fn the_room_may_be_asked_for() {
+    let bytes = b"2.5\r".to_vec();
+    assert_eq!(call("line \"2.5\" 13 room"), Call::LineAndRoom(bytes));
+    let text = Call::LineAndRoom(b"room".to_vec());
+    assert_eq!(call("line \"room\"room"), text);
+    assert_eq!(call("frame 5,96 room"), Call::FrameAndRoom(1376));
+    assert_eq!(call("frame 2048 room"), Call::FrameAndRoom(2048));
+    let expecting = step("frame 5,96 room => frame 0,50, room 3");
+    assert_eq!(expecting.call, Call::FrameAndRoom(1376));
+    assert_eq!(expecting.expected, Expected::new("frame 0,50, room 3"));
 }
 
 #[test]

@@ -50,7 +50,21 @@ fn mistakes_in_the_call() {
     ];
     mistakes(calls, &found);
     mistakes("nothing more after next", &[("next 1", "1")]);
-    mistakes("nothing more after frame", &[("frame 5,96 0,50", "0,50")]);
+    let found = [
+        ("frame 5,96 0,50", "0,50"),
+        ("frame 5,96 Room", "Room"),
+        ("frame 5,96 \"room\"", "\"room\""),
+    ];
+    mistakes("the word room or nothing more after frame", &found);
+    let found = [
+        ("frame 5,96 room 2", "2"),
+        ("frame 5,96 room room", "room"),
+        ("line 50 room 2", "2"),
+        ("line \"2\" room \"5\"", "\"5\""),
+    ];
+    mistakes("nothing more after room", &found);
+    mistakes("a byte from 0 to 255 after line", &[("line room", "room")]);
+    mailbox_mistakes("nothing more after frame", &[("frame 5,96 room", "room")]);
     mistakes("nothing more after create", &[("create 4 3 1 2", "2")]);
     let found = [("next =>", "nothing"), ("next => :", "nothing")];
     mistakes("an answer after =>", &found);

@@ -26,6 +26,7 @@ fn every_call() -> Vec<Call> {
         Call::Show(Side::Transmit),
         Call::Line((0..=255).collect()),
         Call::Line(vec![255; 1000]),
+        Call::LineAndRoom(vec![255; 1000]),
         Call::Restore((0..56).collect()),
         Call::Create {
             receive: 0,
@@ -34,7 +35,7 @@ fn every_call() -> Vec<Call> {
         },
     ];
     for number in numbers {
-        calls.push(Call::Frame(number));
+        calls.extend([Call::Frame(number), Call::FrameAndRoom(number)]);
         let registers = numbers.map(|value| Call::Register { number, value });
         calls.extend(registers);
     }
@@ -97,6 +98,8 @@ fn names_are_printed_where_there_are_some() {
     assert_eq!(print("frame 1376 # send data"), "frame 5,96\n");
     assert_eq!(print("frame 8,0"), "frame 2048\n");
     assert_eq!(print("line \"2.5\" 13 10"), "line 50 46 53 13 10\n");
+    assert_eq!(print("line \"2.5\"   room"), "line 50 46 53 room\n");
+    assert_eq!(print("frame 1376 room#"), "frame 5,96 room\n");
     let print =
         |line: &str| print(&format!("mailbox 4 4 7\n{line}")).replace("mailbox 4 4 7\n", "");
     assert_eq!(print("byte \"2.5\" end"), "byte 50 46 53 end\n");
@@ -128,5 +131,5 @@ fn every_script_of_the_folder() {
         round_trip(&script);
         scripts += 1;
     }
-    assert!(scripts > 12, "only {scripts} scripts");
+    assert!(scripts > 13, "only {scripts} scripts");
 }
