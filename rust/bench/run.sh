@@ -8,7 +8,6 @@ set -eu
 cd "$(dirname "$0")/../.."
 . archives/tools.sh
 here=rust/bench
-work=target/bench
 # The works of the bridge, and one for each way through the mailbox.
 works='meter print status to-bus to-loop'
 stores='64 1024 32768'
@@ -31,6 +30,8 @@ while [ $# -gt 0 ]; do
 done
 
 for_target "$triple"
+# Each target has a folder of its own, so that two may be counted beside each other.
+work=target/bench/$triple
 need llvm llvm-size
 need valgrind valgrind
 sh rust/cargo.sh "$triple" build --release --quiet -p raftershim-bench
