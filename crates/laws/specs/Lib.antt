@@ -8,6 +8,7 @@ pub mod Answering
 pub mod Order
 pub mod Places
 pub mod CallPlaces
+pub mod PlacesSince
 pub mod Starting
 pub mod Showing
 pub mod Examples

@@ -31,6 +31,7 @@ pub mod Refused
 pub mod StatusTold
 pub mod SendRule
 pub mod Since
+pub mod PlacesSince
 pub mod Cleared
 pub mod Requests
 pub mod Holding
