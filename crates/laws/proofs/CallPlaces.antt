@@ -31,14 +31,14 @@ use Rattle.bridge.specs.Calls.{reset, write, lineByte, lineBreak, key, nextLine
 use Rattle.bridge.specs.Calls.{World, world, Did, outcome, settledBy, rxAfter, txAfter, notRefused, checks, step, refusal}
 use Rattle.answers.specs.Answers.{refused, said}
 use Rattle.laws.specs.Fitting.{Fits}
-use Rattle.laws.specs.Places.{nextPlace}
+use Rattle.places.specs.OneStore.{nextPlace, Placed}
 use Rattle.laws.specs.Bridges.{bridge}
 use Rattle.laws.specs.Observers.{accepted, added, empties}
 use Rattle.laws.specs.Observers as see
-use Rattle.laws.specs.CallPlaces.{Placed, BothPlaced, Places}
+use Rattle.laws.specs.CallPlaces.{BothPlaced, Places}
 use Rattle.laws.proofs.Refusing.{by-refusal, fitting, frame-fitting}
-use Rattle.laws.proofs.OneStore.{stays, stays-same, emptied, left}
-use Rattle.laws.proofs.OneStore as one-store
+use Rattle.places.proofs.OneStore.{stays, stays-same, emptied, left}
+use Rattle.places.proofs.OneStore as one-store
 use Rattle.laws.proofs.Answers.{frame-not-refused}
 use Rattle.laws.proofs.FramePlaces.{Kind, clears, stores, other, frame-kind}
 

@@ -45,7 +45,7 @@ use Rattle.store.specs.Bytes.{Bytes}
 use Rattle.laws.proofs.Ways.{Returning, Way, way}
 use Rattle.laws.proofs.Ways.{isNext, isBack, isLast, isDamaged, isStored, isPassed, isCleared}
 use Rattle.laws.proofs.Ways.{isObeyed, isAssigned, isSendAsked, isTold, isFinishing, isReady, isIdentified}
-use Rattle.laws.proofs.OneStore.{more-fits}
+use Rattle.places.proofs.OneStore.{more-fits}
 use Rattle.laws.proofs.Small.{put-bytes, given-small, status-small}
 use Rattle.laws.proofs.States.{tested, start-fits, with-registers, with-rx, with-tx, talking-tests, obeyed-tests, cleared-tests, assigned-tests, finishing-tests}
 

@@ -22,8 +22,8 @@ use Rattle.loopside.specs.Sends.{ruleOf, ended, removedState, sendState, sendFr
 use Rattle.loopside.specs.Frames.{orderIn, cleared, obeyed, frameTaken, deviceClear, addsBytes}
 use Rattle.role.specs.Orders.{isClear}
 use Rattle.role.proofs.Clears.{clear-order}
-use Rattle.laws.specs.Places.{nextPlace}
-use Rattle.laws.proofs.OneStore.{left}
+use Rattle.places.specs.OneStore.{nextPlace}
+use Rattle.places.proofs.OneStore.{left}
 use Rattle.laws.proofs.Ways.{Returning, Readying, Way, way}
 use Rattle.laws.proofs.Ways.{isNext, isBack, isLast, isDamaged, isStored, isPassed, isCleared}
 use Rattle.laws.proofs.Ways.{isObeyed, isAssigned, isSendAsked, isTold, isFinishing, isReady, isIdentified}

@@ -1,5 +1,5 @@
 -- `Refusing` tells what is refused from what is done, `Ways` has every way out of a frame, `Small` bounds the frames that are sent, `States` has
--- each change of a state that fits, `OneStore` and `FramePlaces` serve `CallPlaces`; the others prove the specs of their names.
+-- each change of a state that fits, `FramePlaces` serves `CallPlaces`; the others prove the specs of their names.
 pub mod Refusing
 pub mod Ways
 pub mod Small
@@ -8,8 +8,6 @@ pub mod Fitting
 pub mod OneResult
 pub mod Answers
 pub mod Order
-pub mod Places
-pub mod OneStore
 pub mod FramePlaces
 pub mod CallPlaces
 pub mod Starting

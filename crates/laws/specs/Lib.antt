@@ -1,12 +1,11 @@
 -- Laws of any bridge. `Bridges` says what a bridge and a law are, `Observers` what is seen of a call, `Worlds` what a world holds, and `Laws`
--- lists every law. `OneResult`, `Order`, `Places` and `Examples` are of our own bridge.
+-- lists every law. `OneResult`, `Order` and `Examples` are of our own bridge.
 pub mod Bridges
 pub mod Observers
 pub mod Fitting
 pub mod OneResult
 pub mod Answering
 pub mod Order
-pub mod Places
 pub mod CallPlaces
 pub mod PlacesSince
 pub mod Starting

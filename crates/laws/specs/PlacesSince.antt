@@ -2,7 +2,7 @@
 -- bridge records of places is looked at.
 use Prim.Native.Nat.{ℕ}
 use mathlib.Core.List.{List}
-use Rattle.remainder.specs.Filling.{Filling, FilledSince}
+use Rattle.places.specs.Filling.{Filling, FilledSince}
 use Rattle.answers.specs.Answers.{Said}
 use Rattle.bridge.specs.Calls.{Call, World}
 use Rattle.laws.specs.Bridges.{Law}

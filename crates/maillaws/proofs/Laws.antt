@@ -19,7 +19,7 @@ use Rattle.maillaws.proofs.ShowsGiven.{shows-so}
 use Rattle.maillaws.proofs.NewsGoes.{news-goes}
 use Rattle.maillaws.proofs.PollsSeen.{lines-told, identify-told}
 use Rattle.maillaws.proofs.HoldsGo.{response-goes, hold-goes}
-use Rattle.maillaws.proofs.CellPlaces.{places-go}
+use Rattle.maillaws.proofs.CellPlaces.{places-go, places-since}
 use Rattle.maillaws.proofs.Returned.{returns-judged}
 use Rattle.maillaws.proofs.PassedOn.{frames-pass}
 use Rattle.maillaws.proofs.ServiceBits.{service-bit}
@@ -34,6 +34,7 @@ all-obeyed =
     also request-waits toBus also request-waits toLoop also request-goes toBus also request-goes toLoop
     also loop-given also bus-given also holds-back also released also loop-role-goes also bus-role-goes
     also starts-so also reset-gives-start also shows-so also news-goes toBus also news-goes toLoop
-    also lines-told also identify-told also response-goes also hold-goes also places-go toBus also places-go toLoop
+    also lines-told also identify-told also response-goes also hold-goes
+    also places-go toBus also places-go toLoop also places-since toBus also places-since toLoop
     also returns-judged also frames-pass also service-bit
     also tt

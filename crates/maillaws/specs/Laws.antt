@@ -17,7 +17,7 @@ use Rattle.maillaws.specs.MailShows.{ShowsSo}
 use Rattle.maillaws.specs.NewsGoing.{NewsGo}
 use Rattle.maillaws.specs.PollsTold.{LinesTold, IdentifyTold, ResponseGoes}
 use Rattle.maillaws.specs.HoldGoing.{HoldGoes}
-use Rattle.maillaws.specs.MailPlaces.{PlacesGo}
+use Rattle.maillaws.specs.MailPlaces.{PlacesGo, PlacesSince}
 use Rattle.maillaws.specs.OwnReturns.{ReturnsJudged}
 use Rattle.maillaws.specs.FramesOn.{FramesPass}
 use Rattle.maillaws.specs.ServiceOut.{ServiceBit}
@@ -32,6 +32,7 @@ laws =
     ∷ RequestWaits toBus ∷ RequestWaits toLoop ∷ RequestGoes toBus ∷ RequestGoes toLoop
     ∷ LoopGiven ∷ BusGiven ∷ HoldsBack ∷ Released ∷ LoopRoleGoes ∷ BusRoleGoes
     ∷ StartsSo ∷ ResetGivesStart ∷ ShowsSo ∷ NewsGo toBus ∷ NewsGo toLoop
-    ∷ LinesTold ∷ IdentifyTold ∷ ResponseGoes ∷ HoldGoes ∷ PlacesGo toBus ∷ PlacesGo toLoop
+    ∷ LinesTold ∷ IdentifyTold ∷ ResponseGoes ∷ HoldGoes
+    ∷ PlacesGo toBus ∷ PlacesGo toLoop ∷ PlacesSince toBus ∷ PlacesSince toLoop
     ∷ ReturnsJudged ∷ FramesPass ∷ ServiceBit
     ∷ []

@@ -11,6 +11,8 @@ use Rattle.talker.specs.Returning.{returnOf}
 use Rattle.talker.specs.TalkerFit as talker-fit
 use Rattle.talker.specs.UnderWay.{talking}
 use Rattle.store.specs.Ring.{fitTest, putRing, putBytes, dropRing}
+use Rattle.places.specs.OneStore.{writtenFrom, placeAfter}
+use Rattle.places.specs.Filling.{filled}
 use Rattle.news.specs.News.{newsByte}
 use Rattle.polls.specs.Polls.{answerBits, joined}
 use Rattle.bus.specs.Bus as bus
@@ -88,7 +90,7 @@ unfolding see.left see.fetched see.restarts see.clearsBy see.told news-told.ends
 sights-open = tt
 
 unfoldable laws-open : Unit {0}
-unfolding loop-role.commanded loop-role.readied loop-role.returnedTo loop-role.byFrame bus-role.commandedBus bus-role.clearedBus bus-role.fetchedBus
+unfolding loop-role.commanded loop-role.readied loop-role.returnedTo loop-role.byFrame bus-role.commandedBus bus-role.clearedBus bus-role.fetchedBus writtenFrom placeAfter filled
 laws-open = tt
 
 unfoldable mailbox-open : Unit {0}

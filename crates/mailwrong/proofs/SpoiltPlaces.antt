@@ -15,11 +15,11 @@ use Rattle.mailwrong.proofs.MailComputing.{computes}
 
 pub wipes-fetched-falls : Breaks (wipesFetched toBus) (PlacesGo toBus)
 unfolding computes
-wipes-fetched-falls law = lists-differ _ _ refl (law (asks toBus) (waiting toBus 1 (fetcher toBus)) tt .cells)
+wipes-fetched-falls law = lists-differ _ _ refl (law (asks toBus) (waiting toBus 1 (fetcher toBus)) tt .bytes)
 
 pub writes-high-falls : Breaks (writesHigh toLoop) (PlacesGo toLoop)
 unfolding computes
-writes-high-falls law = lists-differ _ _ refl (rw (no-round 2 0 refl) at (law (leaves toLoop 57) (leaver toLoop) tt .cells))
+writes-high-falls law = lists-differ _ _ refl (rw (no-round 2 0 refl) at (law (leaves toLoop 57) (leaver toLoop) tt .bytes))
 
 -- ---- where
 
@@ -27,7 +27,7 @@ pub leaves-further-falls : Breaks (leavesFurther toLoop) (PlacesGo toLoop)
 unfolding computes
 leaves-further-falls law =
     lists-differ _ _ refl
-    (rw (holds (cellsFor toLoop) 0 0 refl, no-round 2 1 refl, no-round 2 1 refl, no-round 2 0 refl) at (law (leaves toLoop 57) (leaver toLoop) tt .cells))
+    (rw (holds (cellsFor toLoop) 0 0 refl, no-round 2 1 refl, no-round 2 1 refl, no-round 2 0 refl) at (law (leaves toLoop 57) (leaver toLoop) tt .bytes))
 
 -- place 1 is the next, where it is place 0
 pub clear-keeps-place-falls : Breaks (clearKeepsPlace toBus) (PlacesGo toBus)

@@ -5,6 +5,8 @@ use mathlib.Core.List.{List, [], _∷_}
 use lib.ListN.{set}
 use Rattle.store.specs.declared.Ring.{Ring}
 use Rattle.store.specs.Ring.{wrap, putBytes}
+use Rattle.places.specs.GoingRound.{Round}
+use Rattle.places.specs.WrongRounds.{late, toTheSecond}
 use Rattle.mailbox.specs.Calls.{Call, World, Did, step}
 use Rattle.maillaws.specs.Sights.{Direction, storeOf, ringOf, left, comes, clearsBy}
 use Rattle.mailwrong.specs.Spoiling.{insteadAt, leaving, withRing, withCells}
@@ -34,3 +36,21 @@ abbrev pub clearKeepsPlace : Direction → Call → World → Did
 clearKeepsPlace d =
     leaving
     (λ c w v. cond (clearsBy d c w (step c w .said)) (withRing d (record { cap = ringOf d v .cap; oldest = ringOf d w .oldest; len = 0 }) v) v)
+
+-- ---- going round
+
+abbrev putRound : Round → Direction → List ℕ → World → World → World
+putRound g d [] w v = v
+putRound g d (x ∷ xs) w v = withCells d (set (storeOf d w) (g (ringOf d w .cap) (ringOf d w .oldest + ringOf d w .len)) x) v
+
+-- a mailbox that writes by a way of going round
+abbrev leavesBy : Round → Direction → Call → World → Did
+leavesBy g d = leaving (λ c w v. putRound g d (left d c w (step c w .said)) w v)
+
+-- goes round one place late in the way d, and swallows the cell that should stand at place 0
+abbrev pub leavesLate : Direction → Call → World → Did
+leavesLate = leavesBy late
+
+-- comes round to place 1 in the way d, and writes over the cell that waits there
+abbrev pub leavesAtSecond : Direction → Call → World → Did
+leavesAtSecond = leavesBy toTheSecond

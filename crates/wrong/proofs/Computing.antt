@@ -36,7 +36,8 @@ use Rattle.laws.specs.Returns.{finishes}
 use Rattle.laws.specs.Spells.{spells}
 use Rattle.laws.specs.StatusTold.{numberOf}
 use Rattle.laws.specs.Roles as roles
-use Rattle.laws.specs.CallPlaces as places
+use Rattle.places.specs.OneStore as places
+use Rattle.places.specs.Filling.{filled}
 use Rattle.laws.specs.Registers.{writtenTo}
 use Rattle.laws.specs.Requests.{comes}
 
@@ -118,7 +119,7 @@ unfolding holding.sends holding.holdingAfter next.afterByte next.forbiddenAfter 
 laws-open = tt
 
 unfoldable roles-said : Unit {0}
-unfolding roles.commanded roles.readied roles.returnedTo roles.byFrame roles.commandedRemote roles.remoteByFrame places.writtenFrom places.placeAfter writtenTo comes
+unfolding roles.commanded roles.readied roles.returnedTo roles.byFrame roles.commandedRemote roles.remoteByFrame places.writtenFrom places.placeAfter filled writtenTo comes
 roles-said = tt
 
 unfoldable bridge-open : Unit {0}

@@ -1,15 +1,16 @@
 -- Bridges that treat the stores, or the state that goes with them, wrongly.
-use Prim.Native.Nat.{_+_}
+use Prim.Native.Nat.{ℕ, _+_}
 use mathlib.Core.Bool.{cond}
-use mathlib.Core.List.{[], _++_}
+use mathlib.Core.List.{List, [], _∷_, _++_}
 use lib.ListN.{length, set}
 use Rattle.store.specs.Ring.{wrap, emptyRing, dropRing}
 use Rattle.answers.specs.Answers.{done}
 use Rattle.state.specs.State.{withRx, withTx}
 use Rattle.bridge.specs.Calls.{Call, World, world, Did, step}
-use Rattle.laws.specs.Observers.{any, accepted, lost, handedOut, clears}
-use Rattle.laws.specs.Places.{nextPlace}
-use Rattle.laws.specs.CallPlaces.{writtenFrom}
+use Rattle.laws.specs.Observers.{any, accepted, lost, added, handedOut, clears}
+use Rattle.places.specs.OneStore.{nextPlace, writtenFrom}
+use Rattle.places.specs.GoingRound.{Round}
+use Rattle.places.specs.WrongRounds.{late, masked, toTheSecond}
 use Rattle.wrong.specs.Changing.{leaving, afterwards, isCreate}
 
 -- ---- places
@@ -27,6 +28,33 @@ clearsInPlace = afterwards (λ c w s. cond (clears c w done) (withRx s (dropRing
 -- writes 0 over the byte that it hands out
 abbrev pub wiping : Call → World → Did
 wiping = leaving (λ c w v. world (v .state) (v .rx) (cond (any (handedOut c w (step c w .said))) (set (w .tx) (w .state .tx .oldest) 0) (v .tx)))
+
+-- ---- going round
+
+-- the store with the bytes l written by a way of going round, the first at the place p, which may be past the last
+abbrev written : Round → ℕ → List ℕ → List ℕ → List ℕ
+written g p [] s = s
+written g p (b ∷ l) s = written g (p + 1) l (set s (g (length s) p) b)
+
+-- a bridge that writes by a way of going round
+abbrev roundBy : Round → Call → World → Did
+roundBy g =
+    leaving
+    (λ c w v.
+    world (v .state) (written g (w .state .rx .oldest + w .state .rx .len) (accepted c w done) (w .rx))
+    (written g (w .state .tx .oldest + w .state .tx .len) (added c w done) (w .tx)))
+
+-- goes round one place late, and swallows the byte that should stand at place 0
+abbrev pub roundLate : Call → World → Did
+roundLate = roundBy late
+
+-- goes round by a mask, whatever the length of the store
+abbrev pub roundMasked : Call → World → Did
+roundMasked = roundBy masked
+
+-- comes round to place 1, and writes over the byte that is held there
+abbrev pub roundToSecond : Call → World → Did
+roundToSecond = roundBy toTheSecond
 
 -- ---- the stores themselves
 

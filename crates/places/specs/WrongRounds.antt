@@ -3,7 +3,7 @@ use Prim.Native.Nat.{ℕ, _+_, _-_, _%_}
 use mathlib.Core.Bool.{cond}
 use lib.Bits.{bitAnd}
 use lib.Dec.{leb, ltb}
-use Rattle.remainder.specs.GoingRound.{Round}
+use Rattle.places.specs.GoingRound.{Round}
 
 -- one place late: the place past the last is taken for one of the store
 abbrev pub late : Round

@@ -7,7 +7,7 @@ use Rattle.store.specs.declared.Ring.{Ring}
 use Rattle.store.specs.Ring.{wrap, dropRing}
 use Rattle.store.proofs.Laws.{wrap-low, put-room, ring-room}
 use Rattle.store.proofs.Places.{wrap-wrap}
-use Rattle.laws.specs.Places.{nextPlace, PlacesGoOn}
+use Rattle.places.specs.OneStore.{nextPlace, PlacesGoOn}
 
 pub places-go-on : PlacesGoOn
 unfolding dropRing

@@ -14,7 +14,7 @@ use Rattle.store.specs.declared.Offered.{Offered}
 use Rattle.store.specs.Ring.{Within, Fit, wrap, held, run, full, putBytes, dropRing}
 use Rattle.store.specs.Promises.{Put, Dropped, Shown}
 use Rattle.store.proofs.Laws.{wrap-low, wrap-high, held-at, held-length, run-part}
-use Rattle.remainder.specs.GoingRound.{byRemainder, placeBy, putBy, lookBy, dropBy, bytesBy, KnownByRemainder}
+use Rattle.places.specs.GoingRound.{byRemainder, placeBy, putBy, lookBy, dropBy, bytesBy, KnownByRemainder}
 
 -- ---- going round once, by a comparison and by the remainder
 

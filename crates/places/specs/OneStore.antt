@@ -1,8 +1,9 @@
 -- Sizes and refusals, the places of the stores: place 0 first after create, reset or device clear, then place after place, and no other
--- byte is written.
+-- byte is written. It is said of one store over one call, of bytes and of cells alike.
 use Prim.Native.Nat.{ℕ, _+_, _≤_, _<_}
 use mathlib.Core.Path.{_≡_}
-use mathlib.Core.List.{List}
+use mathlib.Core.Bool.{Bool, true, cond}
+use mathlib.Core.List.{List, [], _∷_}
 use lib.ListN.{length, set}
 use Rattle.store.specs.declared.Ring.{Ring}
 use Rattle.store.specs.Ring.{Fit, wrap, emptyRing, putRing, putBytes, dropRing}
@@ -22,3 +23,24 @@ pub record PlacesGoOn : Type 0 where
       nextPlace (length s) (putRing r) ≡ wrap (length s) (nextPlace (length s) r + 1)
   -- also when bytes were removed in between, all of them too
   pub removed : (s : List ℕ) (r : Ring) (n : ℕ) → Fit s r → n ≤ r .len → nextPlace (length s) (dropRing r n) ≡ nextPlace (length s) r
+
+-- ---- over a call
+
+-- the store with the bytes l written from place p on, each at the place after the one before it
+unfoldable pub writtenFrom : ℕ → List ℕ → List ℕ → List ℕ
+writtenFrom p [] s = s
+writtenFrom p (b ∷ l) s = writtenFrom (wrap (length s) (p + 1)) l (set s p b)
+
+-- the place after the last of them
+unfoldable pub placeAfter : ℕ → ℕ → List ℕ → ℕ
+placeAfter cap p [] = p
+placeAfter cap p (b ∷ l) = placeAfter cap (wrap cap (p + 1)) l
+
+-- one store over a call that adds l: the bytes s and the ring r before it, s′ and r′ after it
+pub record Placed (emptied : Bool) (l s : List ℕ) (r : Ring) (s′ : List ℕ) (r′ : Ring) : Type 0 where
+  -- the bytes go to the next place and on, and no other place is written
+  pub bytes : s′ ≡ writtenFrom (nextPlace (length s) r) l s
+  -- the next place is place 0 in a store that was emptied, else the one after them; bytes that leave do not move it
+  pub next : nextPlace (length s) r′ ≡ cond emptied 0 (placeAfter (length s) (nextPlace (length s) r) l)
+  -- an emptied store holds nothing
+  pub none : emptied ≡ true → r′ .len ≡ 0

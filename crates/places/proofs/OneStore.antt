@@ -10,9 +10,8 @@ use Rattle.branches.proofs.Branches.{split}
 use Rattle.store.specs.declared.Ring.{Ring}
 use Rattle.store.specs.Ring.{Fit, wrap, emptyRing, putRing, putBytes, putsRing, putsBytes, dropRing}
 use Rattle.store.proofs.Laws.{wrap-low, wrap-high, put-size, put-cap, put-fit, ring-len}
-use Rattle.laws.specs.Places.{nextPlace}
-use Rattle.laws.specs.CallPlaces.{writtenFrom, placeAfter, Placed}
-use Rattle.laws.proofs.Places.{places-go-on}
+use Rattle.places.specs.OneStore.{nextPlace, writtenFrom, placeAfter, Placed}
+use Rattle.places.proofs.GoingOn.{places-go-on}
 
 -- nothing is added, and the next place stays
 pub stays : (s : List ℕ) (r r′ : Ring) → nextPlace (length s) r′ ≡ nextPlace (length s) r → Placed false [] s r s r′

@@ -1,0 +1,118 @@
+-- Bridges whose bytes stand at other places since a clear, each refuted by a run on a store of three or four places. Assumes nothing.
+use Prim.Native.Nat.{ℕ}
+use mathlib.Core.Path.{refl}
+use mathlib.Core.Bool.{true, false}
+use mathlib.Core.List.{List, [], _∷_}
+use Rattle.answers.specs.Answers.{byte, frame}
+use Rattle.state.specs.State.{withRx, withTx}
+use Rattle.bridge.specs.Calls.{World, world, on, nextLineByte, loopFrame}
+use Rattle.laws.specs.PlacesSince.{receive, transmit, PlacesSince}
+use Rattle.refuting.specs.SmallRings.{ring}
+use Rattle.refuting.proofs.Apart.{lists-differ}
+use Rattle.refuting.proofs.StandsIn.{holds, no-round}
+use Rattle.wrong.specs.Seeing.{having}
+use Rattle.wrong.specs.Trials.{oneToFour, cameIn, talkerCameIn, oneGone, listenerAddingEnds, begunWith, clearAll, sendData}
+use Rattle.wrong.specs.WrongStores.{roundLate, roundMasked, roundToSecond, clearsInPlace, wiping}
+use Rattle.wrong.specs.Broken.{Breaks}
+use Rattle.wrong.proofs.Computing.{computes}
+use Rattle.wrong.proofs.Small.{are-bytes}
+use Rattle.wrong.proofs.Written.{Turn, takes, Does, leaves}
+use Rattle.wrong.proofs.Trying.{in-since}
+
+-- ---- the receive store
+
+-- "1" to "4" come in after a device clear, "1" goes as 0,49, and "5" comes
+abbrev cleared : Turn
+cleared = leaves (loopFrame clearAll) (frame 4 20) (talkerCameIn 0 false)
+
+fifthCame : List Turn
+fifthCame =
+    takes 49 (talkerCameIn 1 false)
+    ∷ takes 50 (talkerCameIn 2 false)
+    ∷ takes 51 (talkerCameIn 3 true)
+    ∷ takes 52 (talkerCameIn 4 true)
+    ∷ leaves (loopFrame sendData) (frame 0 49) (oneGone 4 3 true)
+    ∷ takes 53 (oneGone 5 4 true)
+    ∷ []
+
+round-late-runs : Does roundLate (talkerCameIn 0 false) (cleared ∷ fifthCame)
+unfolding computes fifthCame
+round-late-runs = (refl, (refl, (refl, (refl, (refl, (rw (holds oneToFour 0 4 refl, no-round 4 1 refl), (refl, tt)))))))
+
+-- "5" counts as stored, and stands nowhere
+pub round-late-falls : Breaks roundLate (PlacesSince receive)
+unfolding computes fifthCame
+round-late-falls law =
+    lists-differ _ _ refl (in-since roundLate (PlacesSince receive) (talkerCameIn 0 false) cleared fifthCame round-late-runs refl refl law refl refl)
+
+-- "1" and "2" came in, a device clear comes, and then "<"
+abbrev clearedInPlace : Turn
+clearedInPlace = leaves (loopFrame clearAll) (frame 4 20) (having (λ s. withRx s (ring 4 2 0)) (cameIn 2 false false))
+
+oneMore : List Turn
+oneMore = takes 60 (world (withRx (cameIn 3 false false .state) (ring 4 2 1)) (49 ∷ 50 ∷ 60 ∷ 52 ∷ []) (0 ∷ 0 ∷ 0 ∷ [])) ∷ []
+
+clears-in-place-runs : Does clearsInPlace (cameIn 2 false false) (clearedInPlace ∷ oneMore)
+unfolding computes oneMore
+clears-in-place-runs = (rw (no-round 4 2 refl), (rw (no-round 4 2 refl), tt))
+
+-- it goes behind them, and not to place 0
+pub clears-in-place-goes-on : Breaks clearsInPlace (PlacesSince receive)
+unfolding computes oneMore
+clears-in-place-goes-on law =
+    lists-differ _ _ refl (in-since clearsInPlace (PlacesSince receive) (cameIn 2 false false) clearedInPlace oneMore clears-in-place-runs refl refl law refl refl)
+
+-- ---- the transmit store
+
+-- "B" goes where "A" is held
+pub round-masked-falls : Breaks roundMasked (PlacesSince transmit)
+unfolding computes
+round-masked-falls law =
+    lists-differ _ _ refl
+    (law (on (loopFrame clearAll)) (on (loopFrame 65) ∷ on (loopFrame 66) ∷ []) listenerAddingEnds are-bytes tt (tt, (tt, tt)) refl refl)
+
+-- a listener whose transmit store holds n bytes from the place p on, and one that a device clear has emptied
+abbrev listenerHolding : List ℕ → ℕ → ℕ → World
+listenerHolding bs p n = having (λ s. withTx s (ring 3 p n)) (world (listenerAddingEnds .state) oneToFour bs)
+
+clearedForLine : Turn
+clearedForLine = leaves (loopFrame clearAll) (frame 4 20) (listenerHolding (0 ∷ 0 ∷ 0 ∷ []) 0 0)
+
+-- "A" comes and is handed out
+abbrev oneHanded : List Turn
+oneHanded =
+    leaves (loopFrame 65) (frame 0 65) (listenerHolding (65 ∷ 0 ∷ 0 ∷ []) 0 1) ∷ leaves nextLineByte (byte 65) (listenerHolding (0 ∷ 0 ∷ 0 ∷ []) 1 0) ∷ []
+
+wiping-runs : Does wiping (listenerHolding (0 ∷ 0 ∷ 0 ∷ []) 0 0) (clearedForLine ∷ oneHanded)
+unfolding computes clearedForLine
+wiping-runs = (refl, (rw (no-round 3 0 refl), (rw (holds (begunWith 65) 0 1 refl, no-round 3 1 refl), tt)))
+
+-- and 0 stands in its place
+pub wiping-wipes : Breaks wiping (PlacesSince transmit)
+unfolding computes clearedForLine
+wiping-wipes law =
+    lists-differ _ _ refl
+    (in-since wiping (PlacesSince transmit) (listenerHolding (0 ∷ 0 ∷ 0 ∷ []) 0 0) clearedForLine oneHanded wiping-runs refl refl law refl refl)
+
+-- "A", "B" and "C" come, "A" is handed out, and "D" comes
+fourthCame : List Turn
+fourthCame =
+    leaves (loopFrame 65) (frame 0 65) (listenerHolding (65 ∷ 0 ∷ 0 ∷ []) 0 1)
+    ∷ leaves (loopFrame 66) (frame 0 66) (listenerHolding (65 ∷ 66 ∷ 0 ∷ []) 0 2)
+    ∷ leaves (loopFrame 67) (frame 0 67) (listenerHolding (65 ∷ 66 ∷ 67 ∷ []) 0 3)
+    ∷ leaves nextLineByte (byte 65) (listenerHolding (65 ∷ 66 ∷ 67 ∷ []) 1 2)
+    ∷ leaves (loopFrame 68) (frame 0 68) (listenerHolding (65 ∷ 68 ∷ 67 ∷ []) 1 3)
+    ∷ []
+
+round-to-second-runs : Does roundToSecond (listenerHolding (0 ∷ 0 ∷ 0 ∷ []) 0 0) (clearedForLine ∷ fourthCame)
+unfolding computes clearedForLine fourthCame
+round-to-second-runs =
+    (refl, (refl, (refl, (refl, (rw (holds (65 ∷ 66 ∷ 67 ∷ []) 0 3 refl, no-round 3 1 refl), (refl, tt))))))
+
+-- "D" goes where "B" is held
+pub round-to-second-falls : Breaks roundToSecond (PlacesSince transmit)
+unfolding computes clearedForLine fourthCame
+round-to-second-falls law =
+    lists-differ _ _ refl
+    (in-since roundToSecond (PlacesSince transmit) (listenerHolding (0 ∷ 0 ∷ 0 ∷ []) 0 0) clearedForLine fourthCame round-to-second-runs refl refl law
+    refl refl)
