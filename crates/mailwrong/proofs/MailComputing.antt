@@ -90,13 +90,17 @@ unfolding see.left see.fetched see.restarts see.clearsBy see.told news-told.ends
 sights-open = tt
 
 unfoldable laws-open : Unit {0}
-unfolding loop-role.commanded loop-role.readied loop-role.returnedTo loop-role.byFrame bus-role.commandedBus bus-role.clearedBus bus-role.fetchedBus writtenFrom placeAfter filled
+unfolding loop-role.commanded loop-role.readied loop-role.returnedTo loop-role.byFrame bus-role.commandedBus bus-role.clearedBus bus-role.fetchedBus
 laws-open = tt
+
+unfoldable places-open : Unit {0}
+unfolding writtenFrom placeAfter filled
+places-open = tt
 
 unfoldable mailbox-open : Unit {0}
 unfolding roles-open talker-open parts-open bus-open state-open sends-open messages-open data-open side-open fetch-open calls-open
 mailbox-open = tt
 
 unfoldable pub computes : Unit {0}
-unfolding runs-open mailbox-open sights-open laws-open
+unfolding runs-open mailbox-open sights-open laws-open places-open
 computes = tt

@@ -23,11 +23,12 @@ use Rattle.mailwrong.specs.BrokenMail.{Breaks}
 use Rattle.mailwrong.proofs.MailComputing.{computes}
 
 -- a listener on the loop and talker on the bus, with these cells in the way to the bus, of which n wait from the place p on
-abbrev holding : List ℕ → ℕ → ℕ → News → World
-holding cs p n told = withCells toBus cs (withRing toBus (ring 2 p n) (withNews toBus told (having (λ s. onBus (asRole (roleAt 5 1 false)) s) (leaver toBus))))
+abbrev waitingAt : List ℕ → ℕ → ℕ → News → World
+waitingAt cs p n told =
+    withCells toBus cs (withRing toBus (ring 2 p n) (withNews toBus told (having (λ s. onBus (asRole (roleAt 5 1 false)) s) (leaver toBus))))
 
 abbrev empty : World
-empty = holding (cellsFor toBus) 0 0 noNews
+empty = waitingAt (cellsFor toBus) 0 0 noNews
 
 -- after a device clear "9" and ":" are left, the bus fetches "9", and ";" is left: these stand in the way then
 abbrev cleared : Turn Call Did
@@ -35,10 +36,10 @@ cleared = answers (clears toBus) (frame 4 20) empty
 
 thirdLeft : List ℕ → List (Turn Call Did)
 thirdLeft cs =
-    answers (leaves toBus 57) (frame 0 57) (holding (57 ∷ 55 ∷ []) 0 1 come)
-    ∷ answers (leaves toBus 58) (frame 0 58) (holding (57 ∷ 58 ∷ []) 0 2 come)
-    ∷ answers (asks toBus) (cell 57) (holding (57 ∷ 58 ∷ []) 1 1 come)
-    ∷ answers (leaves toBus 59) (frame 0 59) (holding cs 1 2 come)
+    answers (leaves toBus 57) (frame 0 57) (waitingAt (57 ∷ 55 ∷ []) 0 1 come)
+    ∷ answers (leaves toBus 58) (frame 0 58) (waitingAt (57 ∷ 58 ∷ []) 0 2 come)
+    ∷ answers (asks toBus) (cell 57) (waitingAt (57 ∷ 58 ∷ []) 1 1 come)
+    ∷ answers (leaves toBus 59) (frame 0 59) (waitingAt cs 1 2 come)
     ∷ []
 
 leaves-late-runs : Does mail (leavesLate toBus) empty (cleared ∷ thirdLeft (57 ∷ 58 ∷ []))
@@ -50,7 +51,8 @@ pub leaves-late-falls : Breaks (leavesLate toBus) (PlacesSince toBus)
 unfolding computes thirdLeft
 leaves-late-falls law =
     lists-differ _ _ refl
-    (in-since mail (leavesLate toBus) (PlacesSince toBus) empty cleared (thirdLeft (57 ∷ 58 ∷ [])) leaves-late-runs tt (tt, (tt, (tt, (tt, (tt, tt))))) law refl refl)
+    (in-since mail (leavesLate toBus) (PlacesSince toBus) empty cleared (thirdLeft (57 ∷ 58 ∷ [])) leaves-late-runs tt
+    (tt, (tt, (tt, (tt, (tt, tt))))) law refl refl)
 
 leaves-at-second-runs : Does mail (leavesAtSecond toBus) empty (cleared ∷ thirdLeft (57 ∷ 59 ∷ []))
 unfolding computes thirdLeft

@@ -5,8 +5,8 @@ use mathlib.Core.List.{List, [], _∷_}
 use lib.ListN.{set}
 use Rattle.store.specs.declared.Ring.{Ring}
 use Rattle.store.specs.Ring.{wrap, putBytes}
-use Rattle.places.specs.GoingRound.{Round}
-use Rattle.places.specs.WrongRounds.{late, toTheSecond}
+use Rattle.places.specs.GoingRound.{GoingRound}
+use Rattle.places.specs.WrongGoingRound.{late, toTheSecond}
 use Rattle.mailbox.specs.Calls.{Call, World, Did, step}
 use Rattle.maillaws.specs.Sights.{Direction, storeOf, ringOf, left, comes, clearsBy}
 use Rattle.mailwrong.specs.Spoiling.{insteadAt, leaving, withRing, withCells}
@@ -39,12 +39,12 @@ clearKeepsPlace d =
 
 -- ---- going round
 
-abbrev putRound : Round → Direction → List ℕ → World → World → World
+abbrev putRound : GoingRound → Direction → List ℕ → World → World → World
 putRound g d [] w v = v
 putRound g d (x ∷ xs) w v = withCells d (set (storeOf d w) (g (ringOf d w .cap) (ringOf d w .oldest + ringOf d w .len)) x) v
 
 -- a mailbox that writes by a way of going round
-abbrev leavesBy : Round → Direction → Call → World → Did
+abbrev leavesBy : GoingRound → Direction → Call → World → Did
 leavesBy g d = leaving (λ c w v. putRound g d (left d c w (step c w .said)) w v)
 
 -- goes round one place late in the way d, and swallows the cell that should stand at place 0

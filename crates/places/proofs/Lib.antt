@@ -1,7 +1,7 @@
--- `KnownRing` proves that the ring of the stores is the one by the remainder, and `WrongRounds` that it is none of the wrong ones. `GoingOn`
+-- `KnownRing` proves that the ring of the stores is the one by the remainder, and `WrongGoingRound` that it is none of the wrong ones. `GoingOn`
 -- and `OneStore` have the places of a store over one call, and `Filled` goes from every call to the run.
 pub mod KnownRing
-pub mod WrongRounds
+pub mod WrongGoingRound
 pub mod GoingOn
 pub mod OneStore
 pub mod Filled

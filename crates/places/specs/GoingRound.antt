@@ -11,16 +11,16 @@ use Rattle.store.specs.Ring.{Within, Fit, wrap, held, full}
 use Rattle.store.specs.Promises.{Put, Dropped, Shown}
 
 -- a way of going round: the place that it makes, in a store of so many places, of a place that may be past the last
-abbrev pub Round : Type 0
-Round = ℕ → ℕ → ℕ
+abbrev pub GoingRound : Type 0
+GoingRound = ℕ → ℕ → ℕ
 
 -- by the remainder
-abbrev pub byRemainder : Round
+abbrev pub byRemainder : GoingRound
 byRemainder cap p = p % cap
 
 -- ---- the ring by a way of going round
 
-module _ (g : Round) where
+module _ (g : GoingRound) where
   -- the place of the k-th oldest byte, from 0, and of the next one where k are held
   abbrev pub placeBy : Ring → ℕ → ℕ
   placeBy r k = g (r .cap) (r .oldest + k)
@@ -43,7 +43,7 @@ module _ (g : Round) where
   bytesBy s r k (suc n) = lookBy s r k ∷ bytesBy s r (suc k) n
 
 -- ---- the ring that the stores promise is the one by this way: no place, no byte, no ring and no answer differs
-pub record KnownBy (g : Round) : Type 0 where
+pub record KnownBy (g : GoingRound) : Type 0 where
   -- every place that occurs: k places after the oldest, where no more are held than there are places
   pub place : (r : Ring) (k : ℕ) → Within r → k ≤ r .len → wrap (r .cap) (r .oldest + k) ≡ placeBy g r k
   -- what putting a byte leaves in the store; whether it was stored, the ring after it and the room have no place in them

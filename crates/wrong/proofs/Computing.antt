@@ -119,13 +119,17 @@ unfolding holding.sends holding.holdingAfter next.afterByte next.forbiddenAfter 
 laws-open = tt
 
 unfoldable roles-said : Unit {0}
-unfolding roles.commanded roles.readied roles.returnedTo roles.byFrame roles.commandedRemote roles.remoteByFrame places.writtenFrom places.placeAfter filled writtenTo comes
+unfolding roles.commanded roles.readied roles.returnedTo roles.byFrame roles.commandedRemote roles.remoteByFrame writtenTo comes
 roles-said = tt
+
+unfoldable places-open : Unit {0}
+unfolding places.writtenFrom places.placeAfter filled
+places-open = tt
 
 unfoldable bridge-open : Unit {0}
 unfolding parts-open registers-open roles-open talker-open stores-open state-open status-open line-open out-open sends-open frames-open data-open calls-open
 bridge-open = tt
 
 unfoldable pub computes : Unit {0}
-unfolding runs-open bridge-open told-open sights-open others-open laws-open roles-said
+unfolding runs-open bridge-open told-open sights-open others-open laws-open roles-said places-open
 computes = tt

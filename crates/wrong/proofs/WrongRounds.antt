@@ -60,7 +60,8 @@ clears-in-place-runs = (rw (no-round 4 2 refl), (rw (no-round 4 2 refl), tt))
 pub clears-in-place-goes-on : Breaks clearsInPlace (PlacesSince receive)
 unfolding computes oneMore
 clears-in-place-goes-on law =
-    lists-differ _ _ refl (in-since clearsInPlace (PlacesSince receive) (cameIn 2 false false) clearedInPlace oneMore clears-in-place-runs refl refl law refl refl)
+    lists-differ _ _ refl
+    (in-since clearsInPlace (PlacesSince receive) (cameIn 2 false false) clearedInPlace oneMore clears-in-place-runs refl refl law refl refl)
 
 -- ---- the transmit store
 

@@ -9,8 +9,8 @@ use Rattle.state.specs.State.{withRx, withTx}
 use Rattle.bridge.specs.Calls.{Call, World, world, Did, step}
 use Rattle.laws.specs.Observers.{any, accepted, lost, added, handedOut, clears}
 use Rattle.places.specs.OneStore.{nextPlace, writtenFrom}
-use Rattle.places.specs.GoingRound.{Round}
-use Rattle.places.specs.WrongRounds.{late, masked, toTheSecond}
+use Rattle.places.specs.GoingRound.{GoingRound}
+use Rattle.places.specs.WrongGoingRound.{late, masked, toTheSecond}
 use Rattle.wrong.specs.Changing.{leaving, afterwards, isCreate}
 
 -- ---- places
@@ -32,12 +32,12 @@ wiping = leaving (λ c w v. world (v .state) (v .rx) (cond (any (handedOut c w (
 -- ---- going round
 
 -- the store with the bytes l written by a way of going round, the first at the place p, which may be past the last
-abbrev written : Round → ℕ → List ℕ → List ℕ → List ℕ
+abbrev written : GoingRound → ℕ → List ℕ → List ℕ → List ℕ
 written g p [] s = s
 written g p (b ∷ l) s = written g (p + 1) l (set s (g (length s) p) b)
 
 -- a bridge that writes by a way of going round
-abbrev roundBy : Round → Call → World → Did
+abbrev roundBy : GoingRound → Call → World → Did
 roundBy g =
     leaving
     (λ c w v.

@@ -10,7 +10,7 @@ use Rattle.store.specs.declared.Offered.{Offered}
 use Rattle.store.specs.Ring.{Within, Fit}
 use Rattle.store.proofs.Laws.{wrap-low, wrap-high, held-at, put-at, offered-room, drop-met}
 use Rattle.places.specs.GoingRound.{KnownBy}
-use Rattle.places.specs.WrongRounds.{late, masked, toTheSecond, atTheLargest}
+use Rattle.places.specs.WrongGoingRound.{late, masked, toTheSecond, atTheLargest}
 
 -- a store that 1, 2 and 3 stand in, of which len are held from this place on
 abbrev store : List ℕ
