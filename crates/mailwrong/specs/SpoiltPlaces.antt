@@ -49,8 +49,8 @@ leavesBy g d = leaving (λ c w v. putRound g d (left d c w (step c w .said)) w v
 
 -- goes round one place late in the way d, and swallows the cell that should stand at place 0
 abbrev pub leavesLate : Direction → Call → World → Did
-leavesLate = leavesBy late
+leavesLate d = leavesBy late d
 
 -- comes round to place 1 in the way d, and writes over the cell that waits there
 abbrev pub leavesAtSecond : Direction → Call → World → Did
-leavesAtSecond = leavesBy toTheSecond
+leavesAtSecond d = leavesBy toTheSecond d
