@@ -1,0 +1,96 @@
+//! What a store is to a run that goes round in it, whichever machine has it.
+
+use model::boundary::FRAME;
+use model::Ring;
+use raftershim_checks::answer::refused;
+use raftershim_checks::machine::Machine;
+
+pub type Cell<S> = <<S as Store>::Of as Machine>::Cell;
+pub type Call<S> = <<S as Store>::Of as Machine>::Call;
+pub type State<S> = <<S as Store>::Of as Machine>::State;
+
+/// Lengths that are powers of two and lengths that are not, from tiny to the largest.
+const LENGTHS: [usize; 8] = [3, 4, 5, 7, 8, 64, 32_767, 32_768];
+
+/// The lengths with which a store is tried.
+pub fn lengths<S: Store>() -> impl Iterator<Item = usize> {
+    LENGTHS.into_iter().filter(|&len| len >= S::LEAST)
+}
+
+/// The end mark of an item, above its byte: an end byte on the loop, EOI on the bus.
+pub const MARK: u16 = 1 << 8;
+
+/// The data frame that carries an item.
+pub fn frame_of(item: u16) -> u32 {
+    u32::from((item & MARK) << 1 | item & 255)
+}
+
+/// The answer that is the data frame of an item.
+pub fn framed_item(item: u16) -> u64 {
+    FRAME << 16 | u64::from(frame_of(item))
+}
+
+/// How many cells go of those that wait, and what is handed out, where each item is one cell.
+pub fn oldest_of<C: Copy + Into<u16>>(waiting: &[C]) -> (usize, Option<u16>) {
+    let oldest = waiting.first().map(|&cell| cell.into());
+    (usize::from(oldest.is_some()), oldest)
+}
+
+/// A call that offers an item.
+pub struct Offer<S: Store> {
+    pub call: Call<S>,
+    /// What it adds where there is room for all of it.
+    pub cells: Vec<Cell<S>>,
+    /// What it is answered then, the room aside.
+    pub answer: u64,
+}
+
+/// How many cells a call removes, and whether what it hands out has the end mark, if it hands out
+/// anything.
+pub type Removal = (usize, Option<bool>);
+
+/// A store of a machine. The type itself is a name and holds nothing.
+///
+/// What is offered to it and what comes out of it is an item: a byte, and maybe the end mark.
+pub trait Store: Sized + 'static {
+    type Of: Machine;
+    /// Which of the machine's two it is.
+    const SIDE: usize;
+    /// How few cells it can have.
+    const LEAST: usize;
+    /// How many cells the other one has, in which nothing happens.
+    const OTHER: usize;
+    /// The number that create takes.
+    const NUMBER: u32;
+    /// What makes the machine take items into the store and hand them out.
+    const READY: &'static [Call<Self>];
+    /// What makes it find and add the pairs that close lines, and what ends that, if it knows them.
+    const PAIRS: [&'static [Call<Self>]; 2] = [&[], &[]];
+    const SHOW: Call<Self>;
+    /// Items in a row that are put and removed across the end while pairs are found and added.
+    const LOTS: &'static [&'static [u16]];
+    /// What calls have to remove across the end.
+    const REMOVALS: &'static [Removal];
+    /// How many cells calls have to put across the end.
+    const PUTS: &'static [usize] = &[1];
+    /// Whether an offer is answered with the room that is left.
+    const TELLS_ROOM: bool = false;
+
+    fn ring(state: &State<Self>) -> Ring;
+
+    fn offer(state: &State<Self>, item: u16) -> Offer<Self>;
+
+    /// Whether an offer found no room, by its answer and the states before and after it.
+    fn turned_away(_before: &State<Self>, answer: u64, _after: &State<Self>) -> bool {
+        answer == refused(4)
+    }
+
+    /// The call that asks for the next item.
+    fn take(state: &State<Self>) -> Call<Self>;
+
+    /// How many cells that call removes of those that wait, and the item that it hands out.
+    fn due(state: &State<Self>, waiting: &[Cell<Self>]) -> (usize, Option<u16>);
+
+    /// What it is answered if it hands out this.
+    fn handed_out(item: Option<u16>) -> u64;
+}
