@@ -56,6 +56,10 @@ impl Store for Receive {
         state.receive
     }
 
+    fn oldest(state: &mut Bridge) -> &mut usize {
+        &mut state.receive.oldest
+    }
+
     /// The line has no end mark.
     fn offer(_: &Bridge, item: u16) -> Offer<Receive> {
         let byte = (item & 255) as u8;
@@ -108,6 +112,10 @@ impl Store for Transmit {
 
     fn ring(state: &Bridge) -> Ring {
         state.transmit
+    }
+
+    fn oldest(state: &mut Bridge) -> &mut usize {
+        &mut state.transmit.oldest
     }
 
     fn offer(state: &Bridge, item: u16) -> Offer<Transmit> {

@@ -44,6 +44,10 @@ impl Store for ToBus {
         ring_of(state.to_bus.ring)
     }
 
+    fn oldest(state: &mut Mailbox) -> &mut usize {
+        &mut state.to_bus.ring.oldest
+    }
+
     fn offer(_: &Mailbox, item: u16) -> Offer<ToBus> {
         Offer {
             call: Call::Frame(frame_of(item)),
@@ -79,6 +83,10 @@ impl Store for ToLoop {
 
     fn ring(state: &Mailbox) -> Ring {
         ring_of(state.to_loop.ring)
+    }
+
+    fn oldest(state: &mut Mailbox) -> &mut usize {
+        &mut state.to_loop.ring.oldest
     }
 
     fn offer(_: &Mailbox, item: u16) -> Offer<ToLoop> {

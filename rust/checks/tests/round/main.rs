@@ -11,6 +11,8 @@ mod mailbox;
 mod met;
 mod missing;
 mod plan;
+mod planted;
+mod rings;
 mod store;
 
 use bridge::{Receive, Transmit};

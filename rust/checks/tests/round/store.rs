@@ -78,6 +78,9 @@ pub trait Store: Sized + 'static {
 
     fn ring(state: &State<Self>) -> Ring;
 
+    /// The place of the oldest cell, to be changed.
+    fn oldest(state: &mut State<Self>) -> &mut usize;
+
     fn offer(state: &State<Self>, item: u16) -> Offer<Self>;
 
     /// Whether an offer found no room, by its answer and the states before and after it.
