@@ -11,8 +11,9 @@ out=target/c
 mkdir -p "$out"
 # What a surrounding without a C library has to bring, by the names of the two conventions.
 memory='^(memcpy|memmove|memset|__aeabi_mem(cpy|move|clr|set)[48]?)$'
-# The divide instructions of x86-64 and of its two float units, of Arm, and of RISC-V.
-divide='[[:space:]](i?div[bwlq]?|v?div[sp][sdh]|fi?divr?p?[sltq]?|[us]div|fdiv|vdiv\.f(16|32|64)|divu?w?|remu?w?|fdiv\.[sdhq])([[:space:]]|$)'
+# The divide instructions of x86-64 and of its two float units, of Arm, and of RISC-V: after two letters at most they have div or rem in their
+# name, and whatever follows says of what kind they are or when they are done, as in udivne.
+divide='[[:space:]][a-z]?[a-z]?(div|rem)[a-z0-9.]*([[:space:]]|$)'
 
 fails() {
     echo "archive.sh: $1: $2" >&2

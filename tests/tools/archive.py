@@ -38,6 +38,13 @@ INTEGERS = tuple(f"{KEPT} {kind} x({kind} a, {kind} b) {{ return a {sign} b; }}\
 FLOAT = f"{KEPT} float x(float a, float b) {{ return a / b; }}\n"
 DOUBLE = f"{KEPT} double x(double a, double b) {{ return a / b; }}\n"
 LONG_DOUBLE = f"{KEPT} long double x(long double a, long double b) {{ return a / b; }}\n"
+# On Arm an instruction may be done only where a comparison came out so.
+WHERE_NOT_ZERO = f'{KEPT} int x(int a, int b) {{{{ __asm__("cmp %1, #0\\n it ne\\n {{}}" : "+r"(a) : "r"(b) : "cc"); return a; }}}}\n'
+CONDITIONAL = tuple(WHERE_NOT_ZERO.format(f"{sign}divne %0, %0, %1") for sign in "us")
+CONDITIONS = {
+    "armv7-unknown-linux-gnueabihf": (*CONDITIONAL, WHERE_NOT_ZERO.format("vdivne.f32 s0, s0, s1")),
+    "thumbv7em-none-eabi": CONDITIONAL,
+}
 FLOATS = {X86: (FLOAT, DOUBLE, LONG_DOUBLE), "aarch64-unknown-linux-gnu": (FLOAT, DOUBLE), "armv7-unknown-linux-gnueabihf": (FLOAT, DOUBLE)}
 
 
@@ -67,7 +74,8 @@ def faults(target):
     """The code to plant for a target. A Cortex-M0 has no divide instruction: there a division asks for its helper."""
     lacks = target == "thumbv6m-none-eabi"
     divisions = [(more, ASKS if lacks else DIVIDES) for more in INTEGERS]
-    return [*EVERYWHERE, *divisions, *((more, DIVIDES) for more in FLOATS.get(target, ()))]
+    others = FLOATS.get(target, ()) + CONDITIONS.get(target, ())
+    return [*EVERYWHERE, *divisions, *((more, DIVIDES) for more in others)]
 
 
 def planted(room, target):
