@@ -29,18 +29,23 @@ use Rattle.loopside.specs.LoopToLine.{adds, busy, addedBytes}
 use Rattle.loopside.specs.Frames.{frameTaken, deviceClear, addsBytes, frameBytes}
 use Rattle.bridge.specs.Calls.{reset, write, lineByte, lineBreak, key, nextLineByte, loopFrame, Call, create, show, on}
 use Rattle.bridge.specs.Calls.{World, world, Did, outcome, settledBy, rxAfter, txAfter, notRefused, checks, step, refusal}
-use Rattle.answers.specs.Answers.{refused, said}
+use Rattle.answers.specs.Answers.{said}
 use Rattle.laws.specs.Fitting.{Fits}
 use Rattle.places.specs.OneStore.{nextPlace, Placed}
 use Rattle.laws.specs.Bridges.{bridge}
 use Rattle.laws.specs.Observers.{accepted, added, empties}
 use Rattle.laws.specs.Observers as see
-use Rattle.laws.specs.CallPlaces.{BothPlaced, Places}
+use Rattle.laws.specs.StorePlaces.{Store, receive, transmit, Places}
 use Rattle.laws.proofs.Refusing.{by-refusal, fitting, frame-fitting}
-use Rattle.places.proofs.OneStore.{stays, stays-same, emptied, left}
-use Rattle.places.proofs.OneStore as one-store
+use Rattle.places.proofs.GoingOn.{places-go-on}
+use Rattle.places.proofs.OneStore.{placed-still, placed-same, placed-emptied, placed-added}
 use Rattle.laws.proofs.Answers.{frame-not-refused}
 use Rattle.laws.proofs.FramePlaces.{Kind, clears, stores, other, frame-kind}
+
+-- both stores, which are emptied or not and to which a and b are added
+record BothPlaced (emptied : Bool) (a b : List ℕ) (w v : World) : Type 0 where
+  rx : Placed emptied a (w .rx) (w .state .rx) (v .rx) (v .state .rx)
+  tx : Placed emptied b (w .tx) (w .state .tx) (v .tx) (v .state .tx)
 
 -- ---- a line byte
 
@@ -63,11 +68,11 @@ module _ (w : World) (e : Fits w) where
       go : (i u : Bool) → full r ≡ u →
           Placed false (cond u [] (cond (not i) (b ∷ []) [])) (w .rx) r (cond i (w .rx) (putBytes (w .rx) r b))
           (cond i (flowed (w .state) b) (cond u (lostState (w .state)) (storedState (w .state))) .rx)
-      go true true h = stays-same (w .rx) r r refl
-      go true false h = stays-same (w .rx) r r refl
-      go false true h = rw (put-full (w .rx) r b (leb-true (r .cap) (r .len) h)) (stays-same (w .rx) r r refl)
+      go true true h = placed-same (w .rx) r r refl
+      go true false h = placed-same (w .rx) r r refl
+      go false true h = rw (put-full (w .rx) r b (leb-true (r .cap) (r .len) h)) (placed-same (w .rx) r r refl)
       go false false h =
-          one-store.added (w .rx) r (b ∷ []) (f .ring) (omega (arith, f .ring .cap, leb-false (r .cap) (r .len) h))
+          placed-added (w .rx) r (b ∷ []) (f .ring) (omega (arith, f .ring .cap, leb-false (r .cap) (r .len) h))
 
   line-tx : (b : ℕ) → lineState (w .state) b .tx ≡ w .state .tx
   unfolding lineState flowed lostState storedWith
@@ -88,7 +93,7 @@ module _ (w : World) (e : Fits w) where
   given-tx : (o : Out) → o ≡ nextOut (w .state) (w .tx) → nextPlace (length (w .tx)) (afterGiving (w .state) o .tx) ≡ nextPlace (length (w .tx)) (w .state .tx)
   unfolding afterGiving
   given-tx (out.Own b) h = refl
-  given-tx (out.Held b) h = left (w .tx) (w .state .tx) 1 (g .ring) (given-some (w .state) (w .tx) b h)
+  given-tx (out.Held b) h = places-go-on .removed (w .tx) (w .state .tx) 1 (g .ring) (given-some (w .state) (w .tx) b h)
   given-tx out.Nothing h = refl
 
   -- ---- a frame
@@ -110,24 +115,24 @@ module _ (w : World) (e : Fits w) where
   by-kind : (n : ℕ) (t : State) → busy (w .state) n ≡ false → Kind (length (w .rx)) (w .state) n t →
       Framed n t (deviceClear (w .state) n) (addsBytes (w .state) n)
   unfolding settled addedBytes
-  by-kind n t b (clears c l x y) = rw (c, l) (record { rx = emptied (w .rx) (w .state .rx) (t .rx) x; tx = emptied (w .tx) (w .state .tx) (t .tx) y })
+  by-kind n t b (clears c l x y) = rw (c, l) (record { rx = placed-emptied (w .rx) (w .state .rx) (t .rx) x; tx = placed-emptied (w .tx) (w .state .tx) (t .tx) y })
   by-kind n t b (stores c l d h x y) =
       rw (c, l)
       (record {
-        rx = stays-same (w .rx) (w .state .rx) (t .rx) x;
-        tx = rw y (one-store.added (w .tx) (w .state .tx) (adds (w .state .regs) n) (g .ring) (room n d h b));
+        rx = placed-same (w .rx) (w .state .rx) (t .rx) x;
+        tx = rw y (placed-added (w .tx) (w .state .tx) (adds (w .state .regs) n) (g .ring) (room n d h b));
       })
   by-kind n t b (other c l s) =
-      rw (c, l) (record { rx = stays (w .rx) (w .state .rx) (t .rx) (s .place); tx = stays-same (w .tx) (w .state .tx) (t .tx) (s .ring) })
+      rw (c, l) (record { rx = placed-still (w .rx) (w .state .rx) (t .rx) (s .place); tx = placed-same (w .tx) (w .state .tx) (t .tx) (s .ring) })
 
 -- ---- every call
 
 -- neither store changes, or both are emptied
 quiet : (w : World) (t : State) → t .rx ≡ w .state .rx → t .tx ≡ w .state .tx → BothPlaced false [] [] w (world t (w .rx) (w .tx))
-quiet w t a b = record { rx = stays-same (w .rx) (w .state .rx) (t .rx) a; tx = stays-same (w .tx) (w .state .tx) (t .tx) b }
+quiet w t a b = record { rx = placed-same (w .rx) (w .state .rx) (t .rx) a; tx = placed-same (w .tx) (w .state .tx) (t .tx) b }
 
 empty : (w : World) (t : State) {a b : ℕ} → t .rx ≡ emptyRing a → t .tx ≡ emptyRing b → BothPlaced true [] [] w (world t (w .rx) (w .tx))
-empty w t x y = record { rx = emptied (w .rx) (w .state .rx) (t .rx) x; tx = emptied (w .tx) (w .state .tx) (t .tx) y }
+empty w t x y = record { rx = placed-emptied (w .rx) (w .state .rx) (t .rx) x; tx = placed-emptied (w .tx) (w .state .tx) (t .tx) y }
 
 abbrev PlacesOf : Call → World → Did → Type 0
 PlacesOf c w d = BothPlaced (empties c w (d .said)) (accepted c w (d .said)) (added c w (d .said)) w (d .world)
@@ -176,18 +181,22 @@ done-places (on (write n v)) w h =
     (λ _. quiet w _ refl refl))
 done-places (on (lineByte b)) w h =
     let e : Fits w = fitting (lineByte b) w h .0 in
-    record { rx = line-rx w e b; tx = stays-same (w .tx) (w .state .tx) _ (line-tx w e b) }
+    record { rx = line-rx w e b; tx = placed-same (w .tx) (w .state .tx) _ (line-tx w e b) }
 done-places (on lineBreak) w h = none w (quiet w _ refl refl)
 done-places (on key) w h = none w (quiet w _ refl refl)
 done-places (on nextLineByte) w h =
     let e : Fits w = fitting nextLineByte w h .0 in
     let o : Out = nextOut (w .state) (w .tx) in
-    none w (record { rx = stays-same (w .rx) (w .state .rx) _ (given-rx w e o); tx = stays (w .tx) (w .state .tx) _ (given-tx w e o refl) })
+    none w (record { rx = placed-same (w .rx) (w .state .rx) _ (given-rx w e o); tx = placed-still (w .tx) (w .state .tx) _ (given-tx w e o refl) })
 done-places (on (loopFrame n)) w h =
     let x = frame-fitting n w h in
     let t : State = frameTaken (w .state) (w .rx) n .state in
     rw (frame-not-refused (w .state) (w .rx) n, ← stores-same w (x .0) n)
     (none w (by-kind w (x .0) n t (x .1 .1) (frame-kind (w .rx) (w .state) (rx-fits (w .state) (w .rx) (w .tx) (x .0) .ring) n)))
 
-pub places : Obeys (bridge step) Places
-places c w _ = by-refusal (PlacesOf c w) c w (done-places c w) (λ _. refused-places c w _)
+both-placed : (c : Call) (w : World) → PlacesOf c w (step c w)
+both-placed c w = by-refusal (PlacesOf c w) c w (done-places c w) (λ _. refused-places c w _)
+
+pub places : (s : Store) → Obeys (bridge step) (Places s)
+places receive c w _ = both-placed c w .rx
+places transmit c w _ = both-placed c w .tx

@@ -23,7 +23,7 @@ use Rattle.loopside.specs.Frames.{orderIn, cleared, obeyed, frameTaken, deviceC
 use Rattle.role.specs.Orders.{isClear}
 use Rattle.role.proofs.Clears.{clear-order}
 use Rattle.places.specs.OneStore.{nextPlace}
-use Rattle.places.proofs.OneStore.{left}
+use Rattle.places.proofs.GoingOn.{places-go-on}
 use Rattle.laws.proofs.Ways.{Returning, Readying, Way, way}
 use Rattle.laws.proofs.Ways.{isNext, isBack, isLast, isDamaged, isStored, isPassed, isCleared}
 use Rattle.laws.proofs.Ways.{isObeyed, isAssigned, isSendAsked, isTold, isFinishing, isReady, isIdentified}
@@ -49,7 +49,7 @@ module _ (rx : List ℕ) (s : State) (fit : Fit rx (s .rx)) where
   send-still = go (givenOf (sendHeld (ruleOf (s .regs)) rx (s .rx)))
     where
       removed : nextPlace (length rx) (removedState s rx .rx) ≡ nextPlace (length rx) (s .rx)
-      removed = left rx (s .rx) _ fit (omega arith)
+      removed = places-go-on .removed rx (s .rx) _ fit (omega arith)
 
       go : (g : Given) → S (sendState s (removedState s rx) g .state)
       go Nothing = unfold sendState ended talking in record { place = removed; ring = refl }

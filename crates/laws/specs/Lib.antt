@@ -6,8 +6,7 @@ pub mod Fitting
 pub mod OneResult
 pub mod Answering
 pub mod Order
-pub mod CallPlaces
-pub mod PlacesSince
+pub mod StorePlaces
 pub mod Starting
 pub mod Showing
 pub mod Examples

@@ -1,14 +1,15 @@
 -- The places of the cells, by the moves. Assumes nothing.
 use Prim.Native.Nat.{ℕ}
 use native.Mathlib.Omega.{arith}
-use mathlib.Core.Path.{_≡_, refl, sym}
+use mathlib.Core.Path.{_≡_, refl}
 use mathlib.Core.Bool.{Bool, true, false≢true}
 use mathlib.Core.List.{List, [], _∷_}
 use Rattle.machine.specs.Machine.{Obeys}
 use Rattle.store.specs.declared.Ring.{Ring}
 use Rattle.store.specs.Ring.{putsRing, putsBytes}
 use Rattle.places.specs.OneStore.{Placed}
-use Rattle.places.proofs.OneStore.{stays, stays-same, emptied, added, left}
+use Rattle.places.proofs.GoingOn.{places-go-on}
+use Rattle.places.proofs.OneStore.{placed-still, placed-same, placed-emptied, placed-added}
 use Rattle.places.proofs.Filled.{filled-since}
 use Rattle.news.specs.declared.News.{News}
 use Rattle.mailbox.specs.Calls.{World, step}
@@ -21,12 +22,12 @@ use Rattle.maillaws.proofs.EveryMove.{moved}
 module _ (d : Direction) (w : World) {b : Bool} where
   placed : (x : Sight) (r : Ring) (n : News) (s : List ℕ) → Move d w b x r n s → Placed (x .clears) (x .left) (storeOf d w) (ringOf d w) s r
   unfolding putsRing putsBytes
-  placed x r n s isStill = stays-same (storeOf d w) (ringOf d w) _ refl
-  placed x r n s (isPut y F h) = added (storeOf d w) (ringOf d w) (y ∷ []) F (omega (arith, F .cap))
-  placed x r n s (isFetched F h) = stays (storeOf d w) (ringOf d w) _ (left (storeOf d w) (ringOf d w) 1 F (omega arith))
-  placed x r n s (isEmptied cap) = emptied (storeOf d w) (ringOf d w) _ refl
-  placed x r n s (isAsked g m q p) = stays-same (storeOf d w) (ringOf d w) _ refl
-  placed x r n s (isReturned m q p z) = stays-same (storeOf d w) (ringOf d w) _ refl
+  placed x r n s isStill = placed-same (storeOf d w) (ringOf d w) _ refl
+  placed x r n s (isPut y F h) = placed-added (storeOf d w) (ringOf d w) (y ∷ []) F (omega (arith, F .cap))
+  placed x r n s (isFetched F h) = placed-still (storeOf d w) (ringOf d w) _ (places-go-on .removed (storeOf d w) (ringOf d w) 1 F (omega arith))
+  placed x r n s (isEmptied cap) = placed-emptied (storeOf d w) (ringOf d w) _ refl
+  placed x r n s (isAsked g m q p) = placed-same (storeOf d w) (ringOf d w) _ refl
+  placed x r n s (isReturned m q p z) = placed-same (storeOf d w) (ringOf d w) _ refl
 
   -- what clears a way leaves nothing in it
   none-left : (x : Sight) (r : Ring) (n : News) (s : List ℕ) → Move d w b x r n s → x .clears ≡ true → x .left ≡ []
@@ -41,4 +42,4 @@ pub places-go : (d : Direction) → Obeys (mailbox step) (PlacesGo d)
 places-go d c w h = placed d w _ _ _ _ (moved d c w)
 
 pub places-since : (d : Direction) → Obeys (mailbox step) (PlacesSince d)
-places-since d = filled-since (mailbox step) (filling d) (ringOf d) (λ c w h j. h) (λ c w e. none-left d w _ _ _ _ (moved d c w) e) (places-go d)
+places-since d = filled-since (mailbox step) (filling d) (λ c w h j. h) (λ c w e. none-left d w _ _ _ _ (moved d c w) e) (places-go d)

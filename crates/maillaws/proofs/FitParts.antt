@@ -15,6 +15,7 @@ use Rattle.talker.proofs.FitLaws as talker-laws
 use Rattle.store.specs.declared.Ring.{Ring}
 use Rattle.store.specs.Ring as store-ring
 use Rattle.store.proofs.Laws as store-laws
+use Rattle.places.proofs.OneStore as one-store
 use Rattle.polls.specs.declared.Response.{Response}
 use Rattle.bus.specs.declared.Bus.{Bus}
 use Rattle.bus.specs.Bus as bus
@@ -92,7 +93,7 @@ module _ (tobus toloop : List ℕ) (s : State) where
 
 module _ {xs : List ℕ} {r : Ring} (f : store-ring.Fit xs r) where
   pub more-fits : store-ring.Fit xs (store-ring.putRing r)
-  more-fits = record { cap = store-laws.put-cap r ∙ f .cap; within = store-laws.put-fit xs r 0 f .within }
+  more-fits = one-store.more-fits xs r f
 
   pub fewer-fits : (r .len ≡ 0 → ⊥) → store-ring.Fit xs (store-ring.dropRing r 1)
   fewer-fits h = store-laws.drop-fit xs r 1 f (omega arith)

@@ -6,15 +6,15 @@ use Rattle.mailbox.specs.Calls.{Call, World}
 use Rattle.maillaws.specs.Mailboxes.{Law}
 use Rattle.maillaws.specs.Sights.{Direction, storeOf, ringOf, left, clears}
 
--- the store of a way, what a call leaves in it, and whether a call clears it
+-- the store of a way, its ring, what a call leaves in it, and whether a call clears it
 abbrev pub filling : Direction → Filling World Call Said
-filling d = record { store = storeOf d; added = left d; empties = clears d }
+filling d = record { store = storeOf d; ring = ringOf d; added = left d; empties = clears d }
 
 -- of every call, for each way; cells that are fetched do not move the next place
 abbrev pub PlacesGo : Direction → Law
-PlacesGo d = PlacedByCalls (filling d) (ringOf d)
+PlacesGo d = PlacedByCalls (filling d)
 
--- since the way was cleared: the n-th cell, from 0, stands at the remainder of n by the length of the store, and nothing else was written.
--- Nothing that the mailbox records of places is looked at
+-- since the way was cleared: the n-th cell, from 0, was written at the remainder of n by the length of the store, and nothing else was
+-- written. Nothing that the mailbox records of the way is looked at
 abbrev pub PlacesSince : Direction → Law
 PlacesSince d = FilledSince (filling d)

@@ -20,4 +20,4 @@ pub mod SpoiltAvailable
 pub mod SpoiltPolls
 pub mod SpoiltEnabling
 pub mod SpoiltPlaces
-pub mod SpoiltRounds
+pub mod SpoiltPlacesSince

@@ -27,9 +27,9 @@ pub leaves-further-falls : Breaks (leavesFurther toLoop) (PlacesGo toLoop)
 unfolding computes
 leaves-further-falls law =
     lists-differ _ _ refl
-    (rw (holds (cellsFor toLoop) 0 0 refl, no-round 2 1 refl, no-round 2 1 refl, no-round 2 0 refl) at (law (leaves toLoop 57) (leaver toLoop) tt .bytes))
+    (rw (holds (cellsFor toLoop) 0 0 refl, no-round 2 1 refl, no-round 2 1 refl) at (law (leaves toLoop 57) (leaver toLoop) tt .bytes))
 
 -- place 1 is the next, where it is place 0
 pub clear-keeps-place-falls : Breaks (clearKeepsPlace toBus) (PlacesGo toBus)
 unfolding computes
-clear-keeps-place-falls law = numbers-differ _ _ refl (rw (no-round 2 1 refl) at (law (clears toBus) (withRing toBus (ring 2 1 0) fresh) tt .next))
+clear-keeps-place-falls law = numbers-differ _ _ refl (law (clears toBus) (withRing toBus (ring 2 1 0) fresh) tt .next)

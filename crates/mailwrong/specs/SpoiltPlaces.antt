@@ -5,7 +5,7 @@ use mathlib.Core.List.{List, [], _∷_}
 use lib.ListN.{set}
 use Rattle.store.specs.declared.Ring.{Ring}
 use Rattle.store.specs.Ring.{wrap, putBytes}
-use Rattle.places.specs.GoingRound.{GoingRound}
+use Rattle.places.specs.GoingRound.{GoingRound, putBy}
 use Rattle.places.specs.WrongGoingRound.{late, toTheSecond}
 use Rattle.mailbox.specs.Calls.{Call, World, Did, step}
 use Rattle.maillaws.specs.Sights.{Direction, storeOf, ringOf, left, comes, clearsBy}
@@ -39,9 +39,10 @@ clearKeepsPlace d =
 
 -- ---- going round
 
+-- the store of the way d with the cell that is left put into it by a way of going round
 abbrev putRound : GoingRound → Direction → List ℕ → World → World → World
 putRound g d [] w v = v
-putRound g d (x ∷ xs) w v = withCells d (set (storeOf d w) (g (ringOf d w .cap) (ringOf d w .oldest + ringOf d w .len)) x) v
+putRound g d (x ∷ xs) w v = withCells d (putBy g (storeOf d w) (ringOf d w) x) v
 
 -- a mailbox that writes by a way of going round
 abbrev leavesBy : GoingRound → Direction → Call → World → Did

@@ -1,37 +1,33 @@
--- The ring of the stores is the one by the remainder. Assumes nothing.
+-- The stores are as the ring by the remainder. Assumes nothing.
 use Prim.Native.Nat.{ℕ, zero, suc, _+_, _-_, _%_, _≤_, _<_, min}
 use native.Mathlib.Omega.{arith}
-use native.Mathlib.Nat.{mod-eq-of-lt, mod-eq-sub-mod, mod-lt, mod-add-mod, zero-add}
+use native.Mathlib.Nat.{mod-eq-of-lt, mod-eq-sub-mod, zero-add}
 use mathlib.Core.Path.{_≡_, refl, sym, ap, _∙_}
 use mathlib.Core.Bool.{cond}
-use mathlib.Core.List.{List, [], _∷_}
+use mathlib.Core.List.{List}
 use mathlib.Core.Logic.{⊎-elim}
-use lib.ListN.{length, getD, take, drop, set, length-take, length-drop}
+use lib.ListN.{length, getD, set, length-take, length-drop}
 use lib.Seq.{ext-getD, getD-take}
+use borrow.Author.Tests.{le-leb, lt-leb}
 use Rattle.branches.proofs.Branches.{split}
 use Rattle.store.specs.declared.Ring.{Ring}
 use Rattle.store.specs.declared.Offered.{Offered}
+use Rattle.store.specs.declared.Stretch.{Stretch}
 use Rattle.store.specs.Ring.{Within, Fit, wrap, held, run, full, putBytes, dropRing}
-use Rattle.store.specs.Promises.{Put, Dropped, Shown}
-use Rattle.store.proofs.Laws.{wrap-low, wrap-high, held-at, held-length, run-part}
-use Rattle.places.specs.GoingRound.{byRemainder, placeBy, putBy, lookBy, dropBy, bytesBy, KnownByRemainder}
+use Rattle.store.specs.Promises.{Offering, Put, Dropped, Spanned, Shown}
+use Rattle.store.proofs.Laws.{wrap-low, wrap-high, held-at, held-length, run-part, offered-room, offered-full, offered-one}
+use Rattle.places.specs.GoingRound.{byRemainder, together, offered, placeBy, putBy, lookBy, dropBy, bytesBy, AsByRemainder, promised, HeldByRemainder}
 
 -- ---- going round once, by a comparison and by the remainder
 
-pub wrap-remainder : (cap p : ℕ) → p < cap + cap → wrap cap p ≡ p % cap
+wrap-remainder : (cap p : ℕ) → p < cap + cap → wrap cap p ≡ p % cap
 wrap-remainder cap p h =
     ⊎-elim
     (λ l. wrap-low cap p l ∙ sym (mod-eq-of-lt l))
     (λ g. let below : p - cap < cap = omega arith in wrap-high cap p g ∙ sym (mod-eq-sub-mod g ∙ mod-eq-of-lt below))
     (split p cap)
 
--- the place after that of the n-th is that of the next
-pub place-after : (cap n : ℕ) → 0 < cap → wrap cap (n % cap + 1) ≡ (n + 1) % cap
-place-after cap n h =
-    let below : n % cap < cap = mod-lt n h in
-    wrap-remainder cap (n % cap + 1) (omega (arith, below)) ∙ mod-add-mod n cap 1
-
-place : (r : Ring) (k : ℕ) → Within r → k ≤ r .len → wrap (r .cap) (r .oldest + k) ≡ placeBy byRemainder r k
+pub place : (r : Ring) (k : ℕ) → Within r → k ≤ r .len → wrap (r .cap) (r .oldest + k) ≡ placeBy byRemainder r k
 place r k f h = wrap-remainder (r .cap) (r .oldest + k) (omega arith)
 
 -- ---- bytes one after the other
@@ -52,41 +48,55 @@ bytes-at s r k (suc n) (suc i) h = bytes-at s r (suc k) n i (omega arith) ∙ ap
 look : (s : List ℕ) (r : Ring) (k : ℕ) → Fit s r → k < r .len → getD (held s r) k 0 ≡ lookBy byRemainder s r k
 look s r k f h = held-at s r k f h ∙ ap (λ (n : ℕ). getD s n 0) (place r k (f .within) (omega arith))
 
-put : {s : List ℕ} {r : Ring} {b : ℕ} {s′ : List ℕ} {o : Offered} → Fit s r → Put s r b s′ o → s′ ≡ putBy byRemainder s r b
-unfolding putBytes
-put {s} {r} {b} f p = p .bytes ∙ ap (λ (n : ℕ). cond (full r) s (set s n b)) (place r (r .len) (f .within) (omega arith))
+offered-so : (r : Ring) → Offering r (offered r)
+offered-so r = ⊎-elim (λ l. rw (lt-leb (r .cap) (r .len) l) (offered-room r _ l refl)) (λ g. rw (le-leb (r .cap) (r .len) g) (offered-full r g)) (split (r .len) (r .cap))
 
-dropped : {r : Ring} {n : ℕ} {o : Ring} → Within r → n ≤ r .len → Dropped r n o → o ≡ dropBy byRemainder r n
+put : (s : List ℕ) (r : Ring) (b : ℕ) (o : List ℕ) (a : Offered) → Fit s r → Put s r b o a → (o ≡ putBy byRemainder s r b) × (a ≡ offered r)
+unfolding putBytes
+put s r b o a f p = (
+  p .bytes ∙ ap (λ (n : ℕ). cond (full r) s (set s n b)) (place r (r .len) (f .within) (omega arith)),
+  offered-one (p .offering) (offered-so r),
+)
+
+drop : (r : Ring) (n : ℕ) (o : Ring) → Within r → n ≤ r .len → Dropped r n o → o ≡ dropBy byRemainder r n
 unfolding dropRing
-dropped {r} {n} f h d = d .ring ∙ (λ i. record { cap = r .cap; oldest = place r n f h i; len = r .len - n })
+drop r n o f h d = d .ring ∙ (λ i. record { cap = r .cap; oldest = place r n f h i; len = r .len - n })
+
+span : (r : Ring) (o : Stretch) → Within r → Spanned r o → (o .start ≡ placeBy byRemainder r 0) × (o .end ≡ o .start + together r)
+span r o f p =
+    let first : r .oldest + 0 ≡ r .oldest = omega arith in
+    (p .start ∙ sym (ap (λ (n : ℕ). n % r .cap) first ∙ mod-eq-of-lt (f .oldest)), omega (arith, p .size, p .order))
 
 -- a list that begins what is held
-begins : (s : List ℕ) (r : Ring) (o : List ℕ) (n : ℕ) → Fit s r → n ≤ r .len → length o ≡ n → ((i : ℕ) → i < n → getD o i 0 ≡ getD (held s r) i 0) →
-    o ≡ bytesBy byRemainder s r 0 n
+begins : (s : List ℕ) (r : Ring) (o : List ℕ) (n : ℕ) → Fit s r → n ≤ r .len → length o ≡ n →
+    ((i : ℕ) → i < n → getD o i 0 ≡ getD (held s r) i 0) → o ≡ bytesBy byRemainder s r 0 n
 begins s r o n f h e same =
     ext-getD 0 o (bytesBy byRemainder s r 0 n) (e ∙ sym (length-bytes s r 0 n))
     (λ i l.
     let m : i < n = omega arith in
     same i m ∙ look s r i f (omega arith) ∙ sym (bytes-at s r 0 n i m ∙ ap (lookBy byRemainder s r) (zero-add i)))
 
-shown-length : (s : List ℕ) (r : Ring) → Fit s r → length (run s r) ≡ min (r .len) (r .cap - r .oldest)
+shown-length : (s : List ℕ) (r : Ring) → Fit s r → length (run s r) ≡ together r
 shown-length s r f =
     let m : ℕ = min (r .len) (length s - r .oldest) in
     sym (ap length (run-part s r m refl)) ∙ simp (length-take, length-drop) (omega (arith, f .cap))
 
-shown : {s : List ℕ} {r : Ring} {o : List ℕ} → Fit s r → Shown s r o → o ≡ bytesBy byRemainder s r 0 (min (r .len) (r .cap - r .oldest))
-shown {s} {r} {o} f p =
-    let e : length o ≡ min (r .len) (r .cap - r .oldest) = ap length (p .bytes) ∙ shown-length s r f in
-    begins s r o (min (r .len) (r .cap - r .oldest)) f (omega arith) e
+show : (s : List ℕ) (r : Ring) (o : List ℕ) → Fit s r → Shown s r o → o ≡ bytesBy byRemainder s r 0 (together r)
+show s r o f p =
+    let e : length o ≡ together r = ap length (p .bytes) ∙ shown-length s r f in
+    begins s r o (together r) f (omega arith) e
     (λ i l. ap (λ (x : List ℕ). getD x i 0) (p .first) ∙ getD-take (length o) (held s r) i 0 (omega (arith, e)))
 
-pub known-by-remainder : KnownByRemainder
-known-by-remainder =
+pub as-by-remainder : AsByRemainder promised
+as-by-remainder =
     record {
-      place = place;
+      place = λ r k o f h e. e ∙ place r k f h;
       put = put;
-      look = look;
-      dropped = dropped;
-      holds = λ s r f. begins s r (held s r) (r .len) f (omega arith) (held-length s r f) (λ i l. refl);
-      shown = shown;
+      look = λ s r k o f h e. e ∙ look s r k f h;
+      drop = drop;
+      span = span;
+      show = show;
     }
+
+pub held-by-remainder : HeldByRemainder
+held-by-remainder s r f = begins s r (held s r) (r .len) f (omega arith) (held-length s r f) (λ i l. refl)

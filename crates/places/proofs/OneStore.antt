@@ -1,35 +1,33 @@
 -- The places of one store over a call. Assumes nothing.
-use Prim.Native.Nat.{ℕ, _+_, _≤_, _<_}
+use Prim.Native.Nat.{ℕ, _+_, _%_, _≤_, _<_}
 use native.Mathlib.Omega.{arith}
 use mathlib.Core.Path.{_≡_, refl, ap, _∙_}
 use mathlib.Core.Bool.{true, false, false≢true}
 use mathlib.Core.List.{List, [], _∷_}
-use mathlib.Core.Logic.{⊎-elim}
 use lib.ListN.{length}
-use Rattle.branches.proofs.Branches.{split}
 use Rattle.store.specs.declared.Ring.{Ring}
-use Rattle.store.specs.Ring.{Fit, wrap, emptyRing, putRing, putBytes, putsRing, putsBytes, dropRing}
-use Rattle.store.proofs.Laws.{wrap-low, wrap-high, put-size, put-cap, put-fit, ring-len}
+use Rattle.store.specs.Ring.{Fit, emptyRing, putRing, putBytes, putsRing, putsBytes}
+use Rattle.store.proofs.Laws.{put-size, put-cap, put-fit, ring-len}
 use Rattle.places.specs.OneStore.{nextPlace, writtenFrom, placeAfter, Placed}
 use Rattle.places.proofs.GoingOn.{places-go-on}
 
 -- nothing is added, and the next place stays
-pub stays : (s : List ℕ) (r r′ : Ring) → nextPlace (length s) r′ ≡ nextPlace (length s) r → Placed false [] s r s r′
+pub placed-still : (s : List ℕ) (r r′ : Ring) → nextPlace (length s) r′ ≡ nextPlace (length s) r → Placed false [] s r s r′
 unfolding writtenFrom placeAfter
-stays s r r′ e = record { bytes = refl; next = e; none = λ h. absurd (false≢true h) }
+placed-still s r r′ e = record { bytes = refl; next = e; none = λ h. absurd (false≢true h) }
 
-pub stays-same : (s : List ℕ) (r r′ : Ring) → r′ ≡ r → Placed false [] s r s r′
-stays-same s r r′ e = stays s r r′ (ap (nextPlace (length s)) e)
+-- nothing is added, and the ring stays
+pub placed-same : (s : List ℕ) (r r′ : Ring) → r′ ≡ r → Placed false [] s r s r′
+placed-same s r r′ e = placed-still s r r′ (ap (nextPlace (length s)) e)
 
-pub emptied : (s : List ℕ) (r r′ : Ring) {cap : ℕ} → r′ ≡ emptyRing cap → Placed true [] s r s r′
-unfolding writtenFrom placeAfter
-emptied s r r′ e =
+-- the store is emptied
+pub placed-emptied : (s : List ℕ) (r r′ : Ring) {cap : ℕ} → r′ ≡ emptyRing cap → Placed true [] s r s r′
+unfolding writtenFrom
+placed-emptied s r r′ {cap} e =
     record {
       bytes = refl;
-      next =
-          ap (nextPlace (length s)) e ∙ ⊎-elim (λ h. wrap-low (length s) 0 h) (λ h. wrap-high (length s) 0 h ∙ omega arith) (split 0 (length s));
-      none =
-          λ _. ap (λ (q : Ring). q .len) e;
+      next = ap (nextPlace (length s)) e ∙ places-go-on .first (length s) cap;
+      none = λ _. ap (λ (q : Ring). q .len) e;
     }
 
 -- the ring after a byte fits the same list
@@ -43,7 +41,7 @@ bytes-go s r (b ∷ l) f h =
     let room : r .len < length s = omega arith in
     let n : length (putBytes s r b) ≡ length s = put-size s r b in
     let more : putRing r .len ≡ r .len + 1 = ring-len r (omega arith) in
-    let at : nextPlace (length (putBytes s r b)) (putRing r) ≡ wrap (length s) (nextPlace (length s) r + 1) =
+    let at : nextPlace (length (putBytes s r b)) (putRing r) ≡ (nextPlace (length s) r + 1) % length s =
     ap (λ (k : ℕ). nextPlace k (putRing r)) n ∙ places-go-on .later s r f room in
     bytes-go (putBytes s r b) (putRing r) l (put-fit s r b f) (omega (arith, n, more))
     ∙ (λ i. writtenFrom (at i) l (places-go-on .written s r b f room i))
@@ -59,10 +57,5 @@ next-goes s r (b ∷ l) f h =
     ∙ ap (λ (p : ℕ). placeAfter (length s) p l) (places-go-on .later s r f room)
 
 -- bytes are added, where there is room for all of them
-pub added : (s : List ℕ) (r : Ring) (l : List ℕ) → Fit s r → r .len + length l ≤ length s →
-    Placed false l s r (putsBytes s r l) (putsRing r l)
-added s r l f h = record { bytes = bytes-go s r l f h; next = next-goes s r l f h; none = λ h. absurd (false≢true h) }
-
--- the n oldest bytes leave
-pub left : (s : List ℕ) (r : Ring) (n : ℕ) → Fit s r → n ≤ r .len → nextPlace (length s) (dropRing r n) ≡ nextPlace (length s) r
-left s r n f h = places-go-on .removed s r n f h
+pub placed-added : (s : List ℕ) (r : Ring) (l : List ℕ) → Fit s r → r .len + length l ≤ length s → Placed false l s r (putsBytes s r l) (putsRing r l)
+placed-added s r l f h = record { bytes = bytes-go s r l f h; next = next-goes s r l f h; none = λ h. absurd (false≢true h) }

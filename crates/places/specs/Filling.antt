@@ -1,4 +1,4 @@
--- Sizes and refusals, places, of any machine with a store: of every call, and over a run by the remainder.
+-- Sizes and refusals, places, of any machine with a store: of every call, and over a run.
 use Prim.Native.Nat.{ℕ, _+_, _%_}
 use mathlib.Core.Path.{_≡_}
 use mathlib.Core.Bool.{Bool, true}
@@ -9,37 +9,36 @@ use Rattle.machine.specs.Machine.{Machine, Law, ofCalls, ofSince, seen, Obeys}
 use Rattle.store.specs.declared.Ring.{Ring}
 use Rattle.places.specs.OneStore.{Placed}
 
--- a store of a machine: what stands in it, what a call adds to it, and whether a call empties it
+-- a store of a machine: what stands in it, the ring that is recorded of it, what a call adds to it, and whether a call empties it
 pub record Filling (World Call Said : Type 0) : Type 0 where
   pub store : World → List ℕ
+  pub ring : World → Ring
   pub added : Call → World → Said → List ℕ
   pub empties : Call → World → Said → Bool
 
--- ---- of every call, by the ring that the machine records
+-- of every call, by the ring that is recorded
+abbrev pub PlacedByCalls : {World Call Said : Type 0} → Filling World Call Said → Law World Call Said
+PlacedByCalls F =
+    ofCalls
+    (λ s. Placed (of (F .empties) s) (of (F .added) s) (F .store (s .before)) (F .ring (s .before)) (F .store (s .after)) (F .ring (s .after)))
 
-module _ {World Call Said : Type 0} (F : Filling World Call Said) (ring : World → Ring) where
-  abbrev pub PlacedByCalls : Law World Call Said
-  PlacedByCalls =
-      ofCalls
-      (λ s. Placed (of (F .empties) s) (of (F .added) s) (F .store (s .before)) (ring (s .before)) (F .store (s .after)) (ring (s .after)))
+-- ---- since the store was emptied, by what was added and by no place that is recorded
 
--- ---- since the store was emptied, by what was added and by nothing that the machine records
-
--- the store with these written in it, where n came before them: the n-th, from 0, stands at the remainder of n by the length
+-- the store with these written in it, where n came before them: the n-th, from 0, is written at the remainder of n by the length
 unfoldable pub filled : ℕ → List ℕ → List ℕ → List ℕ
 filled n [] s = s
 filled n (b ∷ l) s = filled (n + 1) l (set s (n % length s) b)
 
--- since a call that empties the store, and none after it: each that was added stands at its place, and nothing else was written, by the
--- call that empties neither
+-- since a call that empties the store, and none after it: each that was added was written at its place, and nothing else was written, not
+-- even by the call that empties
 abbrev pub FilledSince : {World Call Said : Type 0} → Filling World Call Said → Law World Call Said
 FilledSince F =
     ofSince
     (λ s ss. of (F .empties) s ≡ true → Without (F .empties) ss → F .store (end (s .after) ss) ≡ filled 0 (all (F .added) ss) (F .store (s .before)))
 
 -- from every call to the run, where what the types give goes on and a call that empties the store adds nothing
-abbrev pub FromCalls : {World Call Said : Type 0} → Machine World Call Said → Filling World Call Said → (World → Ring) → Type 0
-FromCalls {World} {Call} {Said} M F ring =
+abbrev pub FromCalls : {World Call Said : Type 0} → Machine World Call Said → Filling World Call Said → Type 0
+FromCalls {World} {Call} {Said} M F =
     ((c : Call) (o : M .Own) → M .Fine o → M .Fair c → M .Fine (M .after c o)) →
     ((c : Call) (o : M .Own) → of (F .empties) (seen M c o) ≡ true → of (F .added) (seen M c o) ≡ []) →
-    Obeys M (PlacedByCalls F ring) → Obeys M (FilledSince F)
+    Obeys M (PlacedByCalls F) → Obeys M (FilledSince F)

@@ -1,16 +1,18 @@
--- The ring of a store by any way of going round, and what it says that this is the ring which the stores promise. The stores themselves go
--- round by a comparison; a ring is mostly known by the remainder.
+-- The ring of a store by any way of going round, and a law of any store: what its calls give is what the ring by the remainder gives. The
+-- stores themselves go round by a comparison; a ring is mostly known by the remainder.
 use Prim.Native.Nat.{ℕ, zero, suc, _+_, _-_, _%_, _≤_, _<_, min}
 use mathlib.Core.Path.{_≡_}
-use mathlib.Core.Bool.{cond}
+use mathlib.Core.Bool.{true, false, cond}
 use mathlib.Core.List.{List, [], _∷_}
-use lib.ListN.{length, getD, set}
+use lib.Dec.{leb}
+use lib.ListN.{getD, set}
 use Rattle.store.specs.declared.Ring.{Ring}
 use Rattle.store.specs.declared.Offered.{Offered}
-use Rattle.store.specs.Ring.{Within, Fit, wrap, held, full}
-use Rattle.store.specs.Promises.{Put, Dropped, Shown}
+use Rattle.store.specs.declared.Stretch.{Stretch}
+use Rattle.store.specs.Ring.{Within, Fit, wrap, held}
+use Rattle.store.specs.Promises.{Put, Dropped, Spanned, Shown}
 
--- a way of going round: the place that it makes, in a store of so many places, of a place that may be past the last
+-- a way of going round: from the number of places of a store, and a place that may be past the last, the place that is meant
 abbrev pub GoingRound : Type 0
 GoingRound = ℕ → ℕ → ℕ
 
@@ -20,6 +22,17 @@ byRemainder cap p = p % cap
 
 -- ---- the ring by a way of going round
 
+-- how many of what is held stand together from the oldest on: all, but none past the last place
+abbrev pub together : Ring → ℕ
+together r = min (r .len) (r .cap - r .oldest)
+
+-- what a byte offered is answered: whether it is stored, the ring after it and the room that is left; the place of the oldest stays
+abbrev pub offered : Ring → Offered
+offered r =
+    cond (leb (r .cap) (r .len))
+    (record { stored = false; ring = r; room = 0 })
+    (record { stored = true; ring = record { cap = r .cap; oldest = r .oldest; len = r .len + 1 }; room = r .cap - (r .len + 1) })
+
 module _ (g : GoingRound) where
   -- the place of the k-th oldest byte, from 0, and of the next one where k are held
   abbrev pub placeBy : Ring → ℕ → ℕ
@@ -27,7 +40,7 @@ module _ (g : GoingRound) where
 
   -- a byte stored behind the newest, unless the store is full
   abbrev pub putBy : List ℕ → Ring → ℕ → List ℕ
-  putBy s r b = cond (full r) s (set s (placeBy r (r .len)) b)
+  putBy s r b = cond (leb (r .cap) (r .len)) s (set s (placeBy r (r .len)) b)
 
   -- the k-th oldest byte
   abbrev pub lookBy : List ℕ → Ring → ℕ → ℕ
@@ -42,21 +55,41 @@ module _ (g : GoingRound) where
   bytesBy s r k zero = []
   bytesBy s r k (suc n) = lookBy s r k ∷ bytesBy s r (suc k) n
 
--- ---- the ring that the stores promise is the one by this way: no place, no byte, no ring and no answer differs
-pub record KnownBy (g : GoingRound) : Type 0 where
-  -- every place that occurs: k places after the oldest, where no more are held than there are places
-  pub place : (r : Ring) (k : ℕ) → Within r → k ≤ r .len → wrap (r .cap) (r .oldest + k) ≡ placeBy g r k
-  -- what putting a byte leaves in the store; whether it was stored, the ring after it and the room have no place in them
-  pub put : {s : List ℕ} {r : Ring} {b : ℕ} {s′ : List ℕ} {o : Offered} → Fit s r → Put s r b s′ o → s′ ≡ putBy g s r b
-  -- what looking answers
-  pub look : (s : List ℕ) (r : Ring) (k : ℕ) → Fit s r → k < r .len → getD (held s r) k 0 ≡ lookBy g s r k
-  -- the ring that dropping leaves
-  pub dropped : {r : Ring} {n : ℕ} {o : Ring} → Within r → n ≤ r .len → Dropped r n o → o ≡ dropBy g r n
-  -- all that is held
-  pub holds : (s : List ℕ) (r : Ring) → Fit s r → held s r ≡ bytesBy g s r 0 (r .len)
-  -- the part that is shown: from the oldest byte on, as many as are held or as there are places up to the last
-  pub shown : {s : List ℕ} {r : Ring} {o : List ℕ} → Fit s r → Shown s r o → o ≡ bytesBy g s r 0 (min (r .len) (r .cap - r .oldest))
+-- ---- any store
 
--- the ring of the stores is the one by the remainder
-abbrev pub KnownByRemainder : Type 0
-KnownByRemainder = KnownBy byRemainder
+-- by what its calls may give: the place of the k-th oldest, what a put leaves and answers, what a look answers, the ring that a drop leaves,
+-- the places of the part that is shown, and the part
+pub record Giving : Type 1 where
+  pub Place : Ring → ℕ → ℕ → Type 0
+  pub Puts : List ℕ → Ring → ℕ → List ℕ → Offered → Type 0
+  pub Looks : List ℕ → Ring → ℕ → ℕ → Type 0
+  pub Drops : Ring → ℕ → Ring → Type 0
+  pub Spans : Ring → Stretch → Type 0
+  pub Shows : List ℕ → Ring → List ℕ → Type 0
+
+-- the law, wherever a call may be made: in a ring within its capacity, whose list has as many places, and of bytes that are held
+pub record AsByRemainder (S : Giving) : Type 0 where
+  pub place : (r : Ring) (k o : ℕ) → Within r → k ≤ r .len → S .Place r k o → o ≡ placeBy byRemainder r k
+  pub put : (s : List ℕ) (r : Ring) (b : ℕ) (o : List ℕ) (a : Offered) → Fit s r → S .Puts s r b o a → (o ≡ putBy byRemainder s r b) × (a ≡ offered r)
+  pub look : (s : List ℕ) (r : Ring) (k o : ℕ) → Fit s r → k < r .len → S .Looks s r k o → o ≡ lookBy byRemainder s r k
+  pub drop : (r : Ring) (n : ℕ) (o : Ring) → Within r → n ≤ r .len → S .Drops r n o → o ≡ dropBy byRemainder r n
+  pub span : (r : Ring) (o : Stretch) → Within r → S .Spans r o → (o .start ≡ placeBy byRemainder r 0) × (o .end ≡ o .start + together r)
+  pub show : (s : List ℕ) (r : Ring) (o : List ℕ) → Fit s r → S .Shows s r o → o ≡ bytesBy byRemainder s r 0 (together r)
+
+-- ---- ours
+
+-- the stores of bytes and of cells, by the contracts of their calls
+abbrev pub promised : Giving
+promised =
+    record {
+      Place = λ r k o. o ≡ wrap (r .cap) (r .oldest + k);
+      Puts = Put;
+      Looks = λ s r k o. o ≡ getD (held s r) k 0;
+      Drops = Dropped;
+      Spans = Spanned;
+      Shows = Shown;
+    }
+
+-- what a store holds, which laws speak of, is what the ring by the remainder holds
+abbrev pub HeldByRemainder : Type 0
+HeldByRemainder = (s : List ℕ) (r : Ring) → Fit s r → held s r ≡ bytesBy byRemainder s r 0 (r .len)

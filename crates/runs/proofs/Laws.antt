@@ -1,7 +1,7 @@
 -- Our bridge obeys every law of this crate. Assumes nothing.
 use Rattle.machine.specs.Machine.{_also_}
 use Rattle.laws.specs.Events.{broken, overrun, pressed}
-use Rattle.laws.specs.PlacesSince.{receive, transmit}
+use Rattle.laws.specs.StorePlaces.{receive, transmit}
 use Rattle.runs.specs.Obeyed.{OursObeysAll, OursObeysRooms}
 use Rattle.laws.proofs.Answers.{answers-so, refused-exactly}
 use Rattle.laws.proofs.CallPlaces.{places}
@@ -39,7 +39,7 @@ use Rattle.runs.proofs.Resuming.{empty-send-resumes}
 pub all-obeyed : OursObeysAll
 all-obeyed =
     answers-so also refused-exactly also refused-stays also one-frame-out also eleven-bits also shows-so
-    also places also places-since receive also places-since transmit also keeps-fit also create-makes-fit also keeps-stores
+    also places receive also places transmit also places-since receive also places-since transmit also keeps-fit also create-makes-fit also keeps-stores
     also starts-so also margin-recorded also sizes-stay also reset-gives-start also registers-go also role-goes
     also frames-read also none-lost also frames-since also send-rule also none-removed also returns-judged also frames-pass also empty-send-resumes
     also events-stay broken also events-stay overrun also events-stay pressed also broken-alone also pressed-alone

@@ -3,11 +3,10 @@ use Prim.Native.Nat.{ℕ}
 use native.Mathlib.Omega.{arith}
 use mathlib.Core.Path.{_≡_, refl, ap}
 use mathlib.Core.Bool.{false≢true, true≢false}
-use mathlib.Core.List.{List, [], _∷_}
 use lib.Dec.{eqb}
 use Rattle.store.proofs.Laws.{wrap-low}
 use Rattle.bridge.specs.Calls.{write, lineByte, nextLineByte, create, on}
-use Rattle.laws.specs.CallPlaces.{Places}
+use Rattle.laws.specs.StorePlaces.{receive, transmit, Places}
 use Rattle.laws.specs.Fitting.{KeepsFit, CreateMakesFit, KeepsStores}
 use Rattle.wrong.specs.SmallWorlds.{fresh, holdingBytes, takesCommand}
 use Rattle.wrong.specs.Trials.{oneForTheLine}
@@ -21,23 +20,20 @@ use Rattle.wrong.proofs.Small.{are-bytes}
 -- ---- places
 
 -- the first byte goes to place 1
-pub one-too-far-falls : Breaks oneTooFar Places
+pub one-too-far-falls : Breaks oneTooFar (Places receive)
 unfolding computes
-one-too-far-falls law =
-    let z : _≡_ {A = List ℕ} (49 ∷ 60 ∷ 51 ∷ 52 ∷ []) (60 ∷ 50 ∷ 51 ∷ 52 ∷ []) =
-    rw (wrap-low 4 0 (omega arith), wrap-low 4 1 (omega arith)) at (law (on (lineByte 60)) fresh are-bytes .rx .bytes) in
-    false≢true (ap (hasAt 0 60) z)
+one-too-far-falls law = false≢true (ap (hasAt 0 60) (law (on (lineByte 60)) fresh are-bytes .bytes))
 
 -- two bytes were held, and the next would go to place 2
-pub clears-in-place-falls : Breaks clearsInPlace Places
+pub clears-in-place-falls : Breaks clearsInPlace (Places receive)
 unfolding computes
 clears-in-place-falls law =
-    let z : _≡_ {A = ℕ} 2 0 = rw (wrap-low 4 2 (omega arith), wrap-low 4 2 (omega arith)) at (law (takesCommand 20) (holdingBytes 2) are-bytes .rx .next) in
+    let z : _≡_ {A = ℕ} 2 0 = rw (wrap-low 4 2 (omega arith)) at (law (takesCommand 20) (holdingBytes 2) are-bytes .next) in
     omega arith
 
-pub wiping-falls : Breaks wiping Places
+pub wiping-falls : Breaks wiping (Places transmit)
 unfolding computes
-wiping-falls law = true≢false (ap (hasAt 0 0) (law (on nextLineByte) (oneForTheLine 65) are-bytes .tx .bytes))
+wiping-falls law = true≢false (ap (hasAt 0 0) (law (on nextLineByte) (oneForTheLine 65) are-bytes .bytes))
 
 -- ---- the stores themselves
 

@@ -1,17 +1,18 @@
 -- Bridges that treat the stores, or the state that goes with them, wrongly.
-use Prim.Native.Nat.{ℕ, _+_}
-use mathlib.Core.Bool.{cond}
+use Prim.Native.Nat.{ℕ, _+_, _%_}
+use mathlib.Core.Bool.{cond, _&&_}
 use mathlib.Core.List.{List, [], _∷_, _++_}
-use lib.ListN.{length, set}
-use Rattle.store.specs.Ring.{wrap, emptyRing, dropRing}
-use Rattle.answers.specs.Answers.{done}
+use lib.Dec.{eqb}
+use lib.ListN.{length, set, getD}
+use Rattle.store.specs.Ring.{emptyRing, dropRing}
+use Rattle.answers.specs.Answers.{done, byte}
 use Rattle.state.specs.State.{withRx, withTx}
 use Rattle.bridge.specs.Calls.{Call, World, world, Did, step}
 use Rattle.laws.specs.Observers.{any, accepted, lost, added, handedOut, clears}
 use Rattle.places.specs.OneStore.{nextPlace, writtenFrom}
 use Rattle.places.specs.GoingRound.{GoingRound}
 use Rattle.places.specs.WrongGoingRound.{late, masked, toTheSecond}
-use Rattle.wrong.specs.Changing.{leaving, afterwards, isCreate}
+use Rattle.wrong.specs.Changing.{leaving, afterwards, answering, isCreate}
 
 -- ---- places
 
@@ -19,7 +20,7 @@ use Rattle.wrong.specs.Changing.{leaving, afterwards, isCreate}
 abbrev pub oneTooFar : Call → World → Did
 oneTooFar =
     leaving
-    (λ c w v. world (v .state) (writtenFrom (wrap (length (w .rx)) (nextPlace (length (w .rx)) (w .state .rx) + 1)) (accepted c w done) (w .rx)) (v .tx))
+    (λ c w v. world (v .state) (writtenFrom ((nextPlace (length (w .rx)) (w .state .rx) + 1) % length (w .rx)) (accepted c w done) (w .rx)) (v .tx))
 
 -- a device clear drops what the receive store holds and does not go back to place 0
 abbrev pub clearsInPlace : Call → World → Did
@@ -32,17 +33,17 @@ wiping = leaving (λ c w v. world (v .state) (v .rx) (cond (any (handedOut c w (
 -- ---- going round
 
 -- the store with the bytes l written by a way of going round, the first at the place p, which may be past the last
-abbrev written : GoingRound → ℕ → List ℕ → List ℕ → List ℕ
-written g p [] s = s
-written g p (b ∷ l) s = written g (p + 1) l (set s (g (length s) p) b)
+abbrev writtenBy : GoingRound → ℕ → List ℕ → List ℕ → List ℕ
+writtenBy g p [] s = s
+writtenBy g p (b ∷ l) s = writtenBy g (p + 1) l (set s (g (length s) p) b)
 
 -- a bridge that writes by a way of going round
 abbrev roundBy : GoingRound → Call → World → Did
 roundBy g =
     leaving
     (λ c w v.
-    world (v .state) (written g (w .state .rx .oldest + w .state .rx .len) (accepted c w done) (w .rx))
-    (written g (w .state .tx .oldest + w .state .tx .len) (added c w done) (w .tx)))
+    world (v .state) (writtenBy g (w .state .rx .oldest + w .state .rx .len) (accepted c w done) (w .rx))
+    (writtenBy g (w .state .tx .oldest + w .state .tx .len) (added c w done) (w .tx)))
 
 -- goes round one place late, and swallows the byte that should stand at place 0
 abbrev pub roundLate : Call → World → Did
@@ -55,6 +56,22 @@ roundMasked = roundBy masked
 -- comes round to place 1, and writes over the byte that is held there
 abbrev pub roundToSecond : Call → World → Did
 roundToSecond = roundBy toTheSecond
+
+-- compares once for a frame: C02 and C03 go on past the last place, and are swallowed there
+abbrev pub comparesOnce : Call → World → Did
+comparesOnce = leaving (λ c w v. world (v .state) (v .rx) (writtenBy (λ cap p. p) (nextPlace (length (w .tx)) (w .state .tx)) (added c w done) (w .tx)))
+
+-- records the place past the last for the oldest byte where it comes round to place 0
+abbrev pub oldestLate : Call → World → Did
+oldestLate =
+    afterwards
+    (λ c w s. cond (any (handedOut c w (step c w .said)) && eqb (s .tx .oldest) 0)
+    (withTx s (record { cap = s .tx .cap; oldest = s .tx .cap; len = s .tx .len })) s)
+
+-- hands out the byte of place 0 in the place of the one at the last place
+abbrev pub readsAcross : Call → World → Did
+readsAcross =
+    answering (λ c w a. cond (any (handedOut c w a) && eqb (w .state .tx .oldest + 1) (length (w .tx))) (byte (getD (w .tx) 0 0)) a)
 
 -- ---- the stores themselves
 

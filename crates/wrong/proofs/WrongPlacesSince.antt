@@ -1,18 +1,21 @@
--- Bridges whose bytes stand at other places since a clear, each refuted by a run on a store of three or four places. Assumes nothing.
+-- Bridges that go round wrongly, or write at other places since a clear, each refuted on a store of three or four places. Assumes nothing.
 use Prim.Native.Nat.{ℕ}
 use mathlib.Core.Path.{refl}
-use mathlib.Core.Bool.{true, false}
+use mathlib.Core.Bool.{true, false, false≢true}
 use mathlib.Core.List.{List, [], _∷_}
+use Rattle.frame.specs.Frame.{made}
 use Rattle.answers.specs.Answers.{byte, frame}
 use Rattle.state.specs.State.{withRx, withTx}
 use Rattle.bridge.specs.Calls.{World, world, on, nextLineByte, loopFrame}
-use Rattle.laws.specs.PlacesSince.{receive, transmit, PlacesSince}
+use Rattle.laws.specs.Fitting.{KeepsFit}
+use Rattle.laws.specs.NextByte.{NextGiven}
+use Rattle.laws.specs.StorePlaces.{receive, transmit, PlacesSince}
 use Rattle.refuting.specs.SmallRings.{ring}
-use Rattle.refuting.proofs.Apart.{lists-differ}
-use Rattle.refuting.proofs.StandsIn.{holds, no-round}
+use Rattle.refuting.proofs.Apart.{lists-differ, answers-differ}
+use Rattle.refuting.proofs.StandsIn.{holds, no-round, goes-round}
 use Rattle.wrong.specs.Seeing.{having}
 use Rattle.wrong.specs.Trials.{oneToFour, cameIn, talkerCameIn, oneGone, listenerAddingEnds, begunWith, clearAll, sendData}
-use Rattle.wrong.specs.WrongStores.{roundLate, roundMasked, roundToSecond, clearsInPlace, wiping}
+use Rattle.wrong.specs.WrongStores.{roundLate, roundMasked, roundToSecond, comparesOnce, oldestLate, readsAcross, clearsInPlace, wiping}
 use Rattle.wrong.specs.Broken.{Breaks}
 use Rattle.wrong.proofs.Computing.{computes}
 use Rattle.wrong.proofs.Small.{are-bytes}
@@ -72,19 +75,19 @@ round-masked-falls law =
     lists-differ _ _ refl
     (law (on (loopFrame clearAll)) (on (loopFrame 65) ∷ on (loopFrame 66) ∷ []) listenerAddingEnds are-bytes tt (tt, (tt, tt)) refl refl)
 
--- a listener whose transmit store holds n bytes from the place p on, and one that a device clear has emptied
+-- a listener whose transmit store holds n bytes from the place p on, and the device clear that empties it
 abbrev listenerHolding : List ℕ → ℕ → ℕ → World
 listenerHolding bs p n = having (λ s. withTx s (ring 3 p n)) (world (listenerAddingEnds .state) oneToFour bs)
 
 clearedForLine : Turn
-clearedForLine = leaves (loopFrame clearAll) (frame 4 20) (listenerHolding (0 ∷ 0 ∷ 0 ∷ []) 0 0)
+clearedForLine = leaves (loopFrame clearAll) (frame 4 20) (listenerHolding (begunWith 0) 0 0)
 
 -- "A" comes and is handed out
 abbrev oneHanded : List Turn
 oneHanded =
-    leaves (loopFrame 65) (frame 0 65) (listenerHolding (65 ∷ 0 ∷ 0 ∷ []) 0 1) ∷ leaves nextLineByte (byte 65) (listenerHolding (0 ∷ 0 ∷ 0 ∷ []) 1 0) ∷ []
+    leaves (loopFrame 65) (frame 0 65) (listenerHolding (begunWith 65) 0 1) ∷ leaves nextLineByte (byte 65) (listenerHolding (begunWith 0) 1 0) ∷ []
 
-wiping-runs : Does wiping (listenerHolding (0 ∷ 0 ∷ 0 ∷ []) 0 0) (clearedForLine ∷ oneHanded)
+wiping-runs : Does wiping (listenerHolding (begunWith 0) 0 0) (clearedForLine ∷ oneHanded)
 unfolding computes clearedForLine
 wiping-runs = (refl, (rw (no-round 3 0 refl), (rw (holds (begunWith 65) 0 1 refl, no-round 3 1 refl), tt)))
 
@@ -93,19 +96,19 @@ pub wiping-wipes : Breaks wiping (PlacesSince transmit)
 unfolding computes clearedForLine
 wiping-wipes law =
     lists-differ _ _ refl
-    (in-since wiping (PlacesSince transmit) (listenerHolding (0 ∷ 0 ∷ 0 ∷ []) 0 0) clearedForLine oneHanded wiping-runs refl refl law refl refl)
+    (in-since wiping (PlacesSince transmit) (listenerHolding (begunWith 0) 0 0) clearedForLine oneHanded wiping-runs refl refl law refl refl)
 
 -- "A", "B" and "C" come, "A" is handed out, and "D" comes
 fourthCame : List Turn
 fourthCame =
-    leaves (loopFrame 65) (frame 0 65) (listenerHolding (65 ∷ 0 ∷ 0 ∷ []) 0 1)
+    leaves (loopFrame 65) (frame 0 65) (listenerHolding (begunWith 65) 0 1)
     ∷ leaves (loopFrame 66) (frame 0 66) (listenerHolding (65 ∷ 66 ∷ 0 ∷ []) 0 2)
     ∷ leaves (loopFrame 67) (frame 0 67) (listenerHolding (65 ∷ 66 ∷ 67 ∷ []) 0 3)
     ∷ leaves nextLineByte (byte 65) (listenerHolding (65 ∷ 66 ∷ 67 ∷ []) 1 2)
     ∷ leaves (loopFrame 68) (frame 0 68) (listenerHolding (65 ∷ 68 ∷ 67 ∷ []) 1 3)
     ∷ []
 
-round-to-second-runs : Does roundToSecond (listenerHolding (0 ∷ 0 ∷ 0 ∷ []) 0 0) (clearedForLine ∷ fourthCame)
+round-to-second-runs : Does roundToSecond (listenerHolding (begunWith 0) 0 0) (clearedForLine ∷ fourthCame)
 unfolding computes clearedForLine fourthCame
 round-to-second-runs =
     (refl, (refl, (refl, (refl, (rw (holds (65 ∷ 66 ∷ 67 ∷ []) 0 3 refl, no-round 3 1 refl), (refl, tt))))))
@@ -115,5 +118,39 @@ pub round-to-second-falls : Breaks roundToSecond (PlacesSince transmit)
 unfolding computes clearedForLine fourthCame
 round-to-second-falls law =
     lists-differ _ _ refl
-    (in-since roundToSecond (PlacesSince transmit) (listenerHolding (0 ∷ 0 ∷ 0 ∷ []) 0 0) clearedForLine fourthCame round-to-second-runs refl refl law
+    (in-since roundToSecond (PlacesSince transmit) (listenerHolding (begunWith 0) 0 0) clearedForLine fourthCame round-to-second-runs refl refl law
     refl refl)
+
+-- "A" comes and is handed out, and "B" comes as an end byte
+acrossTheEnd : List Turn
+acrossTheEnd =
+    leaves (loopFrame 65) (frame 0 65) (listenerHolding (begunWith 65) 0 1)
+    ∷ leaves nextLineByte (byte 65) (listenerHolding (begunWith 65) 1 0)
+    ∷ leaves (loopFrame (made 2 66)) (frame 2 66) (listenerHolding (65 ∷ 66 ∷ 13 ∷ []) 1 3)
+    ∷ []
+
+compares-once-runs : Does comparesOnce (listenerHolding (begunWith 0) 0 0) (clearedForLine ∷ acrossTheEnd)
+unfolding computes clearedForLine acrossTheEnd
+compares-once-runs = (refl, (refl, (rw (holds (begunWith 65) 0 1 refl, no-round 3 1 refl), (refl, tt))))
+
+-- C03 stands nowhere
+pub compares-once-falls : Breaks comparesOnce (PlacesSince transmit)
+unfolding computes clearedForLine acrossTheEnd
+compares-once-falls law =
+    lists-differ _ _ refl
+    (in-since comparesOnce (PlacesSince transmit) (listenerHolding (begunWith 0) 0 0) clearedForLine acrossTheEnd compares-once-runs refl refl law
+    refl refl)
+
+-- ---- what a ring that goes round wrongly breaks besides: the state fits no more, and a byte is handed out that is not the oldest
+
+-- the byte at the last place is handed out, and the next is at place 3 of three
+pub oldest-late-falls : Breaks oldestLate KeepsFit
+unfolding computes
+oldest-late-falls law = false≢true (rw (goes-round 3 3 refl) at (law (on nextLineByte) (listenerHolding (65 ∷ 66 ∷ 67 ∷ []) 2 1) are-bytes refl))
+
+-- "C" is at the last place, and "A" is handed out
+pub reads-across-falls : Breaks readsAcross NextGiven
+unfolding computes
+reads-across-falls law =
+    answers-differ _ _ refl
+    (rw (holds (65 ∷ 66 ∷ 67 ∷ []) 2 1 refl) at (law (on nextLineByte) (listenerHolding (65 ∷ 66 ∷ 67 ∷ []) 2 1) are-bytes refl refl))
