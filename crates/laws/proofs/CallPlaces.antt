@@ -115,7 +115,8 @@ module _ (w : World) (e : Fits w) where
   by-kind : (n : ℕ) (t : State) → busy (w .state) n ≡ false → Kind (length (w .rx)) (w .state) n t →
       Framed n t (deviceClear (w .state) n) (addsBytes (w .state) n)
   unfolding settled addedBytes
-  by-kind n t b (clears c l x y) = rw (c, l) (record { rx = placed-emptied (w .rx) (w .state .rx) (t .rx) x; tx = placed-emptied (w .tx) (w .state .tx) (t .tx) y })
+  by-kind n t b (clears c l x y) =
+      rw (c, l) (record { rx = placed-emptied (w .rx) (w .state .rx) (t .rx) x; tx = placed-emptied (w .tx) (w .state .tx) (t .tx) y })
   by-kind n t b (stores c l d h x y) =
       rw (c, l)
       (record {
@@ -171,7 +172,8 @@ stores-same w e f = go (isData f) (w .state .talker .role .listener) refl
     go false l e = refl
 
 done-places : (c : Call) (w : World) → firstRefusal (checks c w) ≡ 0 → PlacesOf c w (notRefused c w)
-unfolding notRefused outcome settledBy settled rxAfter txAfter startState breakState keyState frameBytes see.restarts see.clears accepted see.arrived see.isFlow isGoOrStop added adds said
+unfolding notRefused outcome settledBy settled rxAfter txAfter startState breakState keyState frameBytes
+    see.restarts see.clears accepted see.arrived see.isFlow isGoOrStop added adds said
 done-places (create m) w h = none w (empty w _ refl refl)
 done-places (show side) w h = same w
 done-places (on reset) w h = none w (empty w _ refl refl)

@@ -47,7 +47,8 @@ use Rattle.laws.proofs.Ways.{isNext, isBack, isLast, isDamaged, isStore
 use Rattle.laws.proofs.Ways.{isObeyed, isAssigned, isSendAsked, isTold, isFinishing, isReady, isIdentified}
 use Rattle.places.proofs.OneStore.{more-fits}
 use Rattle.laws.proofs.Small.{put-bytes, given-small, status-small}
-use Rattle.laws.proofs.States.{tested, start-fits, with-registers, with-rx, with-tx, talking-tests, obeyed-tests, cleared-tests, assigned-tests, finishing-tests}
+use Rattle.laws.proofs.States.{tested, start-fits, with-registers, with-rx, with-tx}
+use Rattle.laws.proofs.States.{talking-tests, obeyed-tests, cleared-tests, assigned-tests, finishing-tests}
 
 -- ---- both stores keep their lengths
 

@@ -49,7 +49,11 @@ look : (s : List ℕ) (r : Ring) (k : ℕ) → Fit s r → k < r .len → getD (
 look s r k f h = held-at s r k f h ∙ ap (λ (n : ℕ). getD s n 0) (place r k (f .within) (omega arith))
 
 offered-so : (r : Ring) → Offering r (offered r)
-offered-so r = ⊎-elim (λ l. rw (lt-leb (r .cap) (r .len) l) (offered-room r _ l refl)) (λ g. rw (le-leb (r .cap) (r .len) g) (offered-full r g)) (split (r .len) (r .cap))
+offered-so r =
+    ⊎-elim
+    (λ l. rw (lt-leb (r .cap) (r .len) l) (offered-room r _ l refl))
+    (λ g. rw (le-leb (r .cap) (r .len) g) (offered-full r g))
+    (split (r .len) (r .cap))
 
 put : (s : List ℕ) (r : Ring) (b : ℕ) (o : List ℕ) (a : Offered) → Fit s r → Put s r b o a → (o ≡ putBy byRemainder s r b) × (a ≡ offered r)
 unfolding putBytes

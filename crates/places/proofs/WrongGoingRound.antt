@@ -26,7 +26,8 @@ fits oldest len h k = record { cap = refl; within = within oldest len h k }
 -- 2 and 3 are held, 4 is stored, and stands nowhere: it is swallowed
 pub late-falls : AsByRemainder (goingBy late) → ⊥
 late-falls law =
-    let z : _≡_ {A = ℕ} 1 4 = ap (λ (l : List ℕ). getD l 0 0) (law .put oneToThree (ringOfThree 1 2) 4 _ _ (fits 1 2 (omega arith) (omega arith)) (refl, refl) .0) in
+    let p = law .put oneToThree (ringOfThree 1 2) 4 _ _ (fits 1 2 (omega arith) (omega arith)) (refl, refl) in
+    let z : _≡_ {A = ℕ} 1 4 = ap (λ (l : List ℕ). getD l 0 0) (p .0) in
     omega (arith, z)
 
 -- 1 and 2 are held, and the second is read as 1
