@@ -4,7 +4,8 @@ import os
 import re
 
 CLAUSES = ("requires", "ensures")
-BLANKED = re.compile(r"//[^\n]*|b?\"(?:[^\"\\\n]|\\.)*\"")
+# comments, texts, raw texts and bytes; a comment within a comment ends the outer one, so that never more is blanked than is no code
+BLANKED = re.compile(r"//[^\n]*|/\*.*?\*/|\bb?r(?P<marks>#*)\".*?\"(?P=marks)|b?\"(?:[^\"\\]|\\.)*\"|\bb'(?:\\x..|\\.|[^'\\])'", re.S)
 FUNCTION = re.compile(r"((?:\b(?:pub(?:\([^)]*\))?|extern|const|unsafe|ghost)\s+)*)\bfn\s+(\w+)")
 LAYER = re.compile(r"# layer (\w+): *(.*)")
 PRODUCTS = re.compile(r"# products: *(.*)")
@@ -73,6 +74,7 @@ class Function:
         self.clauses = {word: [] for word in CLAUSES}
         self.returns, at = self.rest(text, after)
         self.body = text[at : closing(text, at)] if text[at : at + 1] == "{" else ""
+        self.end = at + len(self.body)
 
     def rest(self, text, at):
         """Reads the return type and the clauses from this place on; the type, and the place of the body or of what stands in its place."""
@@ -102,7 +104,17 @@ def split(text):
     return parts
 
 
+def blank(text):
+    """As many spaces in as many lines."""
+    return re.sub(r"[^\n]", " ", text)
+
+
+def without(pattern, text):
+    """A text in which all that is of this pattern is blanked."""
+    return pattern.sub(lambda found: blank(found.group(0)), text)
+
+
 def functions(path):
     """The functions of a source file, in its order. Comments and string texts are blanked first, so that none is read as code."""
-    text = BLANKED.sub(lambda found: " " * len(found.group(0)), read(path))
+    text = without(BLANKED, read(path))
     return [Function(text, found) for found in FUNCTION.finditer(text)]
