@@ -15,18 +15,26 @@ header_of() { sed -n "s/^$1 //p" archives/crates; } # CRATE
 
 have() { command -v "$1" > /dev/null 2>&1; }
 
+# One install at a time: who installs holds dpkg's folder, and another waits for it. apt itself waits only for dpkg, not for its own lists.
 install() { # PACKAGE...
     echo "Installing from Debian, as root: $*" >&2
-    for package in "$@"; do
-        case $package in *:*) dpkg --add-architecture "${package#*:}" ;; esac
-    done
-    { apt-get update -qq && apt-get install -y -qq --no-install-recommends "$@"; } > /dev/null
+    (
+        flock 9
+        for package in "$@"; do
+            case $package in *:*) dpkg --add-architecture "${package#*:}" ;; esac
+        done
+        { apt-get update -qq && apt-get install -y -qq --no-install-recommends "$@"; } 9<&-
+    ) 9< /var/lib/dpkg > /dev/null
 }
+
+# Waits for an install that is under way: a package's command may be there before all that it needs.
+settled() { [ ! -d /var/lib/dpkg ] || flock --shared /var/lib/dpkg true; }
 
 # Installs the packages named if one of the commands is missing.
 need() { # PACKAGES COMMAND...
     packages=$1
     shift
+    settled
     for command in "$@"; do
         # shellcheck disable=SC2086 # several packages in one word
         have "$command" || { install $packages; return; }

@@ -1,7 +1,5 @@
 """A fault on a chip that tests/board/run.sh must find, on each board; and a count of instructions that saw no call."""
-import os
-
-from planting import ROOT, Room
+from planting import Room
 
 CHIPS = ("thumbv6m-none-eabi", "thumbv7em-none-eabi", "riscv32imc-unknown-none-elf")
 COUNT = ["awk", "-v", "counted=line_byte loop_frame", "-f", "tests/board/count.awk", "names", "trace"]
@@ -16,7 +14,7 @@ def trace(*places):
 def run():
     """Plants every fault; how many."""
     with Room("tests/board", "tests/c", "archives", "include") as room:
-        os.symlink(os.path.join(ROOT, "target"), room.at("target"))
+        room.lend_archives()
         for chip in CHIPS:
             check = ["sh", "tests/board/run.sh", chip]
             room.passes(check, "all as the manual says")

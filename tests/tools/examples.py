@@ -1,7 +1,5 @@
 """Faults of the C examples that examples/run.sh must find, and of their notes of gaps, which tests/c/run.sh must find."""
-import os
-
-from planting import ROOT, Room
+from planting import Room
 
 TOOL = ["sh", "examples/run.sh", "meter", "dongle"]
 CALLS = ["sh", "tests/c/run.sh"]
@@ -14,7 +12,7 @@ MAILBOX = ["sh", "examples/run.sh", "mailbox"]
 def run():
     """Plants every fault; how many."""
     with Room("examples", "include", "archives", "tests/board", "tests/c") as room:
-        os.symlink(os.path.join(ROOT, "target"), room.at("target"))
+        room.lend_archives()
         room.passes(TOOL, "dongle: 11 readings whole, 1 with a byte missing, as stored")
         room.finds(TOOL, "meter prints something else", ("examples/c/meter.said", "25: a byte is missing", "2.5: whole"))
         room.finds(TOOL, "dongle prints something else", ("examples/dongle/dongle.said", "stop\n", ""))

@@ -36,6 +36,11 @@ class Room:
         os.makedirs(os.path.dirname(self.at(path)), exist_ok=True)
         (shutil.copytree if os.path.isdir(source) else shutil.copy)(source, self.at(path))
 
+    def lend_archives(self):
+        """Lends the room the repository's archives. What is built with them stands in the room, so that it may be built beside other checks."""
+        os.makedirs(self.at("target"))
+        os.symlink(os.path.join(ROOT, "target", "staticlib"), self.at("target/staticlib"))
+
     def text(self, path):
         """A file's text, none where there is no such file."""
         if not os.path.exists(self.at(path)):
