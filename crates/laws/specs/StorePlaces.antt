@@ -35,6 +35,6 @@ abbrev pub Places : Store → Law
 Places s = PlacedByCalls (filling s)
 
 -- since create, reset or device clear: the n-th byte, from 0, was written at the remainder of n by the length of its store, and nothing else
--- was written. No place that the bridge records is looked at; of a line byte it is whether the receive store was full, since then it is lost
+-- was written. No place that the bridge records is looked at; of a line byte only whether the receive store was full, since then it is lost
 abbrev pub PlacesSince : Store → Law
 PlacesSince s = FilledSince (filling s)

@@ -62,9 +62,9 @@ put s r b o a f p = (
   offered-one (p .offering) (offered-so r),
 )
 
-drop : (r : Ring) (n : ℕ) (o : Ring) → Within r → n ≤ r .len → Dropped r n o → o ≡ dropBy byRemainder r n
+dropped : (r : Ring) (n : ℕ) (o : Ring) → Within r → n ≤ r .len → Dropped r n o → o ≡ dropBy byRemainder r n
 unfolding dropRing
-drop r n o f h d = d .ring ∙ (λ i. record { cap = r .cap; oldest = place r n f h i; len = r .len - n })
+dropped r n o f h d = d .ring ∙ (λ i. record { cap = r .cap; oldest = place r n f h i; len = r .len - n })
 
 span : (r : Ring) (o : Stretch) → Within r → Spanned r o → (o .start ≡ placeBy byRemainder r 0) × (o .end ≡ o .start + together r)
 span r o f p =
@@ -97,7 +97,7 @@ as-by-remainder =
       place = λ r k o f h e. e ∙ place r k f h;
       put = put;
       look = λ s r k o f h e. e ∙ look s r k f h;
-      drop = drop;
+      dropped = dropped;
       span = span;
       show = show;
     }

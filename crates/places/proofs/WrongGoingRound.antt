@@ -39,18 +39,18 @@ masked-falls law =
 -- 3 is held and dropped, and the next would stand at the second place
 pub to-the-second-falls : AsByRemainder (goingBy toTheSecond) → ⊥
 to-the-second-falls law =
-    let z : _≡_ {A = ℕ} 1 0 = ap (λ (r : Ring). r .oldest) (law .drop (ringOfThree 2 1) 1 _ (within 2 1 (omega arith) (omega arith)) (omega arith) refl) in
+    let z : _≡_ {A = ℕ} 1 0 = ap (λ (r : Ring). r .oldest) (law .dropped (ringOfThree 2 1) 1 _ (within 2 1 (omega arith) (omega arith)) (omega arith) refl) in
     omega (arith, z)
 
 -- 3 and 1 are held and dropped, and the next would stand past the last place; so too where nothing but the drop is wrong
 pub by-equality-falls : AsByRemainder (goingBy byEquality) → ⊥
 by-equality-falls law =
-    let z : _≡_ {A = ℕ} 4 1 = ap (λ (r : Ring). r .oldest) (law .drop (ringOfThree 2 2) 2 _ (within 2 2 (omega arith) (omega arith)) (omega arith) refl) in
+    let z : _≡_ {A = ℕ} 4 1 = ap (λ (r : Ring). r .oldest) (law .dropped (ringOfThree 2 2) 2 _ (within 2 2 (omega arith) (omega arith)) (omega arith) refl) in
     omega (arith, z)
 
 pub drops-by-equality-falls : AsByRemainder dropsByEquality → ⊥
 drops-by-equality-falls law =
-    let z : _≡_ {A = ℕ} 4 1 = ap (λ (r : Ring). r .oldest) (law .drop (ringOfThree 2 2) 2 _ (within 2 2 (omega arith) (omega arith)) (omega arith) refl) in
+    let z : _≡_ {A = ℕ} 4 1 = ap (λ (r : Ring). r .oldest) (law .dropped (ringOfThree 2 2) 2 _ (within 2 2 (omega arith) (omega arith)) (omega arith) refl) in
     omega (arith, z)
 
 -- 3 is held, and the next would stand past the last place

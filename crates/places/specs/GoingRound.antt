@@ -72,7 +72,7 @@ pub record AsByRemainder (S : Giving) : Type 0 where
   pub place : (r : Ring) (k o : ℕ) → Within r → k ≤ r .len → S .Place r k o → o ≡ placeBy byRemainder r k
   pub put : (s : List ℕ) (r : Ring) (b : ℕ) (o : List ℕ) (a : Offered) → Fit s r → S .Puts s r b o a → (o ≡ putBy byRemainder s r b) × (a ≡ offered r)
   pub look : (s : List ℕ) (r : Ring) (k o : ℕ) → Fit s r → k < r .len → S .Looks s r k o → o ≡ lookBy byRemainder s r k
-  pub drop : (r : Ring) (n : ℕ) (o : Ring) → Within r → n ≤ r .len → S .Drops r n o → o ≡ dropBy byRemainder r n
+  pub dropped : (r : Ring) (n : ℕ) (o : Ring) → Within r → n ≤ r .len → S .Drops r n o → o ≡ dropBy byRemainder r n
   pub span : (r : Ring) (o : Stretch) → Within r → S .Spans r o → (o .start ≡ placeBy byRemainder r 0) × (o .end ≡ o .start + together r)
   pub show : (s : List ℕ) (r : Ring) (o : List ℕ) → Fit s r → S .Shows s r o → o ≡ bytesBy byRemainder s r 0 (together r)
 
