@@ -9,7 +9,7 @@ mkdir busy || { echo 'it is in use' >&2; exit 100; }
 if [ "$1" = install ]; then
     printf '#!/bin/sh\\ncat needed\\n' > bin/tool
     chmod +x bin/tool
-    sleep 0.5
+    sleep 1.5
     echo whole > needed
 fi
 sleep 0.2

@@ -9,9 +9,7 @@ import time
 sys.dont_write_bytecode = True
 from planting import Missed
 
-ALL = """
-contracts undivided must_fail documents laws make archive layout bench board examples onepass program counted install
-""".split()
+ALL = "contracts undivided must_fail documents laws make archive layout bench board examples onepass program counted install".split()
 
 
 def main():
