@@ -4,7 +4,7 @@ use crate::desk::Desk;
 use crate::machine::Machine;
 use crate::round::{Round, Step};
 use std::collections::hash_map::DefaultHasher;
-use std::hash::Hasher;
+use std::hash::{Hash, Hasher};
 
 /// Makes the calls of one round and takes their answers into a checksum, in few instructions. No
 /// copy of it knows which side it calls.
@@ -30,6 +30,6 @@ pub fn checksum<M: Machine>(
     }
     let mut hasher = DefaultHasher::new();
     hasher.write_u64(sum);
-    desk.held().for_each(|number| hasher.write_u64(number));
+    desk.hash(&mut hasher);
     hasher.finish()
 }

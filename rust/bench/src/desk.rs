@@ -1,6 +1,7 @@
 //! The caller's place: the block, the two stores and the side whose functions they are lent to.
 
 use crate::machine::{Lent, Machine};
+use std::hash::{Hash, Hasher};
 
 /// One side with its three buffers. All start as zero, and only calls write them.
 pub struct Desk<M: Machine> {
@@ -50,14 +51,16 @@ impl<M: Machine> Desk<M> {
         (function, numbers)
     }
 
-    /// The block and both stores, as numbers in their order.
-    pub fn held(&self) -> impl Iterator<Item = u64> + '_ {
-        let block = self.block.iter().map(|&byte| byte.into());
-        block.chain(self.stores.iter().flatten().map(|&cell| cell.into()))
-    }
-
     /// Whether the block and both stores are those of another.
     pub fn same(&self, other: &Desk<M>) -> bool {
         self.block == other.block && self.stores == other.stores
+    }
+}
+
+/// The block and both stores, in few instructions: a buffer of numbers is hashed as a whole.
+impl<M: Machine> Hash for Desk<M> {
+    fn hash<H: Hasher>(&self, hasher: &mut H) {
+        self.block.hash(hasher);
+        self.stores.hash(hasher);
     }
 }

@@ -1,6 +1,7 @@
 //! What the works ask of a machine: its sides, by pointer, and its works.
 
 use std::fmt::Debug;
+use std::hash::Hash;
 
 /// Three buffers as C takes them: pointer and length.
 pub struct Lent<C> {
@@ -13,7 +14,7 @@ pub type Sides<S> = &'static [(&'static str, &'static S)];
 
 /// A machine whose instructions are counted.
 pub trait Machine: 'static {
-    type Cell: Copy + Default + PartialEq + Into<u64>;
+    type Cell: Copy + Default + PartialEq + Hash;
     type Call: Copy + Debug;
     /// The C functions of one implementation.
     type Side: Copy;
