@@ -1,5 +1,6 @@
 """Faults of contracts, layers, names and logs that tools/contracts.py must find."""
 import glob
+import os
 import re
 
 from planting import ROOT, Missed, Room
@@ -132,7 +133,8 @@ def logs(room):
 
 def run():
     """Plants every fault; how many."""
-    parts = glob.glob("crates/*/src", root_dir=ROOT) + [f"crates/{name}/specs" for name in ("store", "sending", "role")]
+    parts = [os.path.relpath(path, ROOT) for path in glob.glob(os.path.join(ROOT, "crates/*/src"))]
+    parts += [f"crates/{name}/specs" for name in ("store", "sending", "role")]
     with Room("crates.txt", "tools", *parts, *(f"crates/{name}/proofs" for name in ("store", "sending", "state"))) as room:
         room.passes(TOOL, "0 faults")
         for part in (contracts, every_function, layers, names, stores, plain_stores, logs):
