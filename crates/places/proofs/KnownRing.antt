@@ -2,7 +2,7 @@
 use Prim.Native.Nat.{ℕ, zero, suc, _+_, _-_, _%_, _≤_, _<_, min}
 use native.Mathlib.Omega.{arith}
 use native.Mathlib.Nat.{mod-eq-of-lt, mod-eq-sub-mod, zero-add}
-use mathlib.Core.Path.{_≡_, refl, sym, ap, _∙_}
+use mathlib.Core.Path.{_≡_, refl, sym, ap, subst, _∙_}
 use mathlib.Core.Bool.{cond}
 use mathlib.Core.List.{List}
 use mathlib.Core.Logic.{⊎-elim}
@@ -15,8 +15,10 @@ use Rattle.store.specs.declared.Offered.{Offered}
 use Rattle.store.specs.declared.Stretch.{Stretch}
 use Rattle.store.specs.Ring.{Within, Fit, wrap, held, run, full, putBytes, dropRing}
 use Rattle.store.specs.Promises.{Offering, Put, Dropped, Spanned, Shown}
-use Rattle.store.proofs.Laws.{wrap-low, wrap-high, held-at, held-length, run-part, offered-room, offered-full, offered-one}
-use Rattle.places.specs.GoingRound.{byRemainder, together, offered, placeBy, putBy, lookBy, dropBy, bytesBy, AsByRemainder, promised, HeldByRemainder}
+use Rattle.store.proofs.Laws.{wrap-low, wrap-high, held-at, held-length, run-part}
+use Rattle.store.proofs.Laws.{offered-room, offered-full, offered-one, put-at, put-kept, drop-met, shown-met}
+use Rattle.places.specs.GoingRound.{byRemainder, together, offered, placeBy, putBy, lookBy, dropBy, bytesBy}
+use Rattle.places.specs.GoingRound.{AsByRemainder, AllByRemainder, promised, HeldByRemainder}
 
 -- ---- going round once, by a comparison and by the remainder
 
@@ -66,10 +68,11 @@ dropped : (r : Ring) (n : ℕ) (o : Ring) → Within r → n ≤ r .len → Drop
 unfolding dropRing
 dropped r n o f h d = d .ring ∙ (λ i. record { cap = r .cap; oldest = place r n f h i; len = r .len - n })
 
+first-place : (r : Ring) → Within r → placeBy byRemainder r 0 ≡ r .oldest
+first-place r f = let first : r .oldest + 0 ≡ r .oldest = omega arith in ap (λ (n : ℕ). n % r .cap) first ∙ mod-eq-of-lt (f .oldest)
+
 span : (r : Ring) (o : Stretch) → Within r → Spanned r o → (o .start ≡ placeBy byRemainder r 0) × (o .end ≡ o .start + together r)
-span r o f p =
-    let first : r .oldest + 0 ≡ r .oldest = omega arith in
-    (p .start ∙ sym (ap (λ (n : ℕ). n % r .cap) first ∙ mod-eq-of-lt (f .oldest)), omega (arith, p .size, p .order))
+span r o f p = (p .start ∙ sym (first-place r f), omega (arith, p .size, p .order))
 
 -- a list that begins what is held
 begins : (s : List ℕ) (r : Ring) (o : List ℕ) (n : ℕ) → Fit s r → n ≤ r .len → length o ≡ n →
@@ -100,6 +103,36 @@ as-by-remainder =
       dropped = dropped;
       span = span;
       show = show;
+    }
+
+-- ---- all that the ring by the remainder gives is given
+
+put-given : (s : List ℕ) (r : Ring) (b : ℕ) → Fit s r → Put s r b (putBy byRemainder s r b) (offered r)
+put-given s r b f =
+    ⊎-elim
+    (λ l.
+    rw (lt-leb (r .cap) (r .len) l)
+    (put-at s r b (placeBy byRemainder r (r .len)) _ f (offered-room r _ l refl) refl (sym (place r (r .len) (f .within) (omega arith)))))
+    (λ g. rw (le-leb (r .cap) (r .len) g) (put-kept s r b _ f (offered-full r g) refl))
+    (split (r .len) (r .cap))
+
+spanned-from : (r : Ring) (p : ℕ) → Within r → p ≡ r .oldest → Spanned r (record { start = p; end = p + together r })
+spanned-from r p f e = record { start = e; size = omega arith; order = omega arith; below = omega (arith, e, f .oldest) }
+
+show-given : (s : List ℕ) (r : Ring) → Fit s r → Shown s r (bytesBy byRemainder s r 0 (together r))
+show-given s r f =
+    let p : Shown s r _ = shown-met s r _ f (spanned-from r (r .oldest) (f .within) refl) in
+    subst (Shown s r) (show s r _ f p) p
+
+pub all-by-remainder : AllByRemainder promised
+all-by-remainder =
+    record {
+      place = λ r k f h. sym (place r k f h);
+      put = put-given;
+      look = λ s r k f h. sym (look s r k f h);
+      dropped = λ r n f h. drop-met r n (placeBy byRemainder r n) h (sym (place r n f h));
+      span = λ r f. spanned-from r (placeBy byRemainder r 0) f (first-place r f);
+      show = show-given;
     }
 
 pub held-by-remainder : HeldByRemainder

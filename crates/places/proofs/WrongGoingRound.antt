@@ -7,8 +7,9 @@ use mathlib.Core.List.{List, [], _∷_}
 use lib.ListN.{getD}
 use Rattle.store.specs.declared.Ring.{Ring}
 use Rattle.store.specs.Ring.{Within, Fit}
-use Rattle.places.specs.GoingRound.{AsByRemainder}
-use Rattle.places.specs.WrongGoingRound.{late, masked, toTheSecond, byEquality, signed, atTheLargest, goingBy, dropsByEquality}
+use Rattle.places.specs.GoingRound.{GoingRound, byRemainder, AsByRemainder, AllByRemainder}
+use Rattle.places.specs.WrongGoingRound.{late, masked, toTheSecond, byEquality, signed, atTheLargest}
+use Rattle.places.specs.WrongGoingRound.{storeBy, goingBy, dropsByEquality, silent, stopsAtTheEnd}
 
 -- a store that 1, 2 and 3 stand in, of which len are held from this place on
 abbrev oneToThree : List ℕ
@@ -42,16 +43,17 @@ to-the-second-falls law =
     let z : _≡_ {A = ℕ} 1 0 = ap (λ (r : Ring). r .oldest) (law .dropped (ringOfThree 2 1) 1 _ (within 2 1 (omega arith) (omega arith)) (omega arith) refl) in
     omega (arith, z)
 
--- 3 and 1 are held and dropped, and the next would stand past the last place; so too where nothing but the drop is wrong
-pub by-equality-falls : AsByRemainder (goingBy byEquality) → ⊥
-by-equality-falls law =
+-- 3 and 1 are held and dropped, and the next would stand past the last place, in whatever way the other calls go round
+equal-drop-falls : (g : GoingRound) → AsByRemainder (storeBy g byEquality) → ⊥
+equal-drop-falls g law =
     let z : _≡_ {A = ℕ} 4 1 = ap (λ (r : Ring). r .oldest) (law .dropped (ringOfThree 2 2) 2 _ (within 2 2 (omega arith) (omega arith)) (omega arith) refl) in
     omega (arith, z)
 
+pub by-equality-falls : AsByRemainder (goingBy byEquality) → ⊥
+by-equality-falls = equal-drop-falls byEquality
+
 pub drops-by-equality-falls : AsByRemainder dropsByEquality → ⊥
-drops-by-equality-falls law =
-    let z : _≡_ {A = ℕ} 4 1 = ap (λ (r : Ring). r .oldest) (law .dropped (ringOfThree 2 2) 2 _ (within 2 2 (omega arith) (omega arith)) (omega arith) refl) in
-    omega (arith, z)
+drops-by-equality-falls = equal-drop-falls byRemainder
 
 -- 3 is held, and the next would stand past the last place
 pub at-the-largest-falls : AsByRemainder (goingBy atTheLargest) → ⊥
@@ -64,4 +66,15 @@ pub signed-falls : AsByRemainder (goingBy signed) → ⊥
 signed-falls law =
     let r : Ring = record { cap = 32768; oldest = 32767; len = 1 } in
     let z : _≡_ {A = ℕ} 32768 0 = law .place r 1 _ (record { oldest = omega arith; len = omega arith; small = omega arith }) (omega arith) refl in
+    omega (arith, z)
+
+-- ---- all is given
+
+pub silent-falls : AllByRemainder silent → ⊥
+silent-falls law = law .place (ringOfThree 0 0) 0 (within 0 0 (omega arith) (omega arith)) (omega arith)
+
+-- 3 is held, and its drop is not answered
+pub stops-at-the-end-falls : AllByRemainder stopsAtTheEnd → ⊥
+stops-at-the-end-falls law =
+    let z : 3 < 3 = law .dropped (ringOfThree 2 1) 1 (within 2 1 (omega arith) (omega arith)) (omega arith) .1 in
     omega (arith, z)

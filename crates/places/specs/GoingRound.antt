@@ -67,7 +67,8 @@ pub record Giving : Type 1 where
   pub Spans : Ring → Stretch → Type 0
   pub Shows : List ℕ → Ring → List ℕ → Type 0
 
--- the law, wherever a call may be made: in a ring within its capacity, whose list has as many places, and of bytes that are held
+-- the law, wherever a call may be made: in a ring within its capacity, whose list has as many places, and of bytes that are held. Nothing is
+-- given but what the ring by the remainder gives
 pub record AsByRemainder (S : Giving) : Type 0 where
   pub place : (r : Ring) (k o : ℕ) → Within r → k ≤ r .len → S .Place r k o → o ≡ placeBy byRemainder r k
   pub put : (s : List ℕ) (r : Ring) (b : ℕ) (o : List ℕ) (a : Offered) → Fit s r → S .Puts s r b o a → (o ≡ putBy byRemainder s r b) × (a ≡ offered r)
@@ -75,6 +76,15 @@ pub record AsByRemainder (S : Giving) : Type 0 where
   pub dropped : (r : Ring) (n : ℕ) (o : Ring) → Within r → n ≤ r .len → S .Drops r n o → o ≡ dropBy byRemainder r n
   pub span : (r : Ring) (o : Stretch) → Within r → S .Spans r o → (o .start ≡ placeBy byRemainder r 0) × (o .end ≡ o .start + together r)
   pub show : (s : List ℕ) (r : Ring) (o : List ℕ) → Fit s r → S .Shows s r o → o ≡ bytesBy byRemainder s r 0 (together r)
+
+-- and all that it gives is given, so that no call is left without an answer
+pub record AllByRemainder (S : Giving) : Type 0 where
+  pub place : (r : Ring) (k : ℕ) → Within r → k ≤ r .len → S .Place r k (placeBy byRemainder r k)
+  pub put : (s : List ℕ) (r : Ring) (b : ℕ) → Fit s r → S .Puts s r b (putBy byRemainder s r b) (offered r)
+  pub look : (s : List ℕ) (r : Ring) (k : ℕ) → Fit s r → k < r .len → S .Looks s r k (lookBy byRemainder s r k)
+  pub dropped : (r : Ring) (n : ℕ) → Within r → n ≤ r .len → S .Drops r n (dropBy byRemainder r n)
+  pub span : (r : Ring) → Within r → S .Spans r (record { start = placeBy byRemainder r 0; end = placeBy byRemainder r 0 + together r })
+  pub show : (s : List ℕ) (r : Ring) → Fit s r → S .Shows s r (bytesBy byRemainder s r 0 (together r))
 
 -- ---- ours
 

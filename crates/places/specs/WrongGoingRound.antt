@@ -1,5 +1,5 @@
--- Ways of going round that are wrong, each for some length of a store, and stores that go round so.
-use Prim.Native.Nat.{_+_, _-_, _%_}
+-- Ways of going round that are wrong, each for some length of a store, and stores that go round so or do not answer.
+use Prim.Native.Nat.{_+_, _-_, _%_, _<_}
 use mathlib.Core.Path.{_≡_}
 use mathlib.Core.Bool.{cond, _&&_}
 use lib.Bits.{bitAnd}
@@ -44,9 +44,34 @@ storeBy g h =
       Shows = λ s r o. o ≡ bytesBy g s r 0 (together r);
     }
 
+-- a store that goes round in one way throughout
 abbrev pub goingBy : GoingRound → Giving
 goingBy g = storeBy g g
 
 -- right in all but its drop
 abbrev pub dropsByEquality : Giving
 dropsByEquality = storeBy byRemainder byEquality
+
+-- gives nothing at all
+abbrev pub silent : Giving
+silent =
+    record {
+      Place = λ r k o. ⊥;
+      Puts = λ s r b o a. ⊥;
+      Looks = λ s r k o. ⊥;
+      Drops = λ r n o. ⊥;
+      Spans = λ r o. ⊥;
+      Shows = λ s r o. ⊥;
+    }
+
+-- right as far as it goes, and answers no more where a drop comes round
+abbrev pub stopsAtTheEnd : Giving
+stopsAtTheEnd =
+    record {
+      Place = goingBy byRemainder .Place;
+      Puts = goingBy byRemainder .Puts;
+      Looks = goingBy byRemainder .Looks;
+      Drops = λ r n o. (o ≡ dropBy byRemainder r n) × (r .oldest + n < r .cap);
+      Spans = goingBy byRemainder .Spans;
+      Shows = goingBy byRemainder .Shows;
+    }
