@@ -123,8 +123,8 @@ module _ (P : Product) (F : Formed P) (K : Kept P) where
           lendable =
               record {
                 block = block-kept c .1;
-                first = subst (λ (x : Held (P .State)). P .Stored (x .first)) o (t .first);
-                second = subst (λ (x : Held (P .State)). P .Stored (x .second)) o (t .second);
+                first = subst (λ (x : Held (P .State)). P .FirstStored (x .first)) o (t .first);
+                second = subst (λ (x : Held (P .State)). P .SecondStored (x .second)) o (t .second);
               };
         }
 

@@ -12,6 +12,7 @@ use Rattle.branches.proofs.Branches.{by-cond, and-left, and-right}
 use Rattle.frame.specs.Frame.{dataOf, isEnd}
 use Rattle.answers.specs.Answers.{Said, done, none, byte, frame, refused, part, cell, lines, said}
 use Rattle.answers.specs.Word.{word}
+use Rattle.cells.specs.Cells.{Cells}
 use Rattle.boundary.specs.Product.{Held, fitsHeld}
 use Rattle.boundary.specs.CRuns.{Typed}
 use Rattle.boundary.specs.Kept.{Tells, TypedHeld, SameSizes, Kept}
@@ -32,7 +33,7 @@ use Rattle.maillaws.proofs.Refusal.{by-refusal}
 use Rattle.maillaws.proofs.Replied.{answers-so, narrow-answers, refused-exactly}
 use Rattle.maillaws.proofs.FitParts.{Parts, parts}
 use Rattle.maillaws.proofs.Fitted.{keeps-stores, keeps-fit, create-makes-fit}
-use Rattle.cmailbox.specs.Mailbox.{Cells, mailboxes}
+use Rattle.cmailbox.specs.Mailbox.{mailboxes}
 
 -- ---- numbers fit their places
 
