@@ -38,7 +38,7 @@ filled mark n (again ∷ l) s = filled mark n l (markedAt mark (placeBefore (len
 abbrev pub FilledSince : {World Call Said : Type 0} → Filling World Call Said → Law World Call Said
 FilledSince F =
     ofSince
-    (λ s ss. of (F .empties) s ≡ true → Without (F .empties) ss → 
+    (λ s ss. of (F .empties) s ≡ true → Without (F .empties) ss →
     F .store (end (s .after) ss) ≡ filled (F .mark) 0 (all (F .written) ss) (F .store (s .before)))
 
 -- from every call to the run, where what the types give goes on and a call that empties the store writes nothing
