@@ -1,7 +1,7 @@
 -- From what a call of a product gave to the promise of its C function, on plain values. Assumes nothing.
 use Prim.Native.Nat.{ℕ, _-_, _<_, min}
 use native.Mathlib.Omega.{arith}
-use mathlib.Core.Path.{_≡_, refl, sym, ap, subst, _∙_}
+use mathlib.Core.Path.{_≡_, refl, sym, ap, _∙_}
 use mathlib.Core.Bool.{Bool, true, false, cond, true≢false}
 use mathlib.Core.List.{List}
 use lib.ListN.{length, take, drop, length-take, length-drop}
@@ -16,8 +16,8 @@ use Rattle.store.proofs.Laws.{run-part}
 use Rattle.branches.proofs.Branches.{cond-true, by-cond}
 use Rattle.codec.specs.Blocks.{packed, isState}
 use Rattle.codec.proofs.Same.{state-length, state-packed, means, means-none}
-use Rattle.boundary.specs.Product.{Product, Held, held, Kind, creating, showing, calling, fitsHeld, shown, checks, said, after}
-use Rattle.boundary.specs.CCalls.{Lent, lent, cDid, refusedBy, placeWord, storeOf, stateIn, heldIn, opened, blockAfter, closed, createdFor, calledFor, placeOf, shownWord, cBy, cStep}
+use Rattle.boundary.specs.Product.{Product, Held, held, fitsHeld, shown, checks, said, after}
+use Rattle.boundary.specs.CCalls.{lent, cDid, placeWord, storeOf, stateIn, heldIn, opened, blockAfter, closed, createdFor, calledFor, placeOf, shownWord, cBy, cStep}
 use Rattle.boundary.specs.Formed.{MadeAlike, Formed}
 use Rattle.boundary.proofs.Words.{no-room-alone}
 

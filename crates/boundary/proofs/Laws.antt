@@ -13,8 +13,8 @@ use Rattle.answers.specs.Word.{word, wordWith}
 use Rattle.codec.specs.Blocks.{packed}
 use Rattle.codec.proofs.Laws.{packed-length, packed-means, meaning-fits}
 use Rattle.boundary.specs.Product.{Product, Held, held, Kind, creating, showing, calling, callOf, fitsHeld, shown, said, room, after}
-use Rattle.boundary.specs.CCalls.{Lent, lent, CDid, cDid, refusedBy, placeWord, storeOf, heldIn, opened, fitting, blockAfter, closed, createdFor, calledFor, placeOf, shownWord, cBy, cStep}
-use Rattle.boundary.specs.CRuns.{packedHeld, packedWorld, wordBy, answerWord}
+use Rattle.boundary.specs.CCalls.{Lent, lent, CDid, cDid, placeWord, storeOf, heldIn, opened, fitting, closed, createdFor, calledFor, placeOf, shownWord, cBy, cStep}
+use Rattle.boundary.specs.CRuns.{packedWorld, wordBy, answerWord}
 use Rattle.boundary.specs.CLaws.{OneResultInC, ShownPlace, MisfitShowsNothing, MisfitRefused, WrongBlockRefused, SameCall}
 use Rattle.boundary.specs.Formed.{Formed}
 use Rattle.boundary.proofs.Closing.{misfit-said, part-word, Shown, shown-part}

@@ -9,7 +9,7 @@ use Rattle.machine.specs.Machine.{narrowed, AllFair, finally, Law, Obeys, Obeys
 use Rattle.machine.specs.Opening.{Opens}
 use Rattle.answers.specs.Answers.{Answered, refused, isRefusal}
 use Rattle.boundary.specs.Product.{Product, Held, tellingOf, machineOf, shown, said, room, after}
-use Rattle.boundary.specs.CCalls.{Lent, CDid, cDid, refusedBy, storeOf, opened, fitting, shownWord, cStep, CPromised}
+use Rattle.boundary.specs.CCalls.{Lent, cDid, refusedBy, storeOf, opened, fitting, shownWord, cStep, CPromised}
 use Rattle.boundary.specs.Numbers.{cAnswer, cRoom}
 use Rattle.boundary.specs.CRuns.{packedWorld, answerWord, words, cWords, Typed, Lendable, Whole, cTelling, cFunctions}
 
