@@ -17,7 +17,8 @@ use Rattle.branches.proofs.Branches.{cond-true, by-cond}
 use Rattle.codec.specs.Blocks.{packed, isState}
 use Rattle.codec.proofs.Same.{state-length, state-packed, means, means-none}
 use Rattle.boundary.specs.Product.{Product, Held, held, fitsHeld, shown, checks, said, after}
-use Rattle.boundary.specs.CCalls.{lent, cDid, placeWord, storeOf, stateIn, heldIn, opened, blockAfter, closed, createdFor, calledFor, placeOf, shownWord, cBy, cStep}
+use Rattle.boundary.specs.CCalls.{lent, cDid, placeWord, storeOf, stateIn, heldIn, opened}
+use Rattle.boundary.specs.CCalls.{blockAfter, closed, createdFor, calledFor, placeOf, shownWord, cBy, cStep}
 use Rattle.boundary.specs.Formed.{MadeAlike, Formed}
 use Rattle.boundary.proofs.Words.{no-room-alone}
 
@@ -163,7 +164,8 @@ run-shown xs r p k f e h =
 
 module _ (P : Product) (F : Formed P) where
   -- the part that showing returned is the one shown
-  pub part-shown : (side : P .Side) (h : Held (P .State)) (p : List ℕ) (d : P .Did) → d ≡ P .step (P .show side) (P .world h) → part p ≡ P .saidIn d → p ≡ shown P side h
+  pub part-shown : (side : P .Side) (h : Held (P .State)) (p : List ℕ) (d : P .Did) → d ≡ P .step (P .show side) (P .world h) → part p ≡ P .saidIn d →
+      p ≡ shown P side h
   part-shown side h p d e q =
       let same : part p ≡ part (shown P side h) = q ∙ ap (P .saidIn) e ∙ F .shows side (P .world h) ∙ ap (λ (x : Held (P .State)). part (shown P side x)) (F .back h) in
       cc

@@ -13,7 +13,8 @@ use Rattle.answers.specs.Word.{word, wordWith}
 use Rattle.codec.specs.Blocks.{packed}
 use Rattle.codec.proofs.Laws.{packed-length, packed-means, meaning-fits}
 use Rattle.boundary.specs.Product.{Product, Held, held, Kind, creating, showing, calling, callOf, fitsHeld, shown, said, room, after}
-use Rattle.boundary.specs.CCalls.{Lent, lent, CDid, cDid, placeWord, storeOf, heldIn, opened, fitting, closed, createdFor, calledFor, placeOf, shownWord, cBy, cStep}
+use Rattle.boundary.specs.CCalls.{Lent, lent, CDid, cDid, placeWord, storeOf, heldIn, opened, fitting}
+use Rattle.boundary.specs.CCalls.{closed, createdFor, calledFor, placeOf, shownWord, cBy, cStep}
 use Rattle.boundary.specs.CRuns.{packedWorld, wordBy, answerWord}
 use Rattle.boundary.specs.CLaws.{OneResultInC, ShownPlace, MisfitShowsNothing, MisfitRefused, WrongBlockRefused, SameCall}
 use Rattle.boundary.specs.Formed.{Formed}
@@ -32,7 +33,8 @@ none-of (x ∷ xs) e = absurd (omega arith)
 module _ (P : Product) (F : Formed P) where
   -- ---- calls by their kinds
 
-  pub by-call : (Q : P .Call → Type 0) → ((m : ℕ) → Q (P .create m)) → ((side : P .Side) → Q (P .show side)) → ((c : P .OnState) → Q (P .on c)) → (c : P .Call) → Q c
+  pub by-call : (Q : P .Call → Type 0) → ((m : ℕ) → Q (P .create m)) → ((side : P .Side) → Q (P .show side)) →
+      ((c : P .OnState) → Q (P .on c)) → (c : P .Call) → Q c
   by-call Q f g h c = subst Q (F .named c) (each (P .kind c))
     where
       each : (k : Kind (P .Side) (P .OnState)) → Q (callOf P k)

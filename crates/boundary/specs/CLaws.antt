@@ -27,7 +27,8 @@ module _ (P : Product) where
   -- number are its length and bits 32 to 63 its start
   abbrev pub ShownPlace : Type 0
   ShownPlace =
-      (side : P .Side) (h : Held (P .State)) → shown P side h ≡ take (shownWord P side h % 4294967296) (drop (shownWord P side h / 4294967296) (storeOf P side h))
+      (side : P .Side) (h : Held (P .State)) →
+      shown P side h ≡ take (shownWord P side h % 4294967296) (drop (shownWord P side h / 4294967296) (storeOf P side h))
 
   -- Sizes and refusals, showing: of any block that is no fitting state an empty part, which is the number 0, and nothing is written
   abbrev pub MisfitShowsNothing : Type 0
