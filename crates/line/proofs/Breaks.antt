@@ -6,7 +6,7 @@ use lib.ListN.{getD}
 use borrow.Author.Tests.{lt-ltb, le-ltb}
 use Rattle.branches.proofs.Branches.{cond-true, cond-false}
 use Rattle.store.specs.Ring.{held}
-use Rattle.cells.specs.Newest.{Replaced, replacedCells}
+use Rattle.cells.specs.Promises.{Replaced, replacedCells}
 use Rattle.reading.specs.Received.{markedCell}
 use Rattle.state.specs.declared.State.{State}
 use Rattle.line.specs.Breaks.{breakCells, Marked}

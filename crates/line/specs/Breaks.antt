@@ -6,7 +6,7 @@ use mathlib.Core.List.{List}
 use lib.Dec.{ltb}
 use lib.ListN.{length, getD}
 use Rattle.store.specs.Ring.{held}
-use Rattle.cells.specs.Newest.{replacedCells}
+use Rattle.cells.specs.Promises.{replacedCells}
 use Rattle.reading.specs.Received.{markedCell}
 use Rattle.state.specs.declared.State.{State}
 
