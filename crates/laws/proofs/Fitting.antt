@@ -61,7 +61,7 @@ frame-size : (s : State) (tx : List ℕ) (f : ℕ) → length (frameBytes s tx f
 unfolding frameBytes addedBytes
 frame-size s tx f = by-cond (λ (x : List ℕ). length x ≡ length tx) (addsBytes s f) _ tx (λ _. puts-size tx (s .tx) (adds (s .regs) f)) (λ _. refl)
 
-break-size : (s : State) (rx : List ℕ) → length (breakCells s rx) ≡ length rx
+pub break-size : (s : State) (rx : List ℕ) → length (breakCells s rx) ≡ length rx
 unfolding breakCells
 break-size s rx = by-cond (λ (x : List ℕ). length x ≡ length rx) (ltb 0 (s .rx .len)) _ rx (λ _. replaced-size rx (s .rx) _) (λ _. refl)
 

@@ -11,7 +11,7 @@ use Rattle.reading.specs.Received.{asHeld}
 use Rattle.reading.specs.Steps.{cut}
 use Rattle.answers.specs.Answers.{frame}
 use Rattle.bridge.specs.Calls.{loopFrame, on}
-use Rattle.laws.specs.Bridges.{Law, Saw}
+use Rattle.laws.specs.Bridges.{Law, Saw, ByteCall}
 use Rattle.laws.specs.Observers.{taken, onFrame, isSend, bytesAndBreaks, sent, changes, empties}
 use Rattle.laws.specs.Worlds.{heldToSend, ruleIn, reading}
 use Rattle.laws.specs.Demands.{lineToLoop}
@@ -34,11 +34,11 @@ abbrev pub SendRule : Law
 SendRule = ofCalls (λ s. (f : ℕ) → s .call ≡ on (loopFrame f) → taken (s .answer) ≡ true → isSend (s .before .state) f ≡ true → SendsFirst s)
 
 -- no other call removes a byte, but a create, reset or device clear removes all. A break is held behind the newest byte: several at one place
--- are one, and where nothing is held none is
+-- are one, and where nothing is held none is. A byte from the line is below 256, as its type says
 abbrev pub NoneRemoved : Law
 NoneRemoved =
     ofCalls
-    (λ s. of empties s ≡ false → onFrame (isSend (s .before .state)) false (s .call) ≡ false →
+    (λ s. ByteCall (s .call) → of empties s ≡ false → onFrame (isSend (s .before .state)) false (s .call) ≡ false →
     heldToSend (s .after) ≡ asHeld (heldToSend (s .before) ++ of bytesAndBreaks s))
 
 -- ---- the receive store since it was emptied

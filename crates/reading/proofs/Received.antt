@@ -117,6 +117,20 @@ received-more (x ∷ xs) ys = go (eqb (x / 256 % 2) 1) (received-more xs ys)
     go true ih = ap (λ (l : List Received). aByte (x % 256) ∷ aBreak ∷ l) ih
     go false ih = ap (λ (l : List Received). aByte (x % 256) ∷ l) ih
 
+-- bytes behind: each stands for itself
+plain-bytes : (ys : List ℕ) → ((k : ℕ) → getD ys k 0 < 256) → receivedIn ys ≡ map aByte ys
+unfolding received
+plain-bytes [] h = refl
+plain-bytes (y ∷ ys) h =
+    ap (λ (x : Item). aByte (x .byte) ∷ cond (x .broken) (aBreak ∷ receivedIn ys) (receivedIn ys)) (plain-byte y (h 0))
+    ∙ ap (λ (l : List Received). aByte y ∷ l) (plain-bytes ys (λ k. h (suc k)))
+
+-- they are held as they came
+pub bytes-held : (xs ys : List ℕ) → ((k : ℕ) → getD ys k 0 < 256) → receivedIn (xs ++ ys) ≡ asHeld (receivedIn xs ++ map aByte ys)
+bytes-held xs ys h =
+    sym (received-held (map itemOf (xs ++ ys)))
+    ∙ ap asHeld (received-more xs ys ∙ ap (λ (l : List Received). receivedIn xs ++ l) (plain-bytes ys h))
+
 -- a byte behind
 pub received-byte : (xs : List ℕ) (b : ℕ) → b < 256 → receivedIn (xs ++ (b ∷ [])) ≡ receivedIn xs ++ (aByte b ∷ [])
 unfolding received

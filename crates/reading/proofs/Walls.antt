@@ -12,7 +12,7 @@ use Rattle.reading.specs.Received.{Received, aByte, aBreak, asHeld}
 use Rattle.reading.specs.Steps.{isByte, decision, carried, cut}
 use Rattle.reading.specs.Walls.{dataFrames, Walled}
 use Rattle.reading.proofs.Cuts.{skip-stays, give-stays, by-cuts}
-use Rattle.reading.proofs.Reading.{frames-at, left-at, frames-ahead}
+use Rattle.reading.proofs.Reading.{frames-at, left-at, frames-ahead, left-ahead}
 use Rattle.reading.proofs.Lawful.{lawful}
 
 module _ (r : Rule) where
@@ -130,35 +130,63 @@ module _ (r : Rule) where
       ∙ frames-ahead C (lawful r) (xs ++ brk) ys
       ∙ ap (λ l. frames C (xs ++ brk) ++ frames C (l ++ ys)) (at-break xs .left)
 
-  -- by the first break: before it, what is held is as it was
+  behind-left : (xs ys : List Received) → leftOver C (xs ++ (aBreak ∷ ys)) ≡ leftOver C ys
+  behind-left xs ys =
+      ap (leftOver C) (sym (append-assoc xs brk ys))
+      ∙ left-ahead C (lawful r) (xs ++ brk) ys
+      ∙ ap (λ l. leftOver C (l ++ ys)) (at-break xs .left)
+
+  -- two lists that are read alike
+  record Alike (xs ys : List Received) : Type 0 where
+    reads : frames C xs ≡ frames C ys
+    left : leftOver C xs ≡ leftOver C ys
+
+  -- the same list, written in another way
+  alike-as : {xs ys zs : List Received} → xs ≡ ys → Alike ys zs → Alike xs zs
+  alike-as e a = record { reads = ap (frames C) e ∙ a .reads; left = ap (leftOver C) e ∙ a .left }
+
+  alike-to : {xs ys zs : List Received} → Alike xs ys → ys ≡ zs → Alike xs zs
+  alike-to a e = record { reads = a .reads ∙ ap (frames C) e; left = a .left ∙ ap (leftOver C) e }
+
+  -- behind a break
+  alike-behind : (ps : List Received) {xs ys : List Received} → Alike xs ys → Alike (ps ++ (aBreak ∷ xs)) (ps ++ (aBreak ∷ ys))
+  alike-behind ps {xs} {ys} a =
+      record {
+        reads = behind ps xs ∙ ap (λ l. frames C (ps ++ brk) ++ l) (a .reads) ∙ sym (behind ps ys);
+        left = behind-left ps xs ∙ a .left ∙ sym (behind-left ps ys);
+      }
+
+  -- as it is held, and as it came: bytes may stand before the first byte
   record AsRead (xs : List Received) : Type 0 where
-    -- bytes may stand before it
-    after : (ps : List Received) (b : ℕ) → frames C (ps ++ asHeld (aByte b ∷ xs)) ≡ frames C (ps ++ (aByte b ∷ xs))
-    alone : frames C (asHeld xs) ≡ frames C xs
+    after : (ps : List Received) (b : ℕ) → Alike (ps ++ asHeld (aByte b ∷ xs)) (ps ++ (aByte b ∷ xs))
+    alone : Alike (asHeld xs) xs
 
   as-read : (xs : List Received) → AsRead xs
   unfolding asHeld
-  as-read [] = record { after = λ ps b. refl; alone = refl }
+  as-read [] = record { after = λ ps b. record { reads = refl; left = refl }; alone = record { reads = refl; left = refl } }
   as-read (aBreak ∷ xs) =
       let ih = as-read xs in
       record {
         after = λ ps b.
-            ap (frames C) (sym (append-assoc ps (aByte b ∷ []) (aBreak ∷ asHeld xs)))
-            ∙ behind (ps ++ (aByte b ∷ [])) (asHeld xs)
-            ∙ ap (λ l. frames C ((ps ++ (aByte b ∷ [])) ++ brk) ++ l) (ih .alone)
-            ∙ sym (behind (ps ++ (aByte b ∷ [])) xs)
-            ∙ ap (frames C) (append-assoc ps (aByte b ∷ []) (aBreak ∷ xs));
-        alone = ih .alone ∙ sym (past xs .0);
+            alike-as (sym (append-assoc ps (aByte b ∷ []) (aBreak ∷ asHeld xs)))
+            (alike-to (alike-behind (ps ++ (aByte b ∷ [])) (ih .alone)) (append-assoc ps (aByte b ∷ []) (aBreak ∷ xs)));
+        alone = record { reads = ih .alone .reads ∙ sym (past xs .0); left = ih .alone .left ∙ sym (past xs .1) };
       }
   as-read (aByte c ∷ xs) =
       let ih = as-read xs in
       record {
         after = λ ps b.
-            ap (frames C) (sym (append-assoc ps (aByte b ∷ []) (asHeld (aByte c ∷ xs))))
-            ∙ ih .after (ps ++ (aByte b ∷ [])) c
-            ∙ ap (frames C) (append-assoc ps (aByte b ∷ []) (aByte c ∷ xs));
+            alike-as (sym (append-assoc ps (aByte b ∷ []) (asHeld (aByte c ∷ xs))))
+            (alike-to (ih .after (ps ++ (aByte b ∷ [])) c) (append-assoc ps (aByte b ∷ []) (aByte c ∷ xs)));
         alone = ih .after [] c;
       }
+
+  once : (xs ys : List Received) → frames C (asHeld xs ++ ys) ≡ frames C (xs ++ ys)
+  once xs ys =
+      let a = as-read xs .alone in
+      frames-ahead C (lawful r) (asHeld xs) ys
+      ∙ (λ i. a .reads i ++ frames C (a .left i ++ ys))
+      ∙ sym (frames-ahead C (lawful r) xs ys)
 
 -- a break is a wall
 pub walled : (r : Rule) → Walled (cut r)
@@ -168,5 +196,5 @@ walled r =
       before = λ xs. at-break r xs .reads;
       left = λ xs. at-break r xs .left;
       behind = behind r;
-      once = λ xs. as-read r xs .alone;
+      once = once r;
     }

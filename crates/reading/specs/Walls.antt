@@ -22,5 +22,5 @@ pub record Walled (cut : List Received → Cut Received ℕ) : Type 0 where
   pub left : (xs : List Received) → leftOver cut (xs ++ (aBreak ∷ [])) ≡ []
   -- what comes behind a break is read by itself
   pub behind : (xs ys : List Received) → frames cut (xs ++ (aBreak ∷ ys)) ≡ frames cut (xs ++ (aBreak ∷ [])) ++ frames cut ys
-  -- several at one place are one, and one before the first byte is none
-  pub once : (xs : List Received) → frames cut (asHeld xs) ≡ frames cut xs
+  -- several at one place are one, and one before the first byte is none, whatever comes after
+  pub once : (xs ys : List Received) → frames cut (asHeld xs ++ ys) ≡ frames cut (xs ++ ys)
