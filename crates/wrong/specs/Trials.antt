@@ -25,6 +25,10 @@ fullOf bs =
     (withPhase startRole addressed))
     bs (0 ∷ 0 ∷ 0 ∷ [])
 
+-- one that holds the first n of these cells
+abbrev pub holdingFirst : ℕ → List ℕ → World
+holdingFirst n cells = having (λ s. withRx s (ring (length cells) 0 n)) (fullOf cells)
+
 -- two lines, "1" and "2", each with 13 and 10 behind it
 abbrev pub twoLines : List ℕ
 twoLines = 49 ∷ 13 ∷ 10 ∷ 50 ∷ 13 ∷ 10 ∷ []
@@ -68,6 +72,28 @@ pairAfterLine = 49 ∷ 13 ∷ 10 ∷ 13 ∷ 10 ∷ 50 ∷ []
 
 abbrev pub pairFirst : List ℕ
 pairFirst = 13 ∷ 10 ∷ 49 ∷ 50 ∷ []
+
+-- cells with a break behind the first byte: inside the pair, behind an undecided byte, and before a pair
+abbrev pub brokenPair : List ℕ
+brokenPair = 269 ∷ 10 ∷ 0 ∷ 0 ∷ []
+
+abbrev pub brokenByte : List ℕ
+brokenByte = 306 ∷ 0 ∷ 0 ∷ 0 ∷ []
+
+abbrev pub brokenBefore : List ℕ
+brokenBefore = 306 ∷ 13 ∷ 10 ∷ 0 ∷ []
+
+-- and at the last place of the store
+abbrev pub brokenAtTheEnd : World
+brokenAtTheEnd = having (λ s. withRx s (ring 4 3 1)) (fullOf (0 ∷ 0 ∷ 0 ∷ 306 ∷ []))
+
+-- a line in whose cells bits above the ninth are set
+abbrev pub upperBits : List ℕ
+upperBits = 50 ∷ 1037 ∷ 10 ∷ 0 ∷ []
+
+-- a byte and C00, which are undecided
+abbrev pub halfPair : List ℕ
+halfPair = 50 ∷ 13 ∷ 0 ∷ 0 ∷ []
 
 -- only a pair and an undecided byte are held, and the line is held off
 abbrev pub undecidedBytes : List ℕ
