@@ -2,9 +2,11 @@
 use native.Mathlib.Omega.{arith}
 use mathlib.Core.Path.{refl, ap}
 use mathlib.Core.Bool.{true≢false, false≢true}
-use mathlib.Core.List.{[], _∷_}
+use mathlib.Core.List.{List, [], _∷_}
 use Rattle.frame.specs.Frame.{made}
-use Rattle.bridge.specs.Calls.{receive, on, lineByte, lineBreak, loopFrame}
+use Rattle.answers.specs.Answers.{done, frame}
+use Rattle.state.specs.Conditions.{breakState}
+use Rattle.bridge.specs.Calls.{receive, World, on, lineByte, lineBreak, loopFrame}
 use Rattle.laws.specs.Demands.{FramesRead, UnheldBreaks}
 use Rattle.laws.specs.SendRule.{SendRule, NoneRemoved}
 use Rattle.laws.specs.StorePlaces.{Places}
@@ -12,11 +14,14 @@ use Rattle.laws.specs.Events.{broken, Alone}
 use Rattle.refuting.proofs.Apart.{lists-differ}
 use Rattle.refuting.proofs.StandsIn.{holds, no-round, goes-round}
 use Rattle.wrong.specs.Trials.{holdingFirst, brokenPair, brokenByte, brokenBefore, brokenAtTheEnd, upperBits, halfPair, sendData}
+use Rattle.wrong.specs.Seeing.{having}
 use Rattle.wrong.specs.WrongSends.{commandEmpties}
 use Rattle.wrong.specs.WrongBreaks.{joinsAcross, wallInThePair, readsUpperBits, holdsBack}
 use Rattle.wrong.specs.WrongBreaks.{marksTheOldest, markTakesAPlace, marksNothing, forgetsRound, dropsUndecided}
 use Rattle.wrong.specs.Broken.{Breaks}
 use Rattle.wrong.proofs.Computing.{computes}
+use Rattle.wrong.proofs.Written.{Turn, leaves, does, Does}
+use Rattle.wrong.proofs.Trying.{in-run}
 use Rattle.wrong.proofs.Ends.{hasAt, numbered}
 
 -- ---- what is read
@@ -108,13 +113,27 @@ forgets-round-falls law = true≢false (ap (hasAt 3 50) (rw (goes-round 4 4 refl
 
 -- ---- a break that comes while nothing is held: 50 and 13 are dropped, a break comes, and 10
 
+-- 5,64 is answered and nothing is held, and after the break neither
+emptied : World
+emptied = holdingFirst 0 halfPair
+
+dropped : List Turn
+dropped =
+    leaves (loopFrame sendData) (frame 5 64) emptied
+    ∷ leaves lineBreak done (having breakState emptied)
+    ∷ does dropsUndecided (on (lineByte 10)) (having breakState emptied)
+    ∷ []
+
+dropped-runs : Does dropsUndecided (holdingFirst 2 halfPair) dropped
+unfolding computes emptied dropped
+dropped-runs = (rw (holds halfPair 0 2 refl), (refl, (refl, tt)))
+
 pub drops-undecided-falls : Breaks dropsUndecided UnheldBreaks
-unfolding computes
+unfolding computes emptied dropped
 drops-undecided-falls law =
     lists-differ _ _ refl
     (rw (holds halfPair 0 2 refl, holds halfPair 0 0 refl)
-    at (law (on (loopFrame sendData) ∷ on lineBreak ∷ on (lineByte 10) ∷ []) (holdingFirst 2 halfPair) tt (tt, (tt, (omega arith, tt)))
-    (rw (holds halfPair 0 2 refl))))
+    at (in-run dropsUndecided UnheldBreaks (holdingFirst 2 halfPair) dropped dropped-runs refl law refl))
 
 pub command-empties-unheld : Breaks commandEmpties UnheldBreaks
 unfolding computes
