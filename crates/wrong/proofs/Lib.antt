@@ -15,6 +15,7 @@ pub mod Ends
 pub mod WrongRoles
 pub mod WrongRefusals
 pub mod WrongStores
+pub mod WrongBreaks
 pub mod WrongPlacesSince
 pub mod WrongStarts
 pub mod WrongFrames

@@ -14,6 +14,7 @@ pub mod SmallWorlds
 pub mod WrongRoles
 pub mod WrongRefusals
 pub mod WrongStores
+pub mod WrongBreaks
 pub mod WrongStarts
 pub mod WrongFrames
 pub mod WrongStatus

@@ -10,7 +10,7 @@ use Rattle.role.specs.Role.{startRole, addressed, activeData, activeStatus, wit
 use Rattle.state.specs.Sizes.{startState}
 use Rattle.state.specs.State.{withRegisters, withRx, withTx, withLine, withCounts}
 use Rattle.bridge.specs.Calls.{World, world}
-use Rattle.laws.specs.Events.{Event}
+use Rattle.laws.specs.Events.{Event, broken, overrun, pressed}
 use Rattle.refuting.specs.SmallRings.{ring}
 use Rattle.wrong.specs.Changing.{withRole, withUnder}
 use Rattle.wrong.specs.Seeing.{having, withNoted, withForbidden}
@@ -24,6 +24,10 @@ fullOf bs =
     (withRole (withRegisters (withRx (startState 1 (length bs) 3) (ring (length bs) 0 (length bs))) (written startRegisters 10 8))
     (withPhase startRole addressed))
     bs (0 ∷ 0 ∷ 0 ∷ [])
+
+-- one that holds the first n of these cells
+abbrev pub holdingFirst : ℕ → List ℕ → World
+holdingFirst n cells = having (λ s. withRx s (ring (length cells) 0 n)) (fullOf cells)
 
 -- two lines, "1" and "2", each with 13 and 10 behind it
 abbrev pub twoLines : List ℕ
@@ -44,6 +48,12 @@ oneSent phase f =
 abbrev pub fullNoting : Event → World
 fullNoting e = having (withNoted e true) full
 
+-- for each event: a break comes where nothing is held, so that it marks no cell
+abbrev pub forEvent : World → Event → World
+forEvent w broken = having (λ s. withRx s (ring 6 0 0)) w
+forEvent w overrun = w
+forEvent w pressed = w
+
 -- where the status byte 47 is under way
 abbrev pub statusUnderWay : World
 statusUnderWay =
@@ -62,6 +72,28 @@ pairAfterLine = 49 ∷ 13 ∷ 10 ∷ 13 ∷ 10 ∷ 50 ∷ []
 
 abbrev pub pairFirst : List ℕ
 pairFirst = 13 ∷ 10 ∷ 49 ∷ 50 ∷ []
+
+-- cells with a break behind the first byte: inside the pair, behind an undecided byte, and before a pair
+abbrev pub brokenPair : List ℕ
+brokenPair = 269 ∷ 10 ∷ 0 ∷ 0 ∷ []
+
+abbrev pub brokenByte : List ℕ
+brokenByte = 306 ∷ 0 ∷ 0 ∷ 0 ∷ []
+
+abbrev pub brokenBefore : List ℕ
+brokenBefore = 306 ∷ 13 ∷ 10 ∷ 0 ∷ []
+
+-- and at the last place of the store
+abbrev pub brokenAtTheEnd : World
+brokenAtTheEnd = having (λ s. withRx s (ring 4 3 1)) (fullOf (0 ∷ 0 ∷ 0 ∷ 306 ∷ []))
+
+-- a line in whose cells bits above the ninth are set
+abbrev pub upperBits : List ℕ
+upperBits = 50 ∷ 1037 ∷ 10 ∷ 0 ∷ []
+
+-- a byte and C00, which are undecided
+abbrev pub halfPair : List ℕ
+halfPair = 50 ∷ 13 ∷ 0 ∷ 0 ∷ []
 
 -- only a pair and an undecided byte are held, and the line is held off
 abbrev pub undecidedBytes : List ℕ
