@@ -36,8 +36,11 @@ impl drive::What<TheBridge> for What {
     }
 }
 
-/// What is done, and how often at most: weighted so that stores fill, frames return and status is
-/// under way often.
+/// How many kinds of things are done.
+pub const KINDS: usize = 70;
+
+/// What is done, and how often at most: weighted so that stores fill, frames return, status is under
+/// way and breaks come often.
 pub fn what(kind: usize, number: u32) -> (What, u8) {
     let of = |calls: &[Call]| What::Make(calls[number as usize % calls.len()]);
     match kind {
@@ -57,7 +60,8 @@ pub fn what(kind: usize, number: u32) -> (What, u8) {
         55 => (What::Make(Call::Frame(number | 0x800)), 1),
         56..=61 => (What::Make(register(number)), 1),
         62..=63 => (of(&[Call::Break, Call::Key]), 1),
-        _ => (of(&[Call::Show(0), Call::Show(1), Call::Reset]), 1),
+        64..=65 => (of(&[Call::ShowReceive, Call::ShowTransmit, Call::Reset]), 1),
+        _ => (What::Make(Call::Break), 2),
     }
 }
 
