@@ -36,7 +36,7 @@ pub const fn garbled<W: Within>() -> Implementation<TheBridge> {
 
 /// What counts of a cell, under bits by its place, of which at least one is set.
 fn spoilt(place: usize, cell: u16) -> u16 {
-    let bits = (place as u16 + 1).wrapping_mul(0x9e37) | 1 << 9;
+    let bits = (place as u16).wrapping_mul(0x9e37) | 1 << 9;
     counting(cell) | bits & !counting(u16::MAX)
 }
 

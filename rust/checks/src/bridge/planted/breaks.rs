@@ -16,9 +16,8 @@ use model::{block, Bridge};
 
 /// Faults that show on stores that hold nothing but what calls wrote, so that the history alone finds
 /// them.
-pub const SEEN: [(&str, Implementation); 14] = [
+pub const SEEN: [(&str, Implementation); 13] = [
     ("the oldest cell marked", OLDEST_MARKED),
-    ("a cell that is gone marked", GONE_MARKED),
     ("a mark that takes a place", MARK_TAKES_A_PLACE),
     (
         "a mark forgotten where the store came round",
