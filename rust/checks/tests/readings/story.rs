@@ -48,6 +48,41 @@ fn of_ten_readings_the_one_without_its_point_is_not_spoken() {
     }
 }
 
+/// What an app says of a meter that is restarted between the two characters of an end of line, if it
+/// asks for a reading so often: before the break, after it, and when the next one has come.
+fn said_of_a_restart(asks: [bool; 3]) -> Result<Vec<String>, Refusal> {
+    let mut meter = our_meter(Sizes {
+        rx_len: 16,
+        margin: 2,
+        longest: 32,
+    });
+    let mut said = Vec::new();
+    for (step, ask) in asks.into_iter().enumerate() {
+        match step {
+            0 => drop(meter.line_bytes(b"12\r")?),
+            1 => meter.line_break()?,
+            _ => drop(meter.line_bytes(b"3.5\r\n")?),
+        }
+        while ask || step == 2 {
+            said.push(match meter.reading()? {
+                Reading::Whole(text) => format!("{text} volts"),
+                Reading::Gap(_) => "measure again".to_string(),
+                _ => break,
+            });
+        }
+    }
+    Ok(said)
+}
+
+#[test]
+fn a_reading_before_a_restart_is_not_joined_with_the_one_after_it() {
+    for asks in 0..8 {
+        let asks = [asks & 1 != 0, asks & 2 != 0, asks & 4 != 0];
+        let said = said_of_a_restart(asks).unwrap();
+        assert_eq!(said, ["measure again", "3.5 volts"], "{asks:?}");
+    }
+}
+
 #[test]
 fn a_gap_is_told_in_its_own_reading() {
     // Lost are the point of 2.5, all of 5.5 but its 5, with its end, and the text of 8.8.
