@@ -1034,6 +1034,22 @@ fn drawn_state(n: &mut Numbers) -> Bridge {
     b
 }
 
+/// A call with numbers drawn from a little more than their range.
+fn drawn_call(n: &mut Numbers) -> Call {
+    match n.below(10) {
+        0 => Call::Reset,
+        1 => Call::Write(n.below(23) as u32, n.below(20) as u32),
+        2 => Call::Line(n.below(5) as u8),
+        3 => Call::Break,
+        4 => Call::Key,
+        5 => Call::Next,
+        6 => Call::Echo,
+        7 => Call::Damage,
+        8 => offer(5, 96 + n.below(2) as u16),
+        _ => Call::Loop(n.below(2060) as u32),
+    }
+}
+
 #[test]
 fn every_call_ends_on_drawn_states() {
     let mut n = Numbers(0x2545_f491_4f6c_dd1d);
@@ -1044,18 +1060,7 @@ fn every_call_ends_on_drawn_states() {
         let rx: Vec<u16> = (0..4).map(|_| n.below(1 << 16) as u16 & 0xff03).collect();
         let tx: Vec<u8> = (0..3).map(|_| n.below(4) as u8).collect();
         let mut world = World { bridge, rx, tx };
-        let call = match n.below(10) {
-            0 => Call::Reset,
-            1 => Call::Write(n.below(23) as u32, n.below(20) as u32),
-            2 => Call::Line(n.below(5) as u8),
-            3 => Call::Break,
-            4 => Call::Key,
-            5 => Call::Next,
-            6 => Call::Echo,
-            7 => Call::Damage,
-            8 => offer(5, 96 + n.below(2) as u16),
-            _ => Call::Loop(n.below(2060) as u32),
-        };
+        let call = drawn_call(&mut n);
         let before = world.clone();
         let fits = before.bridge.fits(4, 3);
         match world.call(call) {
