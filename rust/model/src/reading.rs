@@ -35,30 +35,31 @@ pub(crate) enum Reading {
     EndByte(u8),
 }
 
-/// The bytes and breaks that a ring holds, oldest first.
-fn items(ring: Ring, store: &[u16]) -> impl Iterator<Item = Item> + '_ {
-    let cells = (0..ring.held).filter_map(move |index| ring.look(store, index));
-    cells.flat_map(|cell| {
-        let after = (cell & MARK != 0).then_some(Item::Break);
-        [Some(Item::Byte(byte(cell))), after].into_iter().flatten()
-    })
+/// What follows the byte of the held cell with this index, 0 being the oldest: a break, or the byte of
+/// the next cell.
+fn follows(ring: Ring, store: &[u16], index: usize) -> Option<Item> {
+    if ring.look(store, index)? & MARK != 0 {
+        return Some(Item::Break);
+    }
+    let next = ring.look(store, index + 1)?;
+    Some(Item::Byte(byte(next)))
 }
 
-/// The reading rule on what a ring holds: "An indicator never spans a break", so a break is neither
-/// C00 nor C01, and it is something that follows, so no byte before it waits.
+/// The reading rule on what a ring holds, read over bytes and breaks: "An indicator never spans a
+/// break", so a break is neither C00 nor C01, and it is something that follows, so no byte before it
+/// waits.
 pub(crate) fn reading(registers: &Registers, ring: Ring, store: &[u16]) -> Reading {
     let (c00, c01) = (Item::Byte(registers.c[0]), Item::Byte(registers.c[1]));
-    let mut items = items(ring, store);
-    // A break goes with the byte before it, so a byte is always first.
-    let first = match items.next() {
-        Some(Item::Byte(byte)) => byte,
-        _ => return Reading::Wait,
+    let first = match ring.look(store, 0) {
+        Some(cell) => byte(cell),
+        None => return Reading::Wait,
     };
     // "R10 bit 3 off: each byte is one data frame."
     if registers.r10 & 8 == 0 {
         return Reading::Data(first);
     }
-    let (second, third) = (items.next(), items.next());
+    // The third is looked at only where the second is a byte.
+    let (second, third) = (follows(ring, store, 0), follows(ring, store, 1));
     // "1. The next two bytes are C00, C01: removed, nothing sent. One byte left and it is C00:
     // undecided, wait." (The second half is part of step 3.)
     if Item::Byte(first) == c00 && second == Some(c01) {
