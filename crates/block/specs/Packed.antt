@@ -16,7 +16,7 @@ blockLen = 56
 
 -- which layout the block has, at place 0: another layout will have another number
 abbrev pub version : ℕ
-version = 2
+version = 3
 
 -- the table: the state that is made of the fields in their order, then a row for each field, with the place where it starts
 abbrev pub rows : Rows State State

@@ -13,7 +13,7 @@ mod testing;
 pub const LENGTH: usize = 56;
 
 // What the first byte of a block is.
-pub const VERSION: u8 = 2;
+pub const VERSION: u8 = 3;
 
 // The length of a block, for callers that hold no constants of ours.
 pub fn block_len() -> usize

@@ -26,7 +26,7 @@ module _ (P : Product) (F : Formed P) where
   unfolding cAnswer answerBy
   create-answer m l = λ i. answerBy P (F .created m i) (cStep P (P .create m) l .word) l
 
-  pub show-answer : (side : ℕ) (l : Lent) → cAnswer P (P .show side) l ≡ partOf (cStep P (P .show side) l .word) (storeOf side (heldIn P l))
+  pub show-answer : (side : P .Side) (l : Lent) → cAnswer P (P .show side) l ≡ partOf (cStep P (P .show side) l .word) (storeOf P side (heldIn P l))
   unfolding cAnswer answerBy
   show-answer side l = λ i. answerBy P (F .showed side i) (cStep P (P .show side) l .word) l
 
@@ -39,7 +39,7 @@ module _ (P : Product) (F : Formed P) where
   unfolding cRoom roomBy
   create-room m l = λ i. roomBy P (F .created m i) (cStep P (P .create m) l .word)
 
-  show-room : (side : ℕ) (l : Lent) → cRoom P (P .show side) l ≡ 0
+  show-room : (side : P .Side) (l : Lent) → cRoom P (P .show side) l ≡ 0
   unfolding cRoom roomBy
   show-room side l = λ i. roomBy P (F .showed side i) (cStep P (P .show side) l .word)
 
@@ -47,11 +47,11 @@ module _ (P : Product) (F : Formed P) where
   unfolding cRoom roomBy
   on-room c l = λ i. roomBy P (F .called c i) (cStep P (P .on c) l .word)
 
-  shown-told : (side : ℕ) (l : Lent) → cAnswer P (P .show side) l ≡ said P (P .show side) (opened P l)
+  shown-told : (side : P .Side) (l : Lent) → cAnswer P (P .show side) l ≡ said P (P .show side) (opened P l)
   unfolding partOf
   shown-told side l =
       show-answer side l
-      ∙ ap (λ (r : CDid). partOf (r .word) (storeOf side (heldIn P l))) (show-step P F side l)
+      ∙ ap (λ (r : CDid). partOf (r .word) (storeOf P side (heldIn P l))) (show-step P F side l)
       ∙ ap part (sym (shown-place P F side (heldIn P l)))
       ∙ sym (F .shows side (opened P l) ∙ ap (λ (h : Held (P .State)). part (shown P side h)) (F .back (heldIn P l)))
 

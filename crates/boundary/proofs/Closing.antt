@@ -1,7 +1,7 @@
 -- From what a call of a product gave to the promise of its C function, on plain values. Assumes nothing.
 use Prim.Native.Nat.{ℕ, _-_, _<_, min}
 use native.Mathlib.Omega.{arith}
-use mathlib.Core.Path.{_≡_, refl, sym, ap, subst, _∙_}
+use mathlib.Core.Path.{_≡_, refl, sym, ap, _∙_}
 use mathlib.Core.Bool.{Bool, true, false, cond, true≢false}
 use mathlib.Core.List.{List}
 use lib.ListN.{length, take, drop, length-take, length-drop}
@@ -16,8 +16,9 @@ use Rattle.store.proofs.Laws.{run-part}
 use Rattle.branches.proofs.Branches.{cond-true, by-cond}
 use Rattle.codec.specs.Blocks.{packed, isState}
 use Rattle.codec.proofs.Same.{state-length, state-packed, means, means-none}
-use Rattle.boundary.specs.Product.{Product, Held, held, Kind, creating, showing, calling, fitsHeld, shown, checks, said, after}
-use Rattle.boundary.specs.CCalls.{Lent, lent, cDid, refusedBy, placeWord, storeOf, stateIn, heldIn, opened, blockAfter, closed, createdFor, calledFor, placeOf, shownWord, cBy, cStep}
+use Rattle.boundary.specs.Product.{Product, Held, held, fitsHeld, shown, checks, said, after}
+use Rattle.boundary.specs.CCalls.{lent, cDid, placeWord, storeOf, stateIn, heldIn, opened}
+use Rattle.boundary.specs.CCalls.{blockAfter, closed, createdFor, calledFor, placeOf, shownWord, cBy, cStep}
 use Rattle.boundary.specs.Formed.{MadeAlike, Formed}
 use Rattle.boundary.proofs.Words.{no-room-alone}
 
@@ -163,12 +164,13 @@ run-shown xs r p k f e h =
 
 module _ (P : Product) (F : Formed P) where
   -- the part that showing returned is the one shown
-  pub part-shown : (side : ℕ) (h : Held (P .State)) (p : List ℕ) (d : P .Did) → d ≡ P .step (P .show side) (P .world h) → part p ≡ P .saidIn d → p ≡ shown P side h
+  pub part-shown : (side : P .Side) (h : Held (P .State)) (p : List ℕ) (d : P .Did) → d ≡ P .step (P .show side) (P .world h) → part p ≡ P .saidIn d →
+      p ≡ shown P side h
   part-shown side h p d e q =
       let same : part p ≡ part (shown P side h) = q ∙ ap (P .saidIn) e ∙ F .shows side (P .world h) ∙ ap (λ (x : Held (P .State)). part (shown P side x)) (F .back h) in
       cc
 
-  module _ (side : ℕ) (b xs ys p : List ℕ) (s : P .State) (m : s ≡ stateIn P b) (e : p ≡ shown P side (held s xs ys)) where
+  module _ (side : P .Side) (b xs ys p : List ℕ) (s : P .State) (m : s ≡ stateIn P b) (e : p ≡ shown P side (held s xs ys)) where
     pub show-empty : length p ≡ 0 → cDid 0 b xs ys ≡ cStep P (P .show side) (lent b xs ys)
     unfolding cStep cBy shownWord
     show-empty h =
@@ -179,22 +181,22 @@ module _ (P : Product) (F : Formed P) where
     unfolding cStep cBy shownWord
     show-part n r h hn hr = rw (F .showed side, ← m, ← e, ne-eqb (length p) 0 h, part-word p, hr, hn)
 
-  module _ (side : ℕ) (l : Held (P .State)) (p : List ℕ) (e : p ≡ shown P side l) where
-    pub shown-part : (k : ℕ) → (length p ≡ 0 → ⊥) → k ≡ placeOf P side (l .state) → Shown (storeOf side l) p k
+  module _ (side : P .Side) (l : Held (P .State)) (p : List ℕ) (e : p ≡ shown P side l) where
+    pub shown-part : (k : ℕ) → (length p ≡ 0 → ⊥) → k ≡ placeOf P side (l .state) → Shown (storeOf P side l) p k
     unfolding shown
     shown-part k h hk = pick (fitsHeld P l) refl
       where
-        pick : (t : Bool) → fitsHeld P l ≡ t → Shown (storeOf side l) p k
+        pick : (t : Bool) → fitsHeld P l ≡ t → Shown (storeOf P side l) p k
         pick false q = absurd (h (ap length e ∙ rw q))
-        pick true q = one (eqb side 0) refl
+        pick true q = one (eqb (P .sideNumber side) 0) refl
           where
-            other : eqb side 0 ≡ false → (u : Bool) → eqb side 1 ≡ u → Shown (storeOf side l) p k
+            other : eqb (P .sideNumber side) 0 ≡ false → (u : Bool) → eqb (P .sideNumber side) 1 ≡ u → Shown (storeOf P side l) p k
             other z true y = rw z (run-shown (l .second) (P .secondRing (l .state)) p k (F .second l q) (e ∙ rw (q, z, y)) (hk ∙ rw z))
             other z false y = absurd (h (ap length e ∙ rw (q, z, y)))
 
-            one : (u : Bool) → eqb side 0 ≡ u → Shown (storeOf side l) p k
+            one : (u : Bool) → eqb (P .sideNumber side) 0 ≡ u → Shown (storeOf P side l) p k
             one true z = rw z (run-shown (l .first) (P .firstRing (l .state)) p k (F .first l q) (e ∙ rw (q, z)) (hk ∙ rw z))
-            one false z = other z (eqb side 1) refl
+            one false z = other z (eqb (P .sideNumber side) 1) refl
 
     pub show-small : (k : ℕ) → (length p ≡ 0 → ⊥) → k ≡ placeOf P side (l .state) → (k < 4294967296) × (length p < 4294967296)
-    show-small k h hk = let t : Shown (storeOf side l) p k = shown-part k h hk in (t .start, t .len)
+    show-small k h hk = let t : Shown (storeOf P side l) p k = shown-part k h hk in (t .start, t .len)

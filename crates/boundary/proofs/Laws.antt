@@ -13,8 +13,9 @@ use Rattle.answers.specs.Word.{word, wordWith}
 use Rattle.codec.specs.Blocks.{packed}
 use Rattle.codec.proofs.Laws.{packed-length, packed-means, meaning-fits}
 use Rattle.boundary.specs.Product.{Product, Held, held, Kind, creating, showing, calling, callOf, fitsHeld, shown, said, room, after}
-use Rattle.boundary.specs.CCalls.{Lent, lent, CDid, cDid, refusedBy, placeWord, storeOf, heldIn, opened, fitting, blockAfter, closed, createdFor, calledFor, placeOf, shownWord, cBy, cStep}
-use Rattle.boundary.specs.CRuns.{packedHeld, packedWorld, wordBy, answerWord}
+use Rattle.boundary.specs.CCalls.{Lent, lent, CDid, cDid, placeWord, storeOf, heldIn, opened, fitting}
+use Rattle.boundary.specs.CCalls.{closed, createdFor, calledFor, placeOf, shownWord, cBy, cStep}
+use Rattle.boundary.specs.CRuns.{packedWorld, wordBy, answerWord}
 use Rattle.boundary.specs.CLaws.{OneResultInC, ShownPlace, MisfitShowsNothing, MisfitRefused, WrongBlockRefused, SameCall}
 use Rattle.boundary.specs.Formed.{Formed}
 use Rattle.boundary.proofs.Closing.{misfit-said, part-word, Shown, shown-part}
@@ -32,10 +33,11 @@ none-of (x ∷ xs) e = absurd (omega arith)
 module _ (P : Product) (F : Formed P) where
   -- ---- calls by their kinds
 
-  pub by-call : (Q : P .Call → Type 0) → ((m : ℕ) → Q (P .create m)) → ((side : ℕ) → Q (P .show side)) → ((c : P .OnState) → Q (P .on c)) → (c : P .Call) → Q c
+  pub by-call : (Q : P .Call → Type 0) → ((m : ℕ) → Q (P .create m)) → ((side : P .Side) → Q (P .show side)) →
+      ((c : P .OnState) → Q (P .on c)) → (c : P .Call) → Q c
   by-call Q f g h c = subst Q (F .named c) (each (P .kind c))
     where
-      each : (k : Kind (P .OnState)) → Q (callOf P k)
+      each : (k : Kind (P .Side) (P .OnState)) → Q (callOf P k)
       each (creating m) = f m
       each (showing side) = g side
       each (calling x) = h x
@@ -45,7 +47,7 @@ module _ (P : Product) (F : Formed P) where
   unfolding cStep cBy
   create-step m l = λ i. cBy P (F .created m i) (P .create m) l
 
-  pub show-step : (side : ℕ) (l : Lent) → cStep P (P .show side) l ≡ record { word = shownWord P side (heldIn P l); lent = l }
+  pub show-step : (side : P .Side) (l : Lent) → cStep P (P .show side) l ≡ record { word = shownWord P side (heldIn P l); lent = l }
   unfolding cStep cBy
   show-step side l = λ i. cBy P (F .showed side i) (P .show side) l
 
@@ -115,20 +117,20 @@ module _ (P : Product) (F : Formed P) where
 
       pick : (t : Bool) → eqb (length p) 0 ≡ t →
           p ≡ take (cond (eqb (length p) 0) 0 (placeWord k (word (part p))) % 4294967296)
-          (drop (cond (eqb (length p) 0) 0 (placeWord k (word (part p))) / 4294967296) (storeOf side h))
+          (drop (cond (eqb (length p) 0) 0 (placeWord k (word (part p))) / 4294967296) (storeOf P side h))
       pick true e = rw e (none-of p (eqb-true (length p) 0 e))
       pick false e =
-          let t : Shown (storeOf side h) p k = shown-part P F side h p refl k (eqb-false (length p) 0 e) refl in
+          let t : Shown (storeOf P side h) p k = shown-part P F side h p refl k (eqb-false (length p) 0 e) refl in
           let low : placeWord k (length p) % 4294967296 ≡ length p = omega (arith, t .start, t .len) in
           let high : placeWord k (length p) / 4294967296 ≡ k = omega (arith, t .start, t .len) in
           rw (e, part-word p, low, high) (t .place)
 
   -- an empty part for a misfit state, which is the number 0
-  shown-none : (side : ℕ) (h : Held (P .State)) → fitsHeld P h ≡ false → shown P side h ≡ []
+  shown-none : (side : P .Side) (h : Held (P .State)) → fitsHeld P h ≡ false → shown P side h ≡ []
   unfolding shown
   shown-none side h e = cond-false _ _ _ e
 
-  word-none : (side : ℕ) (h : Held (P .State)) → shown P side h ≡ [] → shownWord P side h ≡ 0
+  word-none : (side : P .Side) (h : Held (P .State)) → shown P side h ≡ [] → shownWord P side h ≡ 0
   unfolding shownWord
   word-none side h e = λ i. cond (eqb (length (e i)) 0) 0 (placeWord (placeOf P side (h .state)) (word (part (e i))))
 

@@ -9,11 +9,11 @@ use Rattle.answers.specs.Answers.{Said, isRefusal}
 use Rattle.answers.specs.Word.{word, wordWith}
 use Rattle.machine.specs.Machine.{finally}
 use Rattle.store.specs.Bytes.{Bytes}
-use Rattle.codec.specs.Blocks.{packed, meaning}
+use Rattle.codec.specs.Blocks.{packed}
 use Rattle.codec.proofs.Laws.{packed-length, packed-bytes, packed-means, meaning-ranged}
 use Rattle.boundary.specs.Product.{Product, Held, held, machineOf, said, room, after}
 use Rattle.boundary.specs.CCalls.{Lent, CDid, stateIn, heldIn, opened, closed, shownWord, cStep}
-use Rattle.boundary.specs.CRuns.{wordBy, answerWord, words, cWords, Typed, Lendable, Whole, cFunctions}
+use Rattle.boundary.specs.CRuns.{wordBy, answerWord, words, cWords, Typed, Lendable, Whole}
 use Rattle.boundary.specs.CLaws.{Means, CallMeans, RunMeans, RunsMean}
 use Rattle.boundary.specs.Formed.{Formed}
 use Rattle.boundary.specs.Kept.{TypedHeld, Kept}
@@ -123,8 +123,8 @@ module _ (P : Product) (F : Formed P) (K : Kept P) where
           lendable =
               record {
                 block = block-kept c .1;
-                first = subst (λ (x : Held (P .State)). P .Stored (x .first)) o (t .first);
-                second = subst (λ (x : Held (P .State)). P .Stored (x .second)) o (t .second);
+                first = subst (λ (x : Held (P .State)). P .FirstStored (x .first)) o (t .first);
+                second = subst (λ (x : Held (P .State)). P .SecondStored (x .second)) o (t .second);
               };
         }
 

@@ -37,7 +37,7 @@ refuses a k n l z e h =
 module _ (P : Product) (F : Formed P) where
   -- ---- a block of the one length: the checks are those of the call
 
-  same-first : (k : Kind (P .OnState)) (l : Lent) → eqb (length (l .block)) (P .layout .len) ≡ true →
+  same-first : (k : Kind (P .Side) (P .OnState)) (l : Lent) → eqb (length (l .block)) (P .layout .len) ≡ true →
       firstRefusal (checks P k (heldIn P l)) ≡ firstRefusal (cChecks P k l)
   unfolding checks cChecks
   same-first k l e = each k
@@ -46,7 +46,7 @@ module _ (P : Product) (F : Formed P) where
       either true = refl
       either false = refl
 
-      each : (k : Kind (P .OnState)) → firstRefusal (checks P k (heldIn P l)) ≡ firstRefusal (cChecks P k l)
+      each : (k : Kind (P .Side) (P .OnState)) → firstRefusal (checks P k (heldIn P l)) ≡ firstRefusal (cChecks P k l)
       each (creating m) =
           let t : Bool = P .obeyed m (length (l .first)) (length (l .second)) in
           either t ∙ ap (λ (b : Bool). firstRefusal (check 1 (not t || not b) ∷ [])) (sym e)
@@ -79,7 +79,7 @@ module _ (P : Product) (F : Formed P) where
         given true = rw e
         given false = refl
 
-    show-right : (side : ℕ) → Right (P .show side)
+    show-right : (side : P .Side) → Right (P .show side)
     unfolding cChecks partOf
     show-right side =
         let a = show-answer P F side l in

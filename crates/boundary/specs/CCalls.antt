@@ -36,11 +36,11 @@ refusedBy n l = record { word = word (refused n); lent = l }
 abbrev pub placeWord : ℕ → ℕ → ℕ
 placeWord start len = 4294967296 * start + len
 
--- side 0 is the first store, side 1 the second
-abbrev pub storeOf : {State : Type 0} → ℕ → Held State → List ℕ
-storeOf side h = cond (eqb side 0) (h .first) (h .second)
-
 module _ (P : Product) where
+  -- the store of a side
+  abbrev pub storeOf : P .Side → Held (P .State) → List ℕ
+  storeOf side h = cond (eqb (P .sideNumber side) 0) (h .first) (h .second)
+
   -- the state that a block means, and the world that lent buffers stand for
   abbrev pub stateIn : List ℕ → P .State
   stateIn b = meaning (P .layout) (P .noState) b
@@ -72,14 +72,14 @@ module _ (P : Product) where
   calledFor l d n h = closed l (wordWith d n) d h
 
   -- Sizes and refusals, showing: an empty part is the number 0
-  abbrev pub placeOf : ℕ → P .State → ℕ
-  placeOf side s = cond (eqb side 0) (P .firstRing s .oldest) (P .secondRing s .oldest)
+  abbrev pub placeOf : P .Side → P .State → ℕ
+  placeOf side s = cond (eqb (P .sideNumber side) 0) (P .firstRing s .oldest) (P .secondRing s .oldest)
 
-  unfoldable pub shownWord : ℕ → Held (P .State) → ℕ
+  unfoldable pub shownWord : P .Side → Held (P .State) → ℕ
   shownWord side h = cond (eqb (length (shown P side h)) 0) 0 (placeWord (placeOf side (h .state)) (word (part (shown P side h))))
 
   -- every C function is the call of its name on the world that the buffers stand for; by the kind of the call
-  unfoldable pub cBy : Kind (P .OnState) → P .Call → Lent → CDid
+  unfoldable pub cBy : Kind (P .Side) (P .OnState) → P .Call → Lent → CDid
   cBy (creating m) c l = createdFor l (said P c (opened l)) (P .apart (after P c (opened l)))
   cBy (showing side) c l = record { word = shownWord side (heldIn l); lent = l }
   cBy (calling x) c l = calledFor l (said P c (opened l)) (room P c (opened l)) (P .apart (after P c (opened l)))

@@ -9,7 +9,7 @@ use Rattle.machine.specs.Machine.{narrowed, AllFair, finally, Law, Obeys, Obeys
 use Rattle.machine.specs.Opening.{Opens}
 use Rattle.answers.specs.Answers.{Answered, refused, isRefusal}
 use Rattle.boundary.specs.Product.{Product, Held, tellingOf, machineOf, shown, said, room, after}
-use Rattle.boundary.specs.CCalls.{Lent, CDid, cDid, refusedBy, storeOf, opened, fitting, shownWord, cStep, CPromised}
+use Rattle.boundary.specs.CCalls.{Lent, cDid, refusedBy, storeOf, opened, fitting, shownWord, cStep, CPromised}
 use Rattle.boundary.specs.Numbers.{cAnswer, cRoom}
 use Rattle.boundary.specs.CRuns.{packedWorld, answerWord, words, cWords, Typed, Lendable, Whole, cTelling, cFunctions}
 
@@ -27,11 +27,12 @@ module _ (P : Product) where
   -- number are its length and bits 32 to 63 its start
   abbrev pub ShownPlace : Type 0
   ShownPlace =
-      (side : ℕ) (h : Held (P .State)) → shown P side h ≡ take (shownWord P side h % 4294967296) (drop (shownWord P side h / 4294967296) (storeOf side h))
+      (side : P .Side) (h : Held (P .State)) →
+      shown P side h ≡ take (shownWord P side h % 4294967296) (drop (shownWord P side h / 4294967296) (storeOf P side h))
 
   -- Sizes and refusals, showing: of any block that is no fitting state an empty part, which is the number 0, and nothing is written
   abbrev pub MisfitShowsNothing : Type 0
-  MisfitShowsNothing = (side : ℕ) (l : Lent) → fitting P l ≡ false → cStep P (P .show side) l ≡ record { word = 0; lent = l }
+  MisfitShowsNothing = (side : P .Side) (l : Lent) → fitting P l ≡ false → cStep P (P .show side) l ≡ record { word = 0; lent = l }
 
   -- ---- refusals
 

@@ -21,7 +21,7 @@ module _ (P : Product) where
   misfitBlock l = check 2 (not (fitting P l))
 
   -- the table: after the first check those of the product's call, in the order of their numbers; showing has no number
-  unfoldable pub cChecks : Kind (P .OnState) → Lent → List Check
+  unfoldable pub cChecks : Kind (P .Side) (P .OnState) → Lent → List Check
   cChecks (creating m) l = cannotCreate m l ∷ []
   cChecks (showing side) l = []
   cChecks (calling c) l = misfitBlock l ∷ P .checksOn c (stateIn P (l .block))

@@ -21,7 +21,7 @@ module _ (P : Product) where
   packedWorld w = packedHeld (P .apart w)
 
   -- the number that a call is answered by in C
-  unfoldable pub wordBy : Kind (P .OnState) → P .Call → P .World → ℕ
+  unfoldable pub wordBy : Kind (P .Side) (P .OnState) → P .Call → P .World → ℕ
   wordBy (creating m) c w = word (said P c w)
   wordBy (showing side) c w = shownWord P side (P .apart w)
   wordBy (calling x) c w = wordWith (said P c w) (room P c w)
@@ -47,8 +47,8 @@ module _ (P : Product) where
   -- what the types of the C functions give of lent buffers: a block of bytes, and stores of the right numbers
   pub record Lendable (l : Lent) : Type 0 where
     pub block : Bytes (l .block)
-    pub first : P .Stored (l .first)
-    pub second : P .Stored (l .second)
+    pub first : P .FirstStored (l .first)
+    pub second : P .SecondStored (l .second)
 
   -- and a lent block of the one length, a state or not
   pub record Whole (l : Lent) : Type 0 where

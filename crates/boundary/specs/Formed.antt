@@ -21,7 +21,7 @@ pub record Formed (P : Product) : Type 0 where
   pub back : (h : Held (P .State)) → P .apart (P .world h) ≡ h
   pub named : (c : P .Call) → callOf P (P .kind c) ≡ c
   pub created : (m : ℕ) → P .kind (P .create m) ≡ creating m
-  pub showed : (side : ℕ) → P .kind (P .show side) ≡ showing side
+  pub showed : (side : P .Side) → P .kind (P .show side) ≡ showing side
   pub called : (c : P .OnState) → P .kind (P .on c) ≡ calling c
   -- what stands for no state fits no stores, and of a state that fits both rings do
   pub misfits : (m n : ℕ) → P .fits (P .noState) m n ≡ false
@@ -30,12 +30,12 @@ pub record Formed (P : Product) : Type 0 where
   -- a call refuses exactly by the first of its checks that is given
   pub refuses : (c : P .Call) (w : P .World) → Refuses (said P c w) (after P c w) (firstRefusal (checks P (P .kind c) (P .apart w))) w
   -- showing hands out the part that is shown and leaves all as it was; create looks at no state
-  pub shows : (side : ℕ) (w : P .World) → said P (P .show side) w ≡ part (shown P side (P .apart w))
-  pub looks : (side : ℕ) (w : P .World) → after P (P .show side) w ≡ w
+  pub shows : (side : P .Side) (w : P .World) → said P (P .show side) w ≡ part (shown P side (P .apart w))
+  pub looks : (side : P .Side) (w : P .World) → after P (P .show side) w ≡ w
   pub creates : (m : ℕ) (s t : P .State) (xs ys : List ℕ) → MadeAlike P m (P .world (held s xs ys)) (P .world (held t xs ys))
   -- a refusal is its number alone, without any room; showing and create tell none at all
   pub alone : (c : P .Call) (w : P .World) → isRefusal (said P c w) ≡ true → room P c w ≡ 0
-  pub shows-alone : (side : ℕ) (w : P .World) → room P (P .show side) w ≡ 0
+  pub shows-alone : (side : P .Side) (w : P .World) → room P (P .show side) w ≡ 0
   pub creates-alone : (m : ℕ) (w : P .World) → room P (P .create m) w ≡ 0
   -- the answer that kind 2 makes of a value has that value
   pub valued : (n : ℕ) → valueOf (P .given n) ≡ n

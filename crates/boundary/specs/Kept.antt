@@ -16,8 +16,8 @@ Tells P a = answerOf (P .given) (word a) ≡ a
 -- what the types give of a state and the stores lent with it
 pub record TypedHeld (P : Product) (h : Held (P .State)) : Type 0 where
   pub state : P .layout .Ranged (h .state)
-  pub first : P .Stored (h .first)
-  pub second : P .Stored (h .second)
+  pub first : P .FirstStored (h .first)
+  pub second : P .SecondStored (h .second)
 
 -- no store is made longer or shorter
 pub record SameSizes {State : Type 0} (before after : Held State) : Type 0 where

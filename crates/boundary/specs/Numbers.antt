@@ -51,13 +51,13 @@ partOf n xs = part (take (n % 4294967296) (drop (n / 4294967296) xs))
 
 module _ (P : Product) where
   -- the answer that the number of a call of this kind tells, beside the buffers lent to it
-  unfoldable pub answerBy : Kind (P .OnState) → ℕ → Lent → Said
+  unfoldable pub answerBy : Kind (P .Side) (P .OnState) → ℕ → Lent → Said
   answerBy (creating m) n l = answerOf (P .given) n
-  answerBy (showing side) n l = partOf n (storeOf side (heldIn P l))
+  answerBy (showing side) n l = partOf n (storeOf P side (heldIn P l))
   answerBy (calling c) n l = answerOf (P .given) n
 
   -- and the room; the number of showing has another form, and tells none
-  unfoldable pub roomBy : Kind (P .OnState) → ℕ → ℕ
+  unfoldable pub roomBy : Kind (P .Side) (P .OnState) → ℕ → ℕ
   roomBy (creating m) n = roomTold n
   roomBy (showing side) n = 0
   roomBy (calling c) n = roomTold n

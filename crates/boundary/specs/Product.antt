@@ -21,10 +21,10 @@ abbrev pub held : {State : Type 0} → State → List ℕ → List ℕ → Held 
 held s first second = record { state = s; first = first; second = second }
 
 -- a call by its kind: create is given a number and no state, show looks at a side, and every other is made on a state
-pub data Kind (OnState : Type 0) : Type 0 where
-  creating : ℕ → Kind OnState
-  showing : ℕ → Kind OnState
-  calling : OnState → Kind OnState
+pub data Kind (Side OnState : Type 0) : Type 0 where
+  creating : ℕ → Kind Side OnState
+  showing : Side → Kind Side OnState
+  calling : OnState → Kind Side OnState
 
 pub record Product : Type 1 where
   -- a state, how it stands in a block, and what stands for the state of a block that is none
@@ -35,18 +35,22 @@ pub record Product : Type 1 where
   pub firstRing : State → Ring
   pub secondRing : State → Ring
   pub fits : State → ℕ → ℕ → Bool
-  -- a world is a state and its two stores; what the types of the code give of the numbers in a store
+  -- a world is a state and its two stores; what the types of the code give of the numbers in each
   pub World : Type 0
   pub world : Held State → World
   pub apart : World → Held State
-  pub Stored : List ℕ → Type 0
+  pub FirstStored : List ℕ → Type 0
+  pub SecondStored : List ℕ → Type 0
+  -- what show is told: side 0 is the first store, side 1 the second, and any other is neither
+  pub Side : Type 0
+  pub sideNumber : Side → ℕ
   -- the calls, and of what kind each is
   pub OnState : Type 0
   pub Call : Type 0
   pub create : ℕ → Call
-  pub show : ℕ → Call
+  pub show : Side → Call
   pub on : OnState → Call
-  pub kind : Call → Kind OnState
+  pub kind : Call → Kind Side OnState
   -- what a call does: its answer, the room that it tells beside it, 0 where it tells none, and the world that it leaves
   pub Did : Type 0
   pub saidIn : Did → Said
@@ -89,7 +93,7 @@ module _ (P : Product) where
   machineOf = narrowed (λ a. a .said) tellingOf
 
   -- the call of this kind
-  abbrev pub callOf : Kind (P .OnState) → P .Call
+  abbrev pub callOf : Kind (P .Side) (P .OnState) → P .Call
   callOf (creating m) = P .create m
   callOf (showing side) = P .show side
   callOf (calling c) = P .on c
@@ -98,18 +102,17 @@ module _ (P : Product) where
   abbrev pub fitsHeld : Held (P .State) → Bool
   fitsHeld h = P .fits (h .state) (length (h .first)) (length (h .second))
 
-  -- Sizes and refusals, showing: the longest unbroken run from the oldest on, an empty part for a misfit; side 0 is the first store, side 1 the
-  -- second, and any other side shows nothing
-  unfoldable pub shown : ℕ → Held (P .State) → List ℕ
+  -- Sizes and refusals, showing: the longest unbroken run from the oldest on, an empty part for a misfit and for a side that is neither
+  unfoldable pub shown : P .Side → Held (P .State) → List ℕ
   shown side h =
       cond (fitsHeld h)
-      (cond (eqb side 0) (run (h .first) (P .firstRing (h .state)))
-      (cond (eqb side 1) (run (h .second) (P .secondRing (h .state)))
+      (cond (eqb (P .sideNumber side) 0) (run (h .first) (P .firstRing (h .state)))
+      (cond (eqb (P .sideNumber side) 1) (run (h .second) (P .secondRing (h .state)))
       []))
       []
 
   -- the checks of a call, in their order: 1 is create's and 2 is a misfit; showing has no number
-  unfoldable pub checks : Kind (P .OnState) → Held (P .State) → List Check
+  unfoldable pub checks : Kind (P .Side) (P .OnState) → Held (P .State) → List Check
   checks (creating m) h = check 1 (not (P .obeyed m (length (h .first)) (length (h .second)))) ∷ []
   checks (showing side) h = []
   checks (calling c) h = check 2 (not (fitsHeld h)) ∷ P .checksOn c (h .state)

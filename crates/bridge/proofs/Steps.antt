@@ -5,7 +5,7 @@ use mathlib.Core.Path.{_≡_, refl, sym, ap, _∙_}
 use mathlib.Core.List.{List, []}
 use mathlib.Core.Bool.{true, false}
 use lib.ListN.{length}
-use borrow.Author.Tests.{eq-eqb, ne-eqb, lt-ltb, le-ltb}
+use borrow.Author.Tests.{ne-eqb, lt-ltb, le-ltb}
 use Rattle.answers.specs.Refusals.{Check, firstRefusal}
 use Rattle.store.specs.declared.Ring.{Ring}
 use Rattle.store.specs.Ring.{Within, room, run}
@@ -22,7 +22,7 @@ use Rattle.line.specs.HoldingOff.{Taken, nextOut, afterGiving, outAnswer}
 use Rattle.state.specs.Conditions.{settled, settledOutcome}
 use Rattle.bridge.specs.declared.Told.{Told}
 use Rattle.bridge.specs.Calls.{OnState, world, Did, did, told, handed, checksOn, checks, rxAfter, txAfter, roomOf, step, unmade}
-use Rattle.bridge.specs.Calls.{lineByte, nextLineByte, loopFrame, create, show, on}
+use Rattle.bridge.specs.Calls.{Store, storeOf, ringOf, lineByte, nextLineByte, loopFrame, create, show, on}
 use Rattle.bridge.specs.Calls.{doneWith, refusedWith, toldNone, outcome, settledBy, shown, notRefused, refusedOr}
 
 -- the checks of a loop frame after the one for a misfit
@@ -39,7 +39,7 @@ module _ (s : State) (rx tx : List ℕ) (e : fits s (length rx) (length tx) ≡ 
   unfolding step checks refusedOr said
   misfit-told c t q = ap (λ (x : Told). told x rx tx) q ∙ sym (rw e)
 
-  pub show-misfit : (side : ℕ) → handed [] (world s rx tx) ≡ step (show side) (world s rx tx)
+  pub show-misfit : (side : Store) → handed [] (world s rx tx) ≡ step (show side) (world s rx tx)
   unfolding step checks refusedOr notRefused shown
   show-misfit side = rw e
 
@@ -92,17 +92,9 @@ module _ (s : State) (rx tx : List ℕ) (e : fits s (length rx) (length tx) ≡ 
   unfolding checksOn notRefused outcome settledBy rxAfter txAfter frameSettled roomOf
   frame-done f tx′ t h b q r = fit-met (loopFrame f) (told t rx tx′) (rw (le-ltb 2047 f h, b)) (rw (r, q .outcome, q .bytes))
 
-  pub show-receive : (p : List ℕ) → p ≡ run rx (s .rx) → (side : ℕ) → side ≡ 0 → handed p (world s rx tx) ≡ step (show side) (world s rx tx)
+  pub show-fit : (side : Store) (p : List ℕ) → p ≡ run (storeOf side (world s rx tx)) (ringOf side s) → handed p (world s rx tx) ≡ step (show side) (world s rx tx)
   unfolding step checks refusedOr notRefused shown
-  show-receive p q side z = rw (q, e, eq-eqb side 0 z)
-
-  pub show-transmit : (p : List ℕ) → p ≡ run tx (s .tx) → (side : ℕ) → (side ≡ 0 → ⊥) → side ≡ 1 → handed p (world s rx tx) ≡ step (show side) (world s rx tx)
-  unfolding step checks refusedOr notRefused shown
-  show-transmit p q side y z = rw (q, e, ne-eqb side 0 y, eq-eqb side 1 z)
-
-  pub show-neither : (side : ℕ) → (side ≡ 0 → ⊥) → (side ≡ 1 → ⊥) → handed [] (world s rx tx) ≡ step (show side) (world s rx tx)
-  unfolding step checks refusedOr notRefused shown
-  show-neither side y z = rw (e, ne-eqb side 0 y, ne-eqb side 1 z)
+  show-fit side p q = rw (q, e)
 
 -- a refusal that tells no room
 pub none-told : (s : State) (n : ℕ) (o : Outcome) → o ≡ refusedWith s n → record { outcome = o; room = 0 } ≡ toldNone s n

@@ -7,6 +7,7 @@ use lib.Dec.{eqb, ltb}
 use lib.ListN.{length}
 use Rattle.answers.specs.Refusals.{Check, check, firstRefusal}
 use Rattle.registers.specs.Writing.{writeChecks, written}
+use Rattle.store.specs.declared.Ring.{Ring}
 use Rattle.store.specs.Ring.{room, run}
 use Rattle.state.specs.declared.State.{State}
 use Rattle.state.specs.declared.Outcome.{Outcome}
@@ -15,6 +16,7 @@ use Rattle.answers.specs.declared.Answer.the-variants as answer
 use Rattle.answers.specs.Answers.{Said, said, refused, part}
 use Rattle.state.specs.Sizes.{sizesObeyed, startState, fits}
 use Rattle.loopside.specs.LoopToLine.{busy}
+use Rattle.line.specs.Breaks.{breakCells}
 use Rattle.line.specs.HoldingOff.{lineState, lineBytes, afterWrite, nextOut, afterGiving, outAnswer}
 use Rattle.state.specs.Conditions.{settled, breakState, keyState}
 use Rattle.loopside.specs.Frames.{deviceClear, frameTaken, frameBytes}
@@ -29,10 +31,15 @@ pub data OnState : Type 0 where
   nextLineByte : OnState
   loopFrame : ℕ → OnState
 
--- create makes a state, and show only looks at one
+-- the two stores
+pub data Store : Type 0 where
+  receive : Store
+  transmit : Store
+
+-- create makes a state, and showing a store only looks at one
 pub data Call : Type 0 where
   create : ℕ → Call
-  show : ℕ → Call
+  show : Store → Call
   on : OnState → Call
 
 -- ---- a call by its kind: what is seen of the one kind, and nothing of the others
@@ -82,7 +89,7 @@ kindOn (loopFrame f) = 6
 abbrev pub is : OnState → OnState → Bool
 is c d = eqb (kindOn c) (kindOn d)
 
--- a state, and the bytes of the receive and the transmit store
+-- a state, the cells of the receive store and the bytes of the transmit store
 pub record World : Type 0 where
   pub state : State
   pub rx : List ℕ
@@ -156,9 +163,15 @@ outcome (loopFrame f) w = frameTaken (w .state) (w .rx) f
 unfoldable pub settledBy : OnState → State → State → State
 settledBy c s t = cond (ofFrame (deviceClear s) false c) t (settled s t)
 
--- the bytes of the receive and of the transmit store after a call
+-- the cells of the receive store and the bytes of the transmit store after a call
 unfoldable pub rxAfter : OnState → World → List ℕ
-rxAfter c w = ofLineByte (lineBytes (w .state) (w .rx)) (w .rx) c
+rxAfter (lineByte b) w = lineBytes (w .state) (w .rx) b
+rxAfter lineBreak w = breakCells (w .state) (w .rx)
+rxAfter reset w = w .rx
+rxAfter (write n v) w = w .rx
+rxAfter key w = w .rx
+rxAfter nextLineByte w = w .rx
+rxAfter (loopFrame f) w = w .rx
 
 unfoldable pub txAfter : OnState → World → List ℕ
 txAfter c w = ofFrame (frameBytes (w .state) (w .tx)) (w .tx) c
@@ -174,15 +187,18 @@ roomOf lineBreak s = 0
 roomOf key s = 0
 roomOf nextLineByte s = 0
 
--- Sizes and refusals, showing: the longest unbroken run from the oldest byte, an empty part for a misfit; side 0 is the receive store,
--- side 1 the transmit store, and any other side shows nothing
-unfoldable pub shown : ℕ → World → List ℕ
-shown side w =
-    cond (fits (w .state) (length (w .rx)) (length (w .tx)))
-    (cond (eqb side 0) (run (w .rx) (w .state .rx))
-    (cond (eqb side 1) (run (w .tx) (w .state .tx))
-    []))
-    []
+-- a store and what is recorded of it
+abbrev pub storeOf : Store → World → List ℕ
+storeOf receive w = w .rx
+storeOf transmit w = w .tx
+
+abbrev pub ringOf : Store → State → Ring
+ringOf receive s = s .rx
+ringOf transmit s = s .tx
+
+-- Sizes and refusals, showing: the longest unbroken run from the oldest cell or byte, an empty part for a misfit
+unfoldable pub shown : Store → World → List ℕ
+shown side w = cond (fits (w .state) (length (w .rx)) (length (w .tx))) (run (storeOf side w) (ringOf side (w .state))) []
 
 -- what a call that is not refused did; create has no state before it
 unfoldable pub notRefused : Call → World → Did

@@ -1,8 +1,9 @@
-// The bridge: a software HP-IL/RS-232 interface. The state goes in by value and comes back; both stores are lent at every call.
+// The bridge: a software HP-IL/RS-232 interface. The state goes in by value and comes back; both stores are lent at every call, the
+// receive store as cells, each a byte and the mark of a break that follows it.
 ghost use mathlib.Core.Path.{_≡_};
 ghost use Rattle.state.specs.Conditions.{settledOutcome};
 ghost use Rattle.bridge.specs.Calls.{Promised, unmade, world, did, told, handed, doneWith, refusedWith, toldNone};
-ghost use Rattle.bridge.specs.Calls.{on, create, reset, write, lineByte, lineBreak, key, nextLineByte, loopFrame, show};
+ghost use Rattle.bridge.specs.Calls.{on, create, reset, write, lineByte, lineBreak, key, nextLineByte, loopFrame, show, receive, transmit};
 use answers::Answer;
 use state::Outcome;
 use state::State;
@@ -47,7 +48,7 @@ fn done(before: State, after: State) -> Outcome
 }
 
 // Makes a state for these stores, or refuses; neither store is written.
-pub fn create(rx: &[u8], tx: &[u8], margin: usize) -> Outcome
+pub fn create(rx: &[u16], tx: &[u8], margin: usize) -> Outcome
     ensures { λ r. ⌜ Promised (create margin) (unmade margin (now (rx .entry)) (now (tx .entry))) (did r (now (rx .entry)) (now (tx .entry))) ⌝ }
 {
     let s = state::fitting::start(margin, rx.len(), tx.len());
@@ -61,7 +62,7 @@ pub fn create(rx: &[u8], tx: &[u8], margin: usize) -> Outcome
 }
 
 // Gives what create gives for the same sizes and margin; neither store is written.
-pub fn reset(s: State, rx: &[u8], tx: &[u8]) -> Outcome
+pub fn reset(s: State, rx: &[u16], tx: &[u8]) -> Outcome
     ensures { λ r. ⌜ Promised (on reset) (world s (now (rx .entry)) (now (tx .entry))) (did r (now (rx .entry)) (now (tx .entry))) ⌝ }
 {
     if !state::fitting::state_fits(s, rx.len(), tx.len()) {
@@ -72,7 +73,7 @@ pub fn reset(s: State, rx: &[u8], tx: &[u8]) -> Outcome
 }
 
 // Writes the register of this number.
-pub fn write_register(s: State, rx: &[u8], tx: &[u8], number: u32, value: u32) -> Outcome
+pub fn write_register(s: State, rx: &[u16], tx: &[u8], number: u32, value: u32) -> Outcome
     ensures { λ r. ⌜ Promised (on (write number value)) (world s (now (rx .entry)) (now (tx .entry))) (did r (now (rx .entry)) (now (tx .entry))) ⌝ }
 {
     if !state::fitting::state_fits(s, rx.len(), tx.len()) {
@@ -88,7 +89,7 @@ pub fn write_register(s: State, rx: &[u8], tx: &[u8], number: u32, value: u32) -
 }
 
 // Takes a byte from the line, and tells the room of the receive store.
-pub fn line_byte(s: State, rx: &mut [u8], tx: &[u8], b: u8) -> Told
+pub fn line_byte(s: State, rx: &mut [u16], tx: &[u8], b: u8) -> Told
     ensures { λ r. ⌜ Promised (on (lineByte b)) (world s (now (rx .entry)) (now (tx .entry))) (told r (now (rx .exit)) (now (tx .entry))) ⌝ }
 {
     if !state::fitting::state_fits(s, rx.len(), tx.len()) {
@@ -102,19 +103,20 @@ pub fn line_byte(s: State, rx: &mut [u8], tx: &[u8], b: u8) -> Told
     }
 }
 
-// Takes a break on the line.
-pub fn take_break(s: State, rx: &mut [u8], tx: &[u8]) -> Outcome
+// Takes a break on the line, and marks it behind the newest byte of the receive store.
+pub fn take_break(s: State, rx: &mut [u16], tx: &[u8]) -> Outcome
     ensures { λ r. ⌜ Promised (on lineBreak) (world s (now (rx .entry)) (now (tx .entry))) (did r (now (rx .exit)) (now (tx .entry))) ⌝ }
 {
     if !state::fitting::state_fits(s, rx.len(), tx.len()) {
         return refused(s, 2);
     }
+    line::mark_break(s, rx);
     let t = state::requests::broken(s);
     done(s, t)
 }
 
 // Takes a press of the MSRQ key.
-pub fn take_key(s: State, rx: &[u8], tx: &[u8]) -> Outcome
+pub fn take_key(s: State, rx: &[u16], tx: &[u8]) -> Outcome
     ensures { λ r. ⌜ Promised (on key) (world s (now (rx .entry)) (now (tx .entry))) (did r (now (rx .entry)) (now (tx .entry))) ⌝ }
 {
     if !state::fitting::state_fits(s, rx.len(), tx.len()) {
@@ -125,7 +127,7 @@ pub fn take_key(s: State, rx: &[u8], tx: &[u8]) -> Outcome
 }
 
 // Gives the next line byte.
-pub fn next_line_byte(s: State, rx: &[u8], tx: &[u8]) -> Outcome
+pub fn next_line_byte(s: State, rx: &[u16], tx: &[u8]) -> Outcome
     ensures { λ r. ⌜ Promised (on nextLineByte) (world s (now (rx .entry)) (now (tx .entry))) (did r (now (rx .entry)) (now (tx .entry))) ⌝ }
 {
     if !state::fitting::state_fits(s, rx.len(), tx.len()) {
@@ -144,7 +146,7 @@ pub fn next_line_byte(s: State, rx: &[u8], tx: &[u8]) -> Outcome
 }
 
 // Takes a frame from the loop, gives exactly one, and tells the room of the transmit store, whatever the frame is.
-pub fn loop_frame(s: State, rx: &[u8], tx: &mut [u8], frame: u32) -> Told
+pub fn loop_frame(s: State, rx: &[u16], tx: &mut [u8], frame: u32) -> Told
     ensures { λ r. ⌜ Promised (on (loopFrame frame)) (world s (now (rx .entry)) (now (tx .entry))) (told r (now (rx .entry)) (now (tx .exit))) ⌝ }
 {
     if !state::fitting::state_fits(s, rx.len(), tx.len()) {
@@ -165,18 +167,22 @@ pub fn loop_frame(s: State, rx: &[u8], tx: &mut [u8], frame: u32) -> Told
     }
 }
 
-// Shows the longest unbroken run of bytes from the oldest one: side 0 of the receive store, side 1 of the transmit store.
-pub fn show<'a>(s: State, rx: &'a [u8], tx: &'a [u8], side: u32) -> &'a [u8]
-    ensures { λ o. ⌜ Promised (show side) (world s (now (rx .entry)) (now (tx .entry))) (handed (now o) (world s (now (rx .entry)) (now (tx .entry)))) ⌝ }
+// Shows the longest unbroken run of cells from the oldest one in the receive store.
+pub fn show_receive<'a>(s: State, rx: &'a [u16], tx: &[u8]) -> &'a [u16]
+    ensures { λ o. ⌜ Promised (show receive) (world s (now (rx .entry)) (now (tx .entry))) (handed (now o) (world s (now (rx .entry)) (now (tx .entry)))) ⌝ }
 {
     if !state::fitting::state_fits(s, rx.len(), tx.len()) {
         return &rx[0..0];
     }
-    if side == 0 {
-        return store::show(rx, s.rx);
+    cells::show(rx, s.rx)
+}
+
+// Shows the longest unbroken run of bytes from the oldest one in the transmit store.
+pub fn show_transmit<'a>(s: State, rx: &[u16], tx: &'a [u8]) -> &'a [u8]
+    ensures { λ o. ⌜ Promised (show transmit) (world s (now (rx .entry)) (now (tx .entry))) (handed (now o) (world s (now (rx .entry)) (now (tx .entry)))) ⌝ }
+{
+    if !state::fitting::state_fits(s, rx.len(), tx.len()) {
+        return &tx[0..0];
     }
-    if side == 1 {
-        return store::show(tx, s.tx);
-    }
-    &rx[0..0]
+    store::show(tx, s.tx)
 }

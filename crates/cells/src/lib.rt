@@ -4,6 +4,7 @@ ghost use Prim.Native.Nat.{_<_};
 ghost use lib.ListN.{getD};
 ghost use Rattle.store.specs.Ring.{Fit, held};
 ghost use Rattle.store.specs.Promises.{Put, Shown};
+ghost use Rattle.cells.specs.Newest.{Replaced};
 use store::Offered;
 use store::Ring;
 
@@ -19,6 +20,17 @@ pub fn put(s: &mut [u16], r: Ring, c: u16) -> Offered
         return o;
     }
     o
+}
+
+// Writes c over the newest cell; no other cell is written.
+pub fn replace_newest(s: &mut [u16], r: Ring, c: u16)
+    requires { ⌜ Fit (now s) r ⌝ }
+    requires { ⌜ 0 < r .len ⌝ }
+    ensures { λ _. ⌜ Replaced (now (s .entry)) r c (now (s .exit)) ⌝ }
+{
+    let last = r.len - 1;
+    let at = store::place_of(r, last);
+    s[at] = c;
 }
 
 // The k-th oldest cell, from 0.

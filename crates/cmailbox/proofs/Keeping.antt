@@ -11,14 +11,12 @@ use borrow.Author.Tests.{ltb-true}
 use Rattle.branches.proofs.Branches.{by-cond, and-left, and-right}
 use Rattle.frame.specs.Frame.{dataOf, isEnd}
 use Rattle.answers.specs.Answers.{Said, done, none, byte, frame, refused, part, cell, lines, said}
-use Rattle.answers.specs.Word.{word}
-use Rattle.boundary.specs.Product.{Held, fitsHeld}
-use Rattle.boundary.specs.CRuns.{Typed}
-use Rattle.boundary.specs.Kept.{Tells, TypedHeld, SameSizes, Kept}
+use Rattle.cells.specs.Cells.{Cells}
+use Rattle.boundary.specs.Kept.{Tells, Kept}
 use Rattle.boundary.proofs.Words.{done-told, none-told, refusal-told, lines-told, frame-told, cell-told, SmallNumbers, first-small}
 use Rattle.boundary.proofs.Stored.{put-below}
 use Rattle.mailstate.specs.declared.State.{State}
-use Rattle.mailstate.specs.Sizes.{sizesObeyed, startState, fits}
+use Rattle.mailstate.specs.Sizes.{sizesObeyed, fits}
 use Rattle.mailloop.specs.Messages.{cellOf, keeps, frameCells}
 use Rattle.mailblock.specs.States.{Ranged}
 use Rattle.mailblock.proofs.Laws.{ranged-by, start-ranged, obeyed-ranged}
@@ -32,7 +30,7 @@ use Rattle.maillaws.proofs.Refusal.{by-refusal}
 use Rattle.maillaws.proofs.Replied.{answers-so, narrow-answers, refused-exactly}
 use Rattle.maillaws.proofs.FitParts.{Parts, parts}
 use Rattle.maillaws.proofs.Fitted.{keeps-stores, keeps-fit, create-makes-fit}
-use Rattle.cmailbox.specs.Mailbox.{Cells, mailboxes}
+use Rattle.cmailbox.specs.Mailbox.{mailboxes}
 
 -- ---- numbers fit their places
 

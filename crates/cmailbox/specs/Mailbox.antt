@@ -1,8 +1,7 @@
 -- A mailbox as a product with C functions: what they are made of, and what each of them promises.
-use Prim.Native.Nat.{ℕ, _<_}
-use mathlib.Core.List.{List}
-use lib.ListN.{getD}
+use Prim.Native.Nat.{ℕ}
 use Rattle.answers.specs.Answers.{cell}
+use Rattle.cells.specs.Cells.{Cells}
 use Rattle.boundary.specs.Product.{Product, held, Kind, creating, showing, calling}
 use Rattle.boundary.specs.CCalls as boundary
 use Rattle.mailstate.specs.declared.State.{State}
@@ -12,12 +11,8 @@ use Rattle.mailblock.specs.States.{noState}
 use Rattle.mailbox.specs.Calls.{OnState, Call, create, show, on, World, world, Did, checksOn, step}
 use Rattle.maillaws.specs.Mailboxes.{mailbox, ByteCall}
 
--- what the types of the code give of a lent store: cells of 16 bits
-abbrev pub Cells : List ℕ → Type 0
-Cells xs = (k : ℕ) → getD xs k 0 < 65536
-
 -- of what kind a call is
-abbrev pub kindOf : Call → Kind OnState
+abbrev pub kindOf : Call → Kind ℕ OnState
 kindOf (create a) = creating a
 kindOf (show side) = showing side
 kindOf (on c) = calling c
@@ -35,7 +30,10 @@ mailboxes =
       World = World;
       world = λ h. world (h .state) (h .first) (h .second);
       apart = λ w. held (w .state) (w .tobus) (w .toloop);
-      Stored = Cells;
+      FirstStored = Cells;
+      SecondStored = Cells;
+      Side = ℕ;
+      sideNumber = λ side. side;
       OnState = OnState;
       Call = Call;
       create = create;

@@ -121,14 +121,15 @@ fn line_end(script: &[u8], from: usize) -> usize
     at
 }
 
-// The state after the call of a line, by the first letter of the line: c, r, l, n, f, a, s; any other line is a title.
-fn called(s: State, rx: &mut [u8], tx: &mut [u8], line: &[u8], first: u8) -> State {
+// The state after the call of a line, by the first letter of the line: c, r, l, b, n, f, a, s; any other line is a title.
+fn called(s: State, rx: &mut [u16], tx: &mut [u8], line: &[u8], first: u8) -> State {
     let a = number_in(line, 0);
     let b = number_in(line, 1);
     match first {
         99 => answered(bridge::create(rx, tx, a as usize)),
         114 => answered(bridge::write_register(s, rx, tx, a, b)),
         108 => answered(bridge::line_byte(s, rx, tx, (a % 256) as u8).outcome),
+        98 => answered(bridge::take_break(s, rx, tx)),
         110 => answered(bridge::next_line_byte(s, rx, tx)),
         102 => answered(bridge::loop_frame(s, rx, tx, a * 256 + b).outcome),
         97 => answered(bridge::loop_frame(s, rx, tx, a).outcome),
@@ -136,18 +137,31 @@ fn called(s: State, rx: &mut [u8], tx: &mut [u8], line: &[u8], first: u8) -> Sta
     }
 }
 
-// How many bytes a store shows.
-fn shown<'a>(s: State, rx: &'a [u8], tx: &'a [u8], side: u32) {
-    text(b": ");
-    let part = bridge::show(s, rx, tx, side);
-    number(part.len() as u64);
+// Whether a line that shows a store names the receive store: `show receive`, and not `show transmit`.
+fn names_receive(line: &[u8]) -> bool {
+    if line.len() < 6 {
+        return false;
+    }
+    line[5] == 114
 }
 
-// A line of the script, which has a first letter: its call, or how many bytes a store shows.
-fn played(s: State, rx: &mut [u8], tx: &mut [u8], line: &[u8], first: u8) -> State {
+// How many cells or bytes a store shows.
+fn shown(s: State, rx: &[u16], tx: &[u8], receive: bool) {
+    text(b": ");
+    if receive {
+        let cells = bridge::show_receive(s, rx, tx);
+        number(cells.len() as u64);
+        return;
+    }
+    let bytes = bridge::show_transmit(s, rx, tx);
+    number(bytes.len() as u64);
+}
+
+// A line of the script, which has a first letter: its call, or how many cells or bytes a store shows.
+fn played(s: State, rx: &mut [u16], tx: &mut [u8], line: &[u8], first: u8) -> State {
     text(line);
     if first == 115 {
-        shown(s, rx, tx, number_in(line, 0));
+        shown(s, rx, tx, names_receive(line));
         text(b"\n");
         return s;
     }
@@ -157,7 +171,7 @@ fn played(s: State, rx: &mut [u8], tx: &mut [u8], line: &[u8], first: u8) -> Sta
 }
 
 // The lines of a script from a place up to an empty line or its end, on these stores; gives the place behind.
-fn play(script: &[u8], from: usize, rx: &mut [u8], tx: &mut [u8]) -> usize
+fn play(script: &[u8], from: usize, rx: &mut [u16], tx: &mut [u8]) -> usize
     requires { ⌜ (from ≤ length (now script)) × (length (now script) ≤ 4096) ⌝ }
     ensures { λ r. ⌜ r ≤ length (now (script .entry)) ⌝ }
 {
@@ -181,9 +195,9 @@ fn play(script: &[u8], from: usize, rx: &mut [u8], tx: &mut [u8]) -> usize
 fn main() {
     let mut input = io::buffer();
     let n = io::read_full(0, &mut input);
-    let mut seven = [0u8; 7];
-    let mut eight = [0u8; 8];
-    let mut four = [0u8; 4];
+    let mut seven = [0u16; 7];
+    let mut eight = [0u16; 8];
+    let mut four = [0u16; 4];
     let mut tx = [0u8; 3];
     let a = play(&input[..n], 0, &mut seven, &mut tx);
     let b = play(&input[..n], a, &mut eight, &mut tx);

@@ -2,6 +2,7 @@
 use mathlib.Core.Path.{refl}
 use Rattle.laws.specs.Examples.{given, table, AllAsThePaperSays}
 use Rattle.reading.specs.Reading.{inCuts, byCuts}
+use Rattle.reading.specs.Received.{received}
 use Rattle.reading.specs.Steps.{cut}
 use Rattle.registers.specs.Table as registers-table
 use Rattle.registers.specs.Bits.{tooLarge, bitNotCarried, inRange}
@@ -19,7 +20,7 @@ use Rattle.loopside.specs.Frames.{readied, ready, frameTaken, deviceClear, fram
 use Rattle.bridge.specs.Calls.{checksOn, checks, outcome, settledBy, rxAfter, txAfter, notRefused, refusedOr, step}
 
 pub examples : AllAsThePaperSays
-unfolding given table inCuts byCuts cut ruleOf written readyOf talker-fit.fitTest fitTest said
+unfolding given table inCuts byCuts received cut ruleOf written readyOf talker-fit.fitTest fitTest said
     registers-table.table registers-table.rowIn registers-table.carriedOf registers-table.startOf registers-table.startRegisters
     tooLarge bitNotCarried inRange values allInRange registersFit sizesObeyed startState fits
     conditions enabledBy asking settled shows serviced adds busy readied ready frameTaken deviceClear frameBytes addsBytes

@@ -4,7 +4,7 @@ use native.Mathlib.Omega.{arith}
 use mathlib.Core.Path.{_≡_, refl, sym, subst, _∙_}
 use mathlib.Core.Bool.{Bool, true, false, cond, _&&_, not}
 use mathlib.Core.List.{List}
-use lib.Dec.{eqb}
+use lib.Dec.{eqb, ltb}
 use lib.ListN.{length}
 use borrow.Author.Tests.{eqb-true, leb-true}
 use Rattle.answers.specs.Refusals.{firstRefusal}
@@ -30,6 +30,8 @@ use Rattle.state.specs.State.{withRegisters, withTalker, withRx, withTx}
 use Rattle.state.specs.Sizes.{sizesObeyed, fits}
 use Rattle.state.specs.Conditions.{settled, conditions, shows, statusOf, afterStatus, afterStatusBack, breakState, keyState}
 use Rattle.state.proofs.Fits.{Tests, tests, rx-fits, tx-fits}
+use Rattle.cells.proofs.Newest.{replaced-size}
+use Rattle.line.specs.Breaks.{breakCells}
 use Rattle.line.specs.HoldingOff.{isGoOrStop, flowed, storedWith, storedState, lostState, lineState}
 use Rattle.line.specs.HoldingOff.{lineBytes, resumed, setAfresh, afterWrite, nextOut, afterGiving}
 use Rattle.line.proofs.Parts.{given-some}
@@ -41,12 +43,11 @@ use Rattle.bridge.specs.Calls.{ofFrame, World, Did, outcome, settledBy, rxAfter
 use Rattle.laws.specs.Bridges.{ByteOn, ByteCall, bridge}
 use Rattle.laws.specs.Fitting.{Fits, SameStores, KeepsFit, CreateMakesFit, KeepsStores}
 use Rattle.laws.proofs.Refusing.{by-refusal, write-fitting}
-use Rattle.store.specs.Bytes.{Bytes}
 use Rattle.laws.proofs.Ways.{Returning, Way, way}
 use Rattle.laws.proofs.Ways.{isNext, isBack, isLast, isDamaged, isStored, isPassed, isCleared}
 use Rattle.laws.proofs.Ways.{isObeyed, isAssigned, isSendAsked, isTold, isFinishing, isReady, isIdentified}
 use Rattle.places.proofs.OneStore.{more-fits}
-use Rattle.laws.proofs.Small.{put-bytes, given-small, status-small}
+use Rattle.laws.proofs.Small.{given-small, status-small}
 use Rattle.laws.proofs.States.{tested, start-fits, with-registers, with-rx, with-tx}
 use Rattle.laws.proofs.States.{talking-tests, obeyed-tests, cleared-tests, assigned-tests, finishing-tests}
 
@@ -60,12 +61,16 @@ frame-size : (s : State) (tx : List ℕ) (f : ℕ) → length (frameBytes s tx f
 unfolding frameBytes addedBytes
 frame-size s tx f = by-cond (λ (x : List ℕ). length x ≡ length tx) (addsBytes s f) _ tx (λ _. puts-size tx (s .tx) (adds (s .regs) f)) (λ _. refl)
 
+pub break-size : (s : State) (rx : List ℕ) → length (breakCells s rx) ≡ length rx
+unfolding breakCells
+break-size s rx = by-cond (λ (x : List ℕ). length x ≡ length rx) (ltb 0 (s .rx .len)) _ rx (λ _. replaced-size rx (s .rx) _) (λ _. refl)
+
 rx-size : (c : OnState) (w : World) → length (rxAfter c w) ≡ length (w .rx)
 unfolding rxAfter
 rx-size (lineByte b) w = line-size (w .state) (w .rx) b
 rx-size reset w = refl
 rx-size (write n v) w = refl
-rx-size lineBreak w = refl
+rx-size lineBreak w = break-size (w .state) (w .rx)
 rx-size key w = refl
 rx-size nextLineByte w = refl
 rx-size (loopFrame f) w = refl
@@ -163,11 +168,11 @@ module _ (rx tx : List ℕ) where
         unfold fits resumed in
         (fits-with-rx (sentRing (ruleOf (s .regs)) rx (s .rx)) (store-laws.drop-fit rx (s .rx) _ (rx-fits s rx tx e .ring) (omega arith)))
 
-    send-good : Bytes rx → 1 ≤ s .talker .role .phase → G (sendFrom s rx .state)
+    send-good : 1 ≤ s .talker .role .phase → G (sendFrom s rx .state)
     unfolding sendFrom
-    send-good b h =
+    send-good h =
         given-good s (removedState s rx) (givenOf (sendHeld (ruleOf (s .regs)) rx (s .rx))) removed-good (unfold removedState resumed in h)
-        (λ g k. given-small (ruleOf (s .regs)) rx (s .rx) g (rx-fits s rx tx e .ring) b k)
+        (λ g k. given-small (ruleOf (s .regs)) rx (s .rx) g k)
 
     status-good : 1 ≤ s .talker .role .phase → G (sendStatus s .state)
     unfolding sendStatus statusOf afterStatus
@@ -182,22 +187,22 @@ module _ (rx tx : List ℕ) where
     asked : (d : Bool) → (d && eqb (s .talker .role .phase) 1) ≡ true → 1 ≤ s .talker .role .phase
     asked d x = omega (arith, eqb-true (s .talker .role .phase) 1 (and-right d (eqb (s .talker .role .phase) 1) x))
 
-    way-good : Bytes rx → (f : ℕ) (o : Outcome) → Way s rx f o → G (o .state)
-    way-good b f o (isNext r m k n) = send-good b (active f r)
-    way-good b f o (isBack r m k) =
+    way-good : (f : ℕ) (o : Outcome) → Way s rx f o → G (o .state)
+    way-good f o (isNext r m k n) = send-good (active f r)
+    way-good f o (isBack r m k) =
         ended-good (afterStatusBack s (dataOf (s .talker .under .frame))) 64 (unfold fits afterStatusBack in e) (unfold afterStatusBack in active f r)
-    way-good b f o (isLast r m k n) = ended-good s 64 e (active f r)
-    way-good b f o (isDamaged r m) = ended-good s 65 e (active f r)
-    way-good b f o (isStored r l) = left-good f
-    way-good b f o (isPassed r l) = e
-    way-good b f o (isCleared r c) = good _ (cleared-tests _ (length rx) (length tx) (obeyed-tests s (length rx) (length tx) t (orderIn s f)))
-    way-good b f o (isObeyed r c) = good _ (obeyed-tests s (length rx) (length tx) t (orderIn s f))
-    way-good b f o (isAssigned r a) = good _ (assigned-tests s (length rx) (length tx) t (dataOf f))
-    way-good b f o (isSendAsked r a x) = send-good b (asked (eqb (dataOf f) 96) x)
-    way-good b f o (isTold r a x y) = status-good (asked (eqb (dataOf f) 97) y)
-    way-good b f o (isFinishing r a x y z) = good _ (finishing-tests s (length rx) (length tx) t)
-    way-good b f o (isReady r a x y z) = e
-    way-good b f o (isIdentified r) = e
+    way-good f o (isLast r m k n) = ended-good s 64 e (active f r)
+    way-good f o (isDamaged r m) = ended-good s 65 e (active f r)
+    way-good f o (isStored r l) = left-good f
+    way-good f o (isPassed r l) = e
+    way-good f o (isCleared r c) = good _ (cleared-tests _ (length rx) (length tx) (obeyed-tests s (length rx) (length tx) t (orderIn s f)))
+    way-good f o (isObeyed r c) = good _ (obeyed-tests s (length rx) (length tx) t (orderIn s f))
+    way-good f o (isAssigned r a) = good _ (assigned-tests s (length rx) (length tx) t (dataOf f))
+    way-good f o (isSendAsked r a x) = send-good (asked (eqb (dataOf f) 96) x)
+    way-good f o (isTold r a x y) = status-good (asked (eqb (dataOf f) 97) y)
+    way-good f o (isFinishing r a x y z) = good _ (finishing-tests s (length rx) (length tx) t)
+    way-good f o (isReady r a x y z) = e
+    way-good f o (isIdentified r) = e
 
 -- ---- every call
 
@@ -210,7 +215,7 @@ create-good m w h = start-fits m (length (w .rx)) (length (w .tx)) (go (sizesObe
     go true h = refl
     go false h = absurd (omega arith)
 
-module _ (w : World) (b : Bytes (w .rx)) (e : Fits w) where
+module _ (w : World) (e : Fits w) where
   outcome-good : (c : OnState) → firstRefusal (checks (on c) w) ≡ 0 → Good (w .rx) (w .tx) (outcome c w .state)
   unfolding outcome
   outcome-good reset h = start-fits (w .state .margin) (length (w .rx)) (length (w .tx)) (tests (w .state) (length (w .rx)) (length (w .tx)) e .sizes)
@@ -219,7 +224,7 @@ module _ (w : World) (b : Bytes (w .rx)) (e : Fits w) where
   outcome-good lineBreak h = unfold fits breakState in e
   outcome-good key h = unfold fits keyState in e
   outcome-good nextLineByte h = giving-good (w .rx) (w .tx) (w .state) e (nextOut (w .state) (w .tx)) refl
-  outcome-good (loopFrame f) h = way-good (w .rx) (w .tx) (w .state) e b f (frameTaken (w .state) (w .rx) f) (way (w .state) (w .rx) f)
+  outcome-good (loopFrame f) h = way-good (w .rx) (w .tx) (w .state) e f (frameTaken (w .state) (w .rx) f) (way (w .state) (w .rx) f)
 
   -- requests are settled or not, and the stores keep their lengths
   pub state-good : (c : OnState) → firstRefusal (checks (on c) w) ≡ 0 → Fits (notRefused (on c) w .world)
@@ -230,12 +235,12 @@ module _ (w : World) (b : Bytes (w .rx)) (e : Fits w) where
       (λ _. outcome-good c h) (λ _. settled-good (w .rx) (w .tx) (w .state) _ (outcome-good c h)))
 
 pub keeps-fit : Obeys (bridge step) KeepsFit
-keeps-fit c w b e = by-refusal (λ (d : Did). Fits (d .world)) c w (go c) (λ _. e)
+keeps-fit c w _ e = by-refusal (λ (d : Did). Fits (d .world)) c w (go c) (λ _. e)
   where
     go : (c : Call) → firstRefusal (checks c w) ≡ 0 → Fits (notRefused c w .world)
     go (create m) h = create-good m w h
     go (show side) h = unfold notRefused in e
-    go (on c) h = state-good w b e c h
+    go (on c) h = state-good w e c h
 
 pub create-fits-so : (m : ℕ) (w : World) → step (create m) w .said ≡ done → Fits (step (create m) w .world)
 create-fits-so m w =
@@ -256,29 +261,3 @@ stores-stay c w = by-refusal (λ (d : Did). SameStores w (d .world)) c w (λ _. 
 
 pub keeps-stores : Obeys (bridge step) KeepsStores
 keeps-stores c w _ = stores-stay c w
-
--- ---- the receive store stays a store of bytes
-
-line-bytes : (s : State) (rx : List ℕ) (b : ℕ) → b < 256 → Bytes rx → Bytes (lineBytes s rx b)
-unfolding lineBytes
-line-bytes s rx b h k = by-cond Bytes (isGoOrStop (s .regs) b) _ _ (λ _. k) (λ _. put-bytes rx (s .rx) b h k)
-
-rx-bytes : (c : OnState) (w : World) → ByteOn c → Bytes (w .rx) → Bytes (rxAfter c w)
-unfolding rxAfter
-rx-bytes (lineByte b) w h k = line-bytes (w .state) (w .rx) b h k
-rx-bytes reset w h k = k
-rx-bytes (write n v) w h k = k
-rx-bytes lineBreak w h k = k
-rx-bytes key w h k = k
-rx-bytes nextLineByte w h k = k
-rx-bytes (loopFrame f) w h k = k
-
--- so what the types give of our bridge goes on
-pub keeps-bytes : (c : Call) (w : World) → ByteCall c → Bytes (w .rx) → Bytes (step c w .world .rx)
-unfolding notRefused
-keeps-bytes c w h k = by-refusal (λ (d : Did). Bytes (d .world .rx)) c w (λ _. go c h) (λ _. k)
-  where
-    go : (c : Call) → ByteCall c → Bytes (notRefused c w .world .rx)
-    go (create m) h = k
-    go (show side) h = k
-    go (on c) h = rx-bytes c w h k

@@ -19,7 +19,6 @@ use Rattle.laws.specs.Rooms.{free, roomThere, RoomTold}
 use Rattle.laws.proofs.Answers.{accepted}
 use Rattle.laws.proofs.Fitting.{state-good}
 use Rattle.laws.proofs.Refusing.{by-refusal, fitting}
-use Rattle.store.specs.Bytes.{Bytes}
 
 -- the places that a ring leaves free are those of its list
 free-room : (s : List ℕ) (r : Ring) → Fit s r → room r ≡ free s (held s r)
@@ -37,17 +36,17 @@ room-there key v e = refl
 room-there nextLineByte v e = refl
 
 -- of a call that is not refused
-module _ (w : World) (b : Bytes (w .rx)) where
+module _ (w : World) where
   told-there : (c : Call) → firstRefusal (checks c w) ≡ 0 → notRefused c w .room ≡ roomThere (notRefused c w .world) c
   unfolding notRefused
   told-there (create m) h = refl
   told-there (show side) h = refl
-  told-there (on c) h = room-there c (notRefused (on c) w .world) (state-good w b (fitting c w h .0) c h)
+  told-there (on c) h = room-there c (notRefused (on c) w .world) (state-good w (fitting c w h .0) c h)
 
 pub room-told : Obeys (telling step) RoomTold
-room-told c w b =
+room-told c w _ =
     by-refusal (λ (d : Did). d .room ≡ cond (not (isRefusal (d .said))) (roomThere (d .world) c) 0) c w
-    (λ h. told-there w b c h ∙ sym (rw (accepted c w .taken))) (λ _. refl)
+    (λ h. told-there w c h ∙ sym (rw (accepted c w .taken))) (λ _. refl)
 
 -- a call that is taken tells the room of the state that it leaves
 pub told-after : (c : OnState) (w : World) → taken (step (on c) w .said) ≡ true → step (on c) w .room ≡ roomOf c (step (on c) w .world .state)

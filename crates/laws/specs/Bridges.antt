@@ -3,7 +3,6 @@ use Prim.Native.Nat.{_<_}
 use Rattle.machine.specs.Course.{Seen}
 use Rattle.machine.specs.Machine as machine
 use Rattle.machine.specs.Machine.{narrowed}
-use Rattle.store.specs.Bytes.{Bytes}
 use Rattle.answers.specs.Answers.{Said, Answered}
 use Rattle.bridge.specs.Calls.{OnState, reset, write, lineByte, lineBreak, key, nextLineByte, loopFrame, Call, create, show, on, World, Did}
 
@@ -40,7 +39,7 @@ ByteCall (create m) = Unit {0}
 ByteCall (show side) = Unit {0}
 ByteCall (on c) = ByteOn c
 
--- a bridge is what every call does in every world; the types of the code give bytes in the receive store and from the line
+-- a bridge is what every call does in every world; the types of the code give a byte from the line, and of the stores no law asks any
 abbrev pub telling : (Call → World → Did) → TellingMachine
 telling B =
     record {
@@ -48,7 +47,7 @@ telling B =
       stands = λ w. w;
       answer = λ c w. record { said = B c w .said; room = B c w .room };
       after = λ c w. B c w .world;
-      Fine = λ w. Bytes (w .rx);
+      Fine = λ w. Unit {0};
       Fair = ByteCall;
     }
 

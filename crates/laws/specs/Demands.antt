@@ -2,14 +2,15 @@
 use Prim.Native.Nat.{ℕ, _<_}
 use mathlib.Core.Path.{_≡_}
 use mathlib.Core.Bool.{Bool, true, false, _&&_}
-use mathlib.Core.List.{[]}
+use mathlib.Core.List.{[], _++_}
 use lib.Dec.{ltb}
 use Rattle.machine.specs.Course.{all, Without}
 use Rattle.machine.specs.Machine.{ofCalls, ofRuns}
 use Rattle.machine.specs.Turns.{Reading, Kept}
 use Rattle.bridge.specs.Calls.{Call, on, loopFrame, World}
 use Rattle.answers.specs.Answers.{Said, done, none, byte, frame, refused, part, cell, lines}
-use Rattle.laws.specs.Observers.{taken, isFrame, accepted, lost, sent, changes}
+use Rattle.reading.specs.Received.{Received}
+use Rattle.laws.specs.Observers.{taken, isFrame, bytesAndBreaks, bytesAndMarks, lost, sent, changes}
 use Rattle.laws.specs.Spells.{spells, AtMost}
 use Rattle.laws.specs.Bridges.{Law}
 use Rattle.laws.specs.Worlds.{heldToSend, reading, room, protocol, holdsOff}
@@ -42,15 +43,20 @@ ElevenBits = ofCalls (λ s. isEleven (s .answer) ≡ true)
 
 -- ---- demand 3
 
--- the receive side: bytes are accepted and held, frames are read from them
-abbrev pub lineToLoop : Reading World Call Said ℕ ℕ
-lineToLoop = record { accepted = accepted; sent = sent; held = heldToSend; reads = reading }
+-- the receive side: bytes and breaks are accepted and held, frames are read from them
+abbrev pub lineToLoop : Reading World Call Said Received ℕ
+lineToLoop = record { accepted = bytesAndBreaks; sent = sent; held = heldToSend; reads = reading }
 
 -- first: in a run without create, reset, register write and device clear, the frames sent and then what the reading rule gives for the
--- bytes still held are together what it gives for all the bytes there were, those held at first and then those accepted; the service bit
--- aside
+-- bytes and breaks still held are together what it gives for all there were, those held at first and then those accepted, also the breaks
+-- that came while nothing was held; the service bit aside
 abbrev pub FramesRead : Law
 FramesRead = Kept lineToLoop changes
+
+-- a break that comes while nothing is held changes no frame: all that there was reads the same without it
+abbrev pub UnheldBreaks : Law
+UnheldBreaks =
+    ofRuns (λ w ss. Without changes ss → reading w (heldToSend w ++ all bytesAndBreaks ss) ≡ reading w (heldToSend w ++ all bytesAndMarks ss))
 
 -- second: after a loss the overrun bit stays until a status byte that was sent later is back unchanged; also where registers are written
 abbrev pub OverrunStays : Law

@@ -1,10 +1,11 @@
 -- Proved examples: those marked P, in one table and one statement.
-use Prim.Native.Nat.{ℕ}
+use Prim.Native.Nat.{ℕ, _+_}
 use mathlib.Core.Path.{_≡_}
 use mathlib.Core.List.{List, [], _∷_, map}
 use Rattle.frame.specs.Frame.{controlOf, dataOf, made}
 use Rattle.reading.specs.declared.Rule.{Rule}
 use Rattle.reading.specs.Reading.{frames, leftOver}
+use Rattle.reading.specs.Received.{Received, receivedIn}
 use Rattle.reading.specs.Steps.{cut}
 use Rattle.registers.specs.Table.{startRegisters}
 use Rattle.registers.specs.Writing.{written}
@@ -13,14 +14,16 @@ use Rattle.answers.specs.Answers.{Said, frame}
 use Rattle.state.specs.Sizes.{startState}
 use Rattle.bridge.specs.Calls.{on, Did, loopFrame, world, step}
 
--- what is tried: bytes held, with C00, C01 and R10 bit 3 on; or a frame, control and data, taken by a bridge just created
+-- what is tried: cells held, with C00, C01 and R10 bit 3 on; cells held with R10 bit 3 off; or a frame, control and data, taken by a bridge
+-- just created
 pub data Trial : Type 0 where
   held : ℕ → ℕ → List ℕ → Trial
+  heldOff : List ℕ → Trial
   taken : ℕ → ℕ → Trial
 
--- what comes of it: the frames, and the bytes that are left; or the answer, and the address
+-- what comes of it: the frames, and the bytes and breaks that are left; or the answer, and the address
 pub data Result : Type 0 where
-  reads : List Said → List ℕ → Result
+  reads : List Said → List Received → Result
   answers : Said → ℕ → Result
 
 -- an example: what is tried, and what the paper says comes of it
@@ -40,12 +43,21 @@ shownAs f = frame (controlOf f) (dataOf f)
 abbrev taking : ℕ → ℕ → Did
 taking c d = step (on (loopFrame (made c d))) (world (startState 1 4 3) (0 ∷ 0 ∷ 0 ∷ 0 ∷ []) (0 ∷ 0 ∷ 0 ∷ []))
 
+-- the frames of the cells held, and what is left
+abbrev readBy : Rule → List ℕ → Result
+readBy r cells = reads (map shownAs (frames (cut r) (receivedIn cells))) (leftOver (cut r) (receivedIn cells))
+
 unfoldable pub given : Trial → Result
-given (held c0 c1 xs) = reads (map shownAs (frames (cut (rule c0 c1)) xs)) (leftOver (cut (rule c0 c1)) xs)
+given (held c0 c1 cells) = readBy (rule c0 c1) cells
+given (heldOff cells) = readBy (ruleOf startRegisters) cells
 given (taken c d) = answers (taking c d .said) (taking c d .world .state .talker .role .address)
 
+-- the cell of a byte that a break follows; the cell of any other is the byte
+abbrev broken : ℕ → ℕ
+broken b = b + 256
+
 abbrev crlf : List ℕ → List Said → List ℕ → Example
-crlf xs fs rest = record { trial = held 13 10 xs; wanted = reads fs rest }
+crlf xs fs rest = record { trial = held 13 10 xs; wanted = reads fs (receivedIn rest) }
 
 -- the pair is 13, 10 where none is said, and R10 bit 3 is on
 unfoldable pub table : List Example
@@ -64,7 +76,21 @@ table =
     -- an empty line between two others is removed
     ∷ crlf (50 ∷ 13 ∷ 10 ∷ 13 ∷ 10 ∷ 46 ∷ 13 ∷ 10 ∷ []) (frame 2 50 ∷ frame 2 46 ∷ []) []
     -- a pair of two equal characters
-    ∷ record { trial = held 10 10 (50 ∷ 10 ∷ 10 ∷ 10 ∷ 46 ∷ 53 ∷ []); wanted = reads (frame 2 50 ∷ frame 0 10 ∷ frame 0 46 ∷ []) (53 ∷ []) }
+    ∷ record { trial = held 10 10 (50 ∷ 10 ∷ 10 ∷ 10 ∷ 46 ∷ 53 ∷ []); wanted = reads (frame 2 50 ∷ frame 0 10 ∷ frame 0 46 ∷ []) (receivedIn (53 ∷ [])) }
+    -- a break is a wall: before a pair, which then closes an empty line; inside it; and where the other half may still come
+    ∷ crlf (broken 50 ∷ 13 ∷ 10 ∷ []) (frame 0 50 ∷ []) []
+    ∷ crlf (broken 13 ∷ 10 ∷ []) (frame 0 13 ∷ []) (10 ∷ [])
+    ∷ crlf (50 ∷ broken 13 ∷ 10 ∷ []) (frame 0 50 ∷ frame 0 13 ∷ []) (10 ∷ [])
+    ∷ crlf (50 ∷ broken 13 ∷ []) (frame 0 50 ∷ frame 0 13 ∷ []) []
+    ∷ crlf (broken 50 ∷ []) (frame 0 50 ∷ []) []
+    -- behind an indicator it goes with the last byte
+    ∷ crlf (50 ∷ 13 ∷ broken 10 ∷ 46 ∷ []) (frame 2 50 ∷ []) (46 ∷ [])
+    ∷ crlf (13 ∷ broken 10 ∷ []) [] []
+    -- the bits above the ninth do not count
+    ∷ crlf ((50 + 512) ∷ (13 + 1024) ∷ (10 + 65024) ∷ []) (frame 2 50 ∷ []) []
+    ∷ crlf ((broken 13 + 2048) ∷ 10 ∷ []) (frame 0 13 ∷ []) (10 ∷ [])
+    -- with R10 bit 3 off every byte is a data frame, and marks mean nothing
+    ∷ record { trial = heldOff (50 ∷ broken 13 ∷ 10 ∷ []); wanted = reads (frame 0 50 ∷ frame 0 13 ∷ frame 0 10 ∷ []) [] }
     -- the last address that can be taken
     ∷ record { trial = taken 5 158; wanted = answers (frame 5 159) 30 }
     ∷ []

@@ -1,15 +1,16 @@
 -- Every law of a bridge in one list: a bridge that is right obeys them all, and so does what opens to it.
 use mathlib.Core.List.{List, [], _∷_}
+use Rattle.bridge.specs.Calls.{receive, transmit}
 use Rattle.laws.specs.Bridges.{Law, TellingLaw}
 use Rattle.laws.specs.Answering.{AnswersSo, RefusedExactly}
-use Rattle.laws.specs.StorePlaces.{receive, transmit, Places, PlacesSince}
+use Rattle.laws.specs.StorePlaces.{Places, PlacesSince}
 use Rattle.laws.specs.Fitting.{KeepsFit, CreateMakesFit, KeepsStores}
 use Rattle.laws.specs.Starting.{StartsSo, MarginRecorded, SizesStay, ResetGivesStart}
 use Rattle.laws.specs.Showing.{ShowsSo}
 use Rattle.laws.specs.Events.{broken, overrun, pressed, Stays, Alone}
 use Rattle.laws.specs.StatusTold.{StatusTold, TellsUntilBack}
 use Rattle.laws.specs.Cleared.{Clears, NotInvented, NotAtStart}
-use Rattle.laws.specs.Demands.{RefusedStays, OneFrameOut, ElevenBits, FramesRead, NoneLost}
+use Rattle.laws.specs.Demands.{RefusedStays, OneFrameOut, ElevenBits, FramesRead, UnheldBreaks, NoneLost}
 use Rattle.laws.specs.LineBytes.{LineKept, LineSince}
 use Rattle.laws.specs.LastSent.{LastKept, LastSince, OwnGiven}
 use Rattle.laws.specs.Counting.{CountsGo, CountsSince}
@@ -30,7 +31,7 @@ laws =
     AnswersSo ∷ RefusedExactly ∷ RefusedStays ∷ OneFrameOut ∷ ElevenBits ∷ ShowsSo
     ∷ Places receive ∷ Places transmit ∷ PlacesSince receive ∷ PlacesSince transmit ∷ KeepsFit ∷ CreateMakesFit ∷ KeepsStores
     ∷ StartsSo ∷ MarginRecorded ∷ SizesStay ∷ ResetGivesStart ∷ RegistersGo ∷ RoleGoes
-    ∷ FramesRead ∷ NoneLost ∷ FramesSince ∷ SendRule ∷ NoneRemoved ∷ ReturnsJudged ∷ FramesPass ∷ EmptySendResumes
+    ∷ FramesRead ∷ UnheldBreaks ∷ NoneLost ∷ FramesSince ∷ SendRule ∷ NoneRemoved ∷ ReturnsJudged ∷ FramesPass ∷ EmptySendResumes
     ∷ Stays broken ∷ Stays overrun ∷ Stays pressed ∷ Alone broken ∷ Alone pressed
     ∷ TellsUntilBack broken ∷ TellsUntilBack overrun ∷ TellsUntilBack pressed ∷ StatusTold
     ∷ Clears broken ∷ Clears overrun ∷ Clears pressed

@@ -2,16 +2,18 @@
 -- registers are read by their bits and characters.
 use Prim.Native.Nat.{ℕ}
 use mathlib.Core.Bool.{Bool, true, false, cond, _&&_, _||_, not}
-use mathlib.Core.List.{List, [], _∷_}
+use mathlib.Core.List.{List, [], _∷_, map}
 use lib.Dec.{eqb, ltb}
+use lib.ListN.{length}
 use Rattle.frame.specs.Frame.{controlOf, dataOf, made, isData, isEnd, stripped, sameApart}
 use Rattle.registers.specs.Bits.{bit}
 use Rattle.role.specs.Role.{addressed, activeData, isActive}
-use Rattle.store.specs.Ring.{full}
+use Rattle.store.specs.Ring.{held, full}
+use Rattle.reading.specs.Received.{Received, aByte, aBreak}
 use Rattle.state.specs.declared.State.{State}
 use Rattle.answers.specs.Answers.{Said, done, none, byte, frame, refused, part, cell, lines, isRefusal}
 use Rattle.loopside.specs.Frames.{deviceClear}
-use Rattle.bridge.specs.Calls.{OnState, reset, nextLineByte, Call, create, show, on, onState, ofFrame, ofLineByte, ofWrite, is, World}
+use Rattle.bridge.specs.Calls.{OnState, reset, lineBreak, nextLineByte, Call, create, show, on, onState, ofFrame, ofLineByte, ofWrite, is, World}
 
 -- ---- answers
 
@@ -112,6 +114,28 @@ accepted c w a = cond (full (w .state .rx)) [] (arrived c w a)
 
 unfoldable pub lost : Call → World → Said → List ℕ
 lost c w a = cond (full (w .state .rx)) (arrived c w a) []
+
+-- ---- breaks
+
+-- a break is taken
+abbrev pub breaks : Call → World → Said → Bool
+breaks c w a = onOne lineBreak (taken a) false c
+
+-- something is held in the receive store
+abbrev pub holdsSome : World → Bool
+holdsSome w = ltb 0 (length (held (w .rx) (w .state .rx)))
+
+-- a break is taken while something is held
+abbrev pub marks : Call → World → Said → Bool
+marks c w a = breaks c w a && holdsSome w
+
+-- what is accepted from the line: the byte, or the break, whether anything is held or not
+unfoldable pub bytesAndBreaks : Call → World → Said → List Received
+bytesAndBreaks c w a = cond (breaks c w a) (aBreak ∷ []) (map aByte (accepted c w a))
+
+-- the same without the breaks that come while nothing is held
+unfoldable pub bytesAndMarks : Call → World → Said → List Received
+bytesAndMarks c w a = cond (marks c w a) (aBreak ∷ []) (map aByte (accepted c w a))
 
 -- ---- frames out
 

@@ -8,7 +8,7 @@ use Rattle.state.specs.declared.State.{State}
 use Rattle.state.specs.declared.Outcome.{Outcome}
 use Rattle.answers.specs.Answers.{isRefusal}
 use Rattle.bridge.specs.declared.Told.{Told}
-use Rattle.bridge.specs.Calls.{Call, create, show, World, Did, world, did, told, handed, step, Promised, unmade}
+use Rattle.bridge.specs.Calls.{Store, Call, create, show, World, Did, world, did, told, handed, step, Promised, unmade}
 
 -- two results are the same
 pub record Same (o₁ o₂ : Outcome) (rx₁ rx₂ tx₁ tx₂ : List ℕ) : Type 0 where
@@ -30,7 +30,7 @@ pub record OneResult : Type 0 where
   pub tells : (c : Call) (w : World) (t₁ t₂ : Told) (rx₁ rx₂ tx₁ tx₂ : List ℕ) →
       Promised c w (told t₁ rx₁ tx₁) → Promised c w (told t₂ rx₂ tx₂) → SameTold t₁ t₂ rx₁ rx₂ tx₁ tx₂
   -- showing returns a part and changes nothing
-  pub shown : (side : ℕ) (w : World) (x₁ x₂ : List ℕ) → Promised (show side) w (handed x₁ w) → Promised (show side) w (handed x₂ w) → x₁ ≡ x₂
+  pub shown : (side : Store) (w : World) (x₁ x₂ : List ℕ) → Promised (show side) w (handed x₁ w) → Promised (show side) w (handed x₂ w) → x₁ ≡ x₂
 
 -- what create promises does not rest on the state that stands where it makes one: called where any other state s stands, it answers the
 -- same, and leaves the same state where it is done and s where it refuses

@@ -11,7 +11,7 @@ use Rattle.frame.specs.Frame.{isData}
 use Rattle.bridge.specs.Calls.{loopFrame, Call, on, World}
 use Rattle.laws.specs.Bridges.{TellingLaw}
 use Rattle.laws.specs.Observers.{taken, onLineByte, onFrame, arrived, lost, addsFor, added}
-use Rattle.laws.specs.Worlds.{heldToSend, heldForLine}
+use Rattle.laws.specs.Worlds.{heldCells, heldForLine}
 
 -- how many places of a store hold nothing
 abbrev pub free : List ℕ → List ℕ → ℕ
@@ -19,7 +19,7 @@ free store held = length store - length held
 
 -- the room there is: of the receive store for a line byte, of the transmit store for a loop frame; any other call tells none
 abbrev pub roomThere : World → Call → ℕ
-roomThere v c = onLineByte (λ b. free (v .rx) (heldToSend v)) (onFrame (λ f. free (v .tx) (heldForLine v)) 0 c) c
+roomThere v c = onLineByte (λ b. free (v .rx) (heldCells v)) (onFrame (λ f. free (v .tx) (heldForLine v)) 0 c) c
 
 -- the room told is the room there is after the call, whatever became of the byte and whatever the frame is; a refusal is its number alone
 abbrev pub RoomTold : TellingLaw

@@ -7,11 +7,12 @@ use Rattle.machine.specs.Course.{of}
 use Rattle.machine.specs.Machine.{ofCalls}
 use Rattle.machine.specs.Turns.{Since}
 use Rattle.reading.specs.Reading.{sentRest, send}
+use Rattle.reading.specs.Received.{asHeld}
 use Rattle.reading.specs.Steps.{cut}
 use Rattle.answers.specs.Answers.{frame}
 use Rattle.bridge.specs.Calls.{loopFrame, on}
-use Rattle.laws.specs.Bridges.{Law, Saw}
-use Rattle.laws.specs.Observers.{taken, onFrame, isSend, accepted, sent, changes, empties}
+use Rattle.laws.specs.Bridges.{Law, Saw, ByteCall}
+use Rattle.laws.specs.Observers.{taken, onFrame, isSend, bytesAndBreaks, sent, changes, empties}
 use Rattle.laws.specs.Worlds.{heldToSend, ruleIn, reading}
 use Rattle.laws.specs.Demands.{lineToLoop}
 
@@ -24,19 +25,21 @@ firstOf (f ∷ fs) = f ∷ []
 pub record SendsFirst (s : Saw) : Type 0 where
   pub first : of sent s ≡ firstOf (reading (s .before) (heldToSend (s .before)))
   pub ends : reading (s .before) (heldToSend (s .before)) ≡ [] → s .answer ≡ frame 5 64
-  -- The reading rule, last: step 1 as often as it holds, also when no frame follows, and nothing more is removed after the frame
-  pub rest : heldToSend (s .after) ≡ sentRest (send (cut (ruleIn (s .before))) (heldToSend (s .before)))
+  -- The reading rule, last: step 1 as often as it holds, also when no frame follows, and nothing more is removed after the frame; a break
+  -- behind the last byte that goes is gone with it
+  pub rest : heldToSend (s .after) ≡ asHeld (sentRest (send (cut (ruleIn (s .before))) (heldToSend (s .before))))
 
 -- The reading rule, last: of every send, the answer to ready 96, or to an equal return unless finishing or of status
 abbrev pub SendRule : Law
 SendRule = ofCalls (λ s. (f : ℕ) → s .call ≡ on (loopFrame f) → taken (s .answer) ≡ true → isSend (s .before .state) f ≡ true → SendsFirst s)
 
--- no other call removes a byte, but a create, reset or device clear removes all
+-- no other call removes a byte, but a create, reset or device clear removes all. A break is held behind the newest byte: several at one place
+-- are one, and where nothing is held none is. A byte from the line is below 256, as its type says
 abbrev pub NoneRemoved : Law
 NoneRemoved =
     ofCalls
-    (λ s. of empties s ≡ false → onFrame (isSend (s .before .state)) false (s .call) ≡ false →
-    heldToSend (s .after) ≡ heldToSend (s .before) ++ of accepted s)
+    (λ s. ByteCall (s .call) → of empties s ≡ false → onFrame (isSend (s .before .state)) false (s .call) ≡ false →
+    heldToSend (s .after) ≡ asHeld (heldToSend (s .before) ++ of bytesAndBreaks s))
 
 -- ---- the receive store since it was emptied
 

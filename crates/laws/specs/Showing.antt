@@ -1,5 +1,5 @@
 -- What a show returns, by the bytes held and the places that they stand in.
-use Prim.Native.Nat.{ℕ, _-_, _≤_, min}
+use Prim.Native.Nat.{ℕ, _-_, min}
 use mathlib.Core.Path.{_≡_}
 use mathlib.Core.Bool.{false}
 use mathlib.Core.List.{List, []}
@@ -9,7 +9,7 @@ use Rattle.store.specs.declared.Ring.{Ring}
 use Rattle.store.specs.Ring.{held}
 use Rattle.answers.specs.Answers.{part}
 use Rattle.state.specs.Sizes.{fits}
-use Rattle.bridge.specs.Calls.{show}
+use Rattle.bridge.specs.Calls.{Store, show, storeOf, ringOf}
 use Rattle.laws.specs.Bridges.{Law, Saw}
 use Rattle.laws.specs.Fitting.{Fits}
 
@@ -18,16 +18,14 @@ pub record Unbroken (s : List ℕ) (r : Ring) (xs : List ℕ) : Type 0 where
   pub first : xs ≡ take (length xs) (held s r)
   pub longest : length xs ≡ min (r .len) (length s - r .oldest)
 
--- side 0 is the receive store, side 1 the transmit store
-pub record ShownRight (side : ℕ) (xs : List ℕ) (s : Saw) : Type 0 where
-  pub rx : Fits (s .before) → side ≡ 0 → Unbroken (s .before .rx) (s .before .state .rx) xs
-  pub tx : Fits (s .before) → side ≡ 1 → Unbroken (s .before .tx) (s .before .state .tx) xs
-  -- nothing for any other side, and nothing where the state does not fit
-  pub neither : 2 ≤ side → xs ≡ []
+-- of the store that is shown: cells of the receive store, bytes of the transmit store
+pub record ShownRight (side : Store) (xs : List ℕ) (s : Saw) : Type 0 where
+  pub part : Fits (s .before) → Unbroken (storeOf side (s .before)) (ringOf side (s .before .state)) xs
+  -- nothing where the state does not fit
   pub misfit : fits (s .before .state) (length (s .before .rx)) (length (s .before .tx)) ≡ false → xs ≡ []
   -- showing only looks
   pub stays : s .after ≡ s .before
 
 -- of every show; that its answer is a part is a law of its own
 abbrev pub ShowsSo : Law
-ShowsSo = ofCalls (λ s. (side : ℕ) (xs : List ℕ) → s .call ≡ show side → s .answer ≡ part xs → ShownRight side xs s)
+ShowsSo = ofCalls (λ s. (side : Store) (xs : List ℕ) → s .call ≡ show side → s .answer ≡ part xs → ShownRight side xs s)

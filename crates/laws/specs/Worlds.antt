@@ -6,12 +6,17 @@ use Rattle.registers.specs.Bits.{bit}
 use Rattle.store.specs.Ring.{held}
 use Rattle.reading.specs.declared.Rule.{Rule}
 use Rattle.reading.specs.Reading.{frames}
+use Rattle.reading.specs.Received.{Received, receivedIn}
 use Rattle.reading.specs.Steps.{cut}
 use Rattle.bridge.specs.Calls.{World}
 
--- demand 3, the bytes held to be sent on the loop
-abbrev pub heldToSend : World → List ℕ
-heldToSend w = held (w .rx) (w .state .rx)
+-- the cells held in the receive store
+abbrev pub heldCells : World → List ℕ
+heldCells w = held (w .rx) (w .state .rx)
+
+-- demand 3, what is held to be sent on the loop: bytes, and the breaks among them
+abbrev pub heldToSend : World → List Received
+heldToSend w = receivedIn (heldCells w)
 
 -- Loop to line, the bytes held for the line
 abbrev pub heldForLine : World → List ℕ
@@ -22,10 +27,10 @@ abbrev pub ruleIn : World → Rule
 ruleIn w = record { on = bit 3 (w .state .regs .r10); c00 = w .state .regs .c00; c01 = w .state .regs .c01 }
 
 -- demand 3, what the reading rule gives
-abbrev pub reading : World → List ℕ → List ℕ
+abbrev pub reading : World → List Received → List ℕ
 reading w = frames (cut (ruleIn w))
 
--- how many bytes of the receive store are free
+-- how many cells of the receive store are free
 abbrev pub room : World → ℕ
 room w = w .state .rx .cap - w .state .rx .len
 

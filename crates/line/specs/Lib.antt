@@ -1,1 +1,2 @@
 pub mod HoldingOff
+pub mod Breaks

@@ -1,9 +1,10 @@
-// The line side: bytes in, holding off, and bytes out.
+// The line side: bytes and breaks in, holding off, and bytes out.
 ghost use mathlib.Core.Path.{_≡_};
 ghost use Prim.Native.Nat.{_≤_};
 ghost use Rattle.store.specs.Ring.{Within, room};
 ghost use Rattle.state.specs.Sizes.{RxFits, TxFits};
 ghost use Rattle.line.specs.HoldingOff.{isGoOrStop, flowed, storedWith, lostState, Taken, resumed, afterWrite, nextOut, afterGiving, outAnswer};
+ghost use Rattle.line.specs.Breaks.{Marked};
 use answers::Answer;
 use registers::Registers;
 use state::Out;
@@ -61,7 +62,7 @@ fn lost(s: State) -> State
 }
 
 // A line byte taken: go and stop are never stored, any other byte is stored or lost. The room told is what the store answered.
-pub fn taken(s: State, rx: &mut [u8], b: u8) -> Took
+pub fn taken(s: State, rx: &mut [u16], b: u8) -> Took
     requires { ⌜ RxFits s (now rx) ⌝ }
     ensures { λ r. ⌜ Taken s (now (rx .entry)) b (now (rx .exit)) r ⌝ }
 {
@@ -72,7 +73,7 @@ pub fn taken(s: State, rx: &mut [u8], b: u8) -> Took
             room: left,
         };
     }
-    let o = store::put(rx, s.rx, b);
+    let o = cells::put(rx, s.rx, b as u16);
     let ring = o.ring;
     let left = o.room;
     if o.stored {
@@ -84,6 +85,19 @@ pub fn taken(s: State, rx: &mut [u8], b: u8) -> Took
     Took {
         state: lost(s),
         room: left,
+    }
+}
+
+// A break taken: the newest cell held is marked, and where nothing is held nothing is written.
+pub fn mark_break(s: State, rx: &mut [u16])
+    requires { ⌜ RxFits s (now rx) ⌝ }
+    ensures { λ _. ⌜ Marked s (now (rx .entry)) (now (rx .exit)) ⌝ }
+{
+    let ring = s.rx;
+    if 0 < ring.len {
+        let newest = cells::look(rx, ring, ring.len - 1);
+        let mark = reading::marked(newest);
+        cells::replace_newest(rx, ring, mark);
     }
 }
 

@@ -105,7 +105,7 @@ fn command(s: State, f: u16) -> Outcome
 }
 
 // A ready frame.
-fn readied(s: State, rx: &[u8], f: u16) -> Outcome
+fn readied(s: State, rx: &[u16], f: u16) -> Outcome
     requires { ⌜ RxFits s (now rx) ⌝ }
     ensures { λ r. ⌜ r ≡ ready s (now (rx .entry)) f ⌝ }
 {
@@ -140,7 +140,7 @@ fn readied(s: State, rx: &[u8], f: u16) -> Outcome
 }
 
 // The return of the frame under way.
-fn back(s: State, rx: &[u8], f: u16) -> Outcome
+fn back(s: State, rx: &[u16], f: u16) -> Outcome
     requires { ⌜ RxFits s (now rx) ⌝ }
     ensures { λ r. ⌜ r ≡ returned s (now (rx .entry)) f ⌝ }
 {
@@ -176,7 +176,7 @@ fn pass_data(s: State, tx: &mut [u8], f: u16) -> Outcome
 }
 
 // A frame that is not refused.
-pub fn frame_taken(s: State, rx: &[u8], tx: &mut [u8], f: u16) -> Outcome
+pub fn frame_taken(s: State, rx: &[u16], tx: &mut [u8], f: u16) -> Outcome
     requires { ⌜ RxFits s (now rx) ⌝ }
     requires { ⌜ TxFits s (now tx) ⌝ }
     ensures { λ r. ⌜ Framed s (now (rx .entry)) (now (tx .entry)) f (now (tx .exit)) r ⌝ }

@@ -55,7 +55,7 @@ fn send_state(before: State, after: State, given: Given) -> Outcome
 }
 
 // A send from the receive store.
-pub fn send_from(s: State, rx: &[u8]) -> Outcome
+pub fn send_from(s: State, rx: &[u16]) -> Outcome
     requires { ⌜ RxFits s (now rx) ⌝ }
     ensures { λ r. ⌜ r ≡ sendFrom s (now (rx .entry)) ⌝ }
 {

@@ -1,7 +1,7 @@
 -- The places of a store go on, whatever was removed. Assumes nothing.
-use Prim.Native.Nat.{ℕ, _+_, _-_, _%_, _≤_}
+use Prim.Native.Nat.{ℕ, _+_, _-_, _%_, _≤_, _<_}
 use native.Mathlib.Omega.{arith}
-use native.Mathlib.Nat.{mod-add-mod, zero-mod}
+use native.Mathlib.Nat.{mod-add-mod, zero-mod, add-mod-right}
 use mathlib.Core.Path.{_≡_, sym, ap, _∙_}
 use lib.ListN.{length, set}
 use Rattle.store.specs.declared.Ring.{Ring}
@@ -26,6 +26,10 @@ places-go-on =
           ap (λ (p : ℕ). (p + (r .len - n)) % length s) (place r n (f .within) h ∙ ap (λ (m : ℕ). (r .oldest + n) % m) (f .cap))
           ∙ mod-add-mod (r .oldest + n) (length s) (r .len - n)
           ∙ ap (λ (p : ℕ). p % length s) (whole (r .oldest) n (r .len) h);
+      newest = λ s r f h.
+          mod-add-mod (r .oldest + r .len) (length s) (length s - 1)
+          ∙ ap (λ (p : ℕ). p % length s) (one-less (r .oldest) (r .len) (length s) h (omega (arith, f .cap, f .within .oldest)))
+          ∙ add-mod-right (r .oldest + (r .len - 1)) (length s);
     }
   where
     plus : (a b : ℕ) → (a + b) + 1 ≡ a + (b + 1)
@@ -33,3 +37,6 @@ places-go-on =
 
     whole : (a n b : ℕ) → n ≤ b → (a + n) + (b - n) ≡ a + b
     whole a n b h = omega arith
+
+    one-less : (a n c : ℕ) → 0 < n → 0 < c → (a + n) + (c - 1) ≡ (a + (n - 1)) + c
+    one-less a n c h g = omega arith

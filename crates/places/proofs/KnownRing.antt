@@ -17,7 +17,9 @@ use Rattle.store.specs.Ring.{Within, Fit, wrap, held, run, full, putBytes, drop
 use Rattle.store.specs.Promises.{Offering, Put, Dropped, Spanned, Shown}
 use Rattle.store.proofs.Laws.{wrap-low, wrap-high, held-at, held-length, run-part}
 use Rattle.store.proofs.Laws.{offered-room, offered-full, offered-one, put-at, put-kept, drop-met, shown-met}
-use Rattle.places.specs.GoingRound.{byRemainder, together, offered, placeBy, putBy, lookBy, dropBy, bytesBy}
+use Rattle.cells.specs.Newest.{replacedCells}
+use Rattle.cells.proofs.Newest.{replaced-at}
+use Rattle.places.specs.GoingRound.{byRemainder, together, offered, placeBy, putBy, replaceBy, lookBy, dropBy, bytesBy}
 use Rattle.places.specs.GoingRound.{AsByRemainder, AllByRemainder, promised, HeldByRemainder}
 
 -- ---- going round once, by a comparison and by the remainder
@@ -64,6 +66,10 @@ put s r b o a f p = (
   offered-one (p .offering) (offered-so r),
 )
 
+replaced-by : (s : List ℕ) (r : Ring) (b : ℕ) → Fit s r → replacedCells s r b ≡ replaceBy byRemainder s r b
+unfolding replacedCells
+replaced-by s r b f = ap (λ (n : ℕ). set s n b) (place r (r .len - 1) (f .within) (omega arith))
+
 dropped : (r : Ring) (n : ℕ) (o : Ring) → Within r → n ≤ r .len → Dropped r n o → o ≡ dropBy byRemainder r n
 unfolding dropRing
 dropped r n o f h d = d .ring ∙ (λ i. record { cap = r .cap; oldest = place r n f h i; len = r .len - n })
@@ -99,6 +105,7 @@ as-by-remainder =
     record {
       place = λ r k o f h e. e ∙ place r k f h;
       put = put;
+      replaced = λ s r b o f h p. p .cells ∙ replaced-by s r b f;
       look = λ s r k o f h e. e ∙ look s r k f h;
       dropped = dropped;
       span = span;
@@ -129,6 +136,7 @@ all-by-remainder =
     record {
       place = λ r k f h. sym (place r k f h);
       put = put-given;
+      replaced = λ s r b f h. replaced-at s r b _ f h (sym (place r (r .len - 1) (f .within) (omega arith)));
       look = λ s r k f h. sym (look s r k f h);
       dropped = λ r n f h. drop-met r n (placeBy byRemainder r n) h (sym (place r n f h));
       span = λ r f. spanned-from r (placeBy byRemainder r 0) f (first-place r f);

@@ -9,7 +9,7 @@ use Rattle.store.specs.declared.Ring.{Ring}
 use Rattle.store.specs.Ring.{Within, Fit}
 use Rattle.places.specs.GoingRound.{GoingRound, byRemainder, AsByRemainder, AllByRemainder}
 use Rattle.places.specs.WrongGoingRound.{late, masked, toTheSecond, byEquality, signed, atTheLargest}
-use Rattle.places.specs.WrongGoingRound.{storeBy, goingBy, dropsByEquality, silent, stopsAtTheEnd}
+use Rattle.places.specs.WrongGoingRound.{storeBy, goingBy, dropsByEquality, replacesTheOldest, silent, stopsAtTheEnd}
 
 -- a store that 1, 2 and 3 stand in, of which len are held from this place on
 abbrev oneToThree : List ℕ
@@ -29,6 +29,13 @@ pub late-falls : AsByRemainder (goingBy late) → ⊥
 late-falls law =
     let p = law .put oneToThree (ringOfThree 1 2) 4 _ _ (fits 1 2 (omega arith) (omega arith)) (refl, refl) in
     let z : _≡_ {A = ℕ} 1 4 = ap (λ (l : List ℕ). getD l 0 0) (p .0) in
+    omega (arith, z)
+
+-- 1 and 2 are held, and the mark of 2 stands at 1
+pub replaces-falls : AsByRemainder replacesTheOldest → ⊥
+replaces-falls law =
+    let p = law .replaced oneToThree (ringOfThree 0 2) 4 _ (fits 0 2 (omega arith) (omega arith)) (omega arith) refl in
+    let z : _≡_ {A = ℕ} 4 1 = ap (λ (l : List ℕ). getD l 0 0) p in
     omega (arith, z)
 
 -- 1 and 2 are held, and the second is read as 1

@@ -11,6 +11,7 @@ use Rattle.store.specs.declared.Offered.{Offered}
 use Rattle.store.specs.declared.Stretch.{Stretch}
 use Rattle.store.specs.Ring.{Within, Fit, wrap, held}
 use Rattle.store.specs.Promises.{Put, Dropped, Spanned, Shown}
+use Rattle.cells.specs.Newest.{Replaced}
 
 -- a way of going round: from the number of places of a store, and a place that may be past the last, the place that is meant
 abbrev pub GoingRound : Type 0
@@ -42,6 +43,10 @@ module _ (g : GoingRound) where
   abbrev pub putBy : List ℕ → Ring → ℕ → List ℕ
   putBy s r b = cond (leb (r .cap) (r .len)) s (set s (placeBy r (r .len)) b)
 
+  -- the newest byte written again
+  abbrev pub replaceBy : List ℕ → Ring → ℕ → List ℕ
+  replaceBy s r b = set s (placeBy r (r .len - 1)) b
+
   -- the k-th oldest byte
   abbrev pub lookBy : List ℕ → Ring → ℕ → ℕ
   lookBy s r k = getD s (placeBy r k) 0
@@ -57,11 +62,12 @@ module _ (g : GoingRound) where
 
 -- ---- any store
 
--- by what its calls may give: the place of the k-th oldest, what a put leaves and answers, what a look answers, the ring that a drop leaves,
--- the places of the part that is shown, and the part
+-- by what its calls may give: the place of the k-th oldest, what a put leaves and answers, what the newest written again leaves, what a look
+-- answers, the ring that a drop leaves, the places of the part that is shown, and the part
 pub record Giving : Type 1 where
   pub Place : Ring → ℕ → ℕ → Type 0
   pub Puts : List ℕ → Ring → ℕ → List ℕ → Offered → Type 0
+  pub Replaces : List ℕ → Ring → ℕ → List ℕ → Type 0
   pub Looks : List ℕ → Ring → ℕ → ℕ → Type 0
   pub Drops : Ring → ℕ → Ring → Type 0
   pub Spans : Ring → Stretch → Type 0
@@ -72,6 +78,7 @@ pub record Giving : Type 1 where
 pub record AsByRemainder (S : Giving) : Type 0 where
   pub place : (r : Ring) (k o : ℕ) → Within r → k ≤ r .len → S .Place r k o → o ≡ placeBy byRemainder r k
   pub put : (s : List ℕ) (r : Ring) (b : ℕ) (o : List ℕ) (a : Offered) → Fit s r → S .Puts s r b o a → (o ≡ putBy byRemainder s r b) × (a ≡ offered r)
+  pub replaced : (s : List ℕ) (r : Ring) (b : ℕ) (o : List ℕ) → Fit s r → 0 < r .len → S .Replaces s r b o → o ≡ replaceBy byRemainder s r b
   pub look : (s : List ℕ) (r : Ring) (k o : ℕ) → Fit s r → k < r .len → S .Looks s r k o → o ≡ lookBy byRemainder s r k
   pub dropped : (r : Ring) (n : ℕ) (o : Ring) → Within r → n ≤ r .len → S .Drops r n o → o ≡ dropBy byRemainder r n
   pub span : (r : Ring) (o : Stretch) → Within r → S .Spans r o → (o .start ≡ placeBy byRemainder r 0) × (o .end ≡ o .start + together r)
@@ -81,6 +88,7 @@ pub record AsByRemainder (S : Giving) : Type 0 where
 pub record AllByRemainder (S : Giving) : Type 0 where
   pub place : (r : Ring) (k : ℕ) → Within r → k ≤ r .len → S .Place r k (placeBy byRemainder r k)
   pub put : (s : List ℕ) (r : Ring) (b : ℕ) → Fit s r → S .Puts s r b (putBy byRemainder s r b) (offered r)
+  pub replaced : (s : List ℕ) (r : Ring) (b : ℕ) → Fit s r → 0 < r .len → S .Replaces s r b (replaceBy byRemainder s r b)
   pub look : (s : List ℕ) (r : Ring) (k : ℕ) → Fit s r → k < r .len → S .Looks s r k (lookBy byRemainder s r k)
   pub dropped : (r : Ring) (n : ℕ) → Within r → n ≤ r .len → S .Drops r n (dropBy byRemainder r n)
   pub span : (r : Ring) → Within r → S .Spans r (record { start = placeBy byRemainder r 0; end = placeBy byRemainder r 0 + together r })
@@ -94,6 +102,7 @@ promised =
     record {
       Place = λ r k o. o ≡ wrap (r .cap) (r .oldest + k);
       Puts = Put;
+      Replaces = Replaced;
       Looks = λ s r k o. o ≡ getD (held s r) k 0;
       Drops = Dropped;
       Spans = Spanned;

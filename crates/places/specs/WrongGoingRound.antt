@@ -4,7 +4,8 @@ use mathlib.Core.Path.{_≡_}
 use mathlib.Core.Bool.{cond, _&&_}
 use lib.Bits.{bitAnd}
 use lib.Dec.{eqb, leb, ltb}
-use Rattle.places.specs.GoingRound.{GoingRound, byRemainder, Giving, together, offered, placeBy, putBy, lookBy, dropBy, bytesBy}
+use lib.ListN.{set}
+use Rattle.places.specs.GoingRound.{GoingRound, byRemainder, Giving, together, offered, placeBy, putBy, replaceBy, lookBy, dropBy, bytesBy}
 
 -- one place late: the place past the last is taken for one of the store
 abbrev pub late : GoingRound
@@ -38,6 +39,7 @@ storeBy g h =
     record {
       Place = λ r k o. o ≡ placeBy g r k;
       Puts = λ s r b o a. (o ≡ putBy g s r b) × (a ≡ offered r);
+      Replaces = λ s r b o. o ≡ replaceBy g s r b;
       Looks = λ s r k o. o ≡ lookBy g s r k;
       Drops = λ r n o. o ≡ dropBy h r n;
       Spans = λ r o. (o .start ≡ placeBy g r 0) × (o .end ≡ o .start + together r);
@@ -52,12 +54,26 @@ goingBy g = storeBy g g
 abbrev pub dropsByEquality : Giving
 dropsByEquality = storeBy byRemainder byEquality
 
+-- right in all but the newest written again, which it takes for the oldest
+abbrev pub replacesTheOldest : Giving
+replacesTheOldest =
+    record {
+      Place = goingBy byRemainder .Place;
+      Puts = goingBy byRemainder .Puts;
+      Replaces = λ s r b o. o ≡ set s (placeBy byRemainder r 0) b;
+      Looks = goingBy byRemainder .Looks;
+      Drops = goingBy byRemainder .Drops;
+      Spans = goingBy byRemainder .Spans;
+      Shows = goingBy byRemainder .Shows;
+    }
+
 -- gives nothing at all
 abbrev pub silent : Giving
 silent =
     record {
       Place = λ r k o. ⊥;
       Puts = λ s r b o a. ⊥;
+      Replaces = λ s r b o. ⊥;
       Looks = λ s r k o. ⊥;
       Drops = λ r n o. ⊥;
       Spans = λ r o. ⊥;
@@ -70,6 +86,7 @@ stopsAtTheEnd =
     record {
       Place = goingBy byRemainder .Place;
       Puts = goingBy byRemainder .Puts;
+      Replaces = goingBy byRemainder .Replaces;
       Looks = goingBy byRemainder .Looks;
       Drops = λ r n o. (o ≡ dropBy byRemainder r n) × (r .oldest + n < r .cap);
       Spans = goingBy byRemainder .Spans;

@@ -1,12 +1,12 @@
 -- The bridge is formed as a product with C functions has to be. Assumes nothing.
 use Prim.Native.Nat.{ℕ}
-use mathlib.Core.Path.{_≡_, refl, sym, subst, _∙_}
+use mathlib.Core.Path.{_≡_, refl, sym, ap, subst, _∙_}
 use mathlib.Core.Bool.{Bool, true, false, false≢true}
 use mathlib.Core.List.{List}
 use lib.ListN.{length}
 use Rattle.answers.specs.Refusals.{Check, firstRefusal}
 use Rattle.answers.specs.Refusing.{Refuses}
-use Rattle.answers.specs.Answers.{isRefusal}
+use Rattle.answers.specs.Answers.{part, isRefusal}
 use Rattle.answers.specs.Word.{valueOf}
 use Rattle.boundary.specs.Product as product
 use Rattle.boundary.specs.Formed.{Formed}
@@ -14,7 +14,7 @@ use Rattle.state.specs.declared.State.{State}
 use Rattle.state.specs.Sizes.{sizesObeyed}
 use Rattle.state.proofs.Fits.{rx-fits, tx-fits}
 use Rattle.block.proofs.Laws.{no-state-misfits}
-use Rattle.bridge.specs.Calls.{Call, create, show, on, World, world, Did, checks, notRefused, refusedOr, shown, step}
+use Rattle.bridge.specs.Calls.{Store, receive, transmit, Call, create, show, on, World, world, Did, checks, notRefused, refusedOr, shown, step}
 use Rattle.laws.proofs.Answers as bridge-answers
 use Rattle.laws.proofs.Refusing.{by-refusal}
 use Rattle.raftershim.specs.Bridge.{callKind, bridges}
@@ -47,6 +47,12 @@ module _ (m : ℕ) (s t : State) (xs ys : List ℕ) where
       pick true e h = rw e
       pick false e h = absurd (false≢true (sym (rw e at h)))
 
+-- what the bridge shows of a store is what is shown of its side
+same-shown : (side : Store) (w : World) → shown side w ≡ product.shown bridges side (bridges .apart w)
+unfolding shown product.shown
+same-shown receive w = refl
+same-shown transmit w = refl
+
 named : (c : Call) → product.callOf bridges (callKind c) ≡ c
 named (create m) = refl
 named (show side) = refl
@@ -64,7 +70,7 @@ unfolding notRefused
 create-alone m w = by-refusal (λ (d : Did). d .room ≡ 0) (create m) w (λ _. refl) (λ _. refl)
 
 pub formed : Formed bridges
-unfolding step refusedOr checks notRefused shown product.shown valueOf
+unfolding step refusedOr checks notRefused valueOf
 formed =
     record {
       there = λ w. refl;
@@ -77,7 +83,7 @@ formed =
       first = λ h e. rx-fits (h .state) (h .first) (h .second) e .ring;
       second = λ h e. tx-fits (h .state) (h .first) (h .second) e .ring;
       refuses = λ c w. subst (λ (l : List Check). Refuses (step c w .said) (step c w .world) (firstRefusal l) w) (same-checks c w) (bridge-answers.refuses c w);
-      shows = λ side w. refl;
+      shows = λ side w. ap part (same-shown side w);
       looks = λ side w. refl;
       creates = λ m s t xs ys. record { answer = same-answer m s t xs ys; made = same-made m s t xs ys };
       alone = alone;

@@ -1,11 +1,12 @@
--- What every call keeps: counts in 32 bits, numbers that fit their places, and stores of bytes. Assumes nothing.
+-- What every call keeps: counts in 32 bits, numbers that fit their places, a receive store of cells and a transmit store of bytes. Assumes nothing.
+use Prim.{tt}
 use Prim.Native.Nat.{ℕ, _<_}
 use native.Mathlib.Omega.{arith}
 use mathlib.Core.Path.{_≡_, refl}
 use mathlib.Core.Bool.{Bool, true, false, _&&_}
 use mathlib.Core.List.{List}
 use lib.ListN.{length}
-use lib.Dec.{eqb}
+use lib.Dec.{eqb, ltb}
 use Rattle.branches.proofs.Branches.{by-cond}
 use Rattle.answers.specs.Answers.{done, refused}
 use Rattle.frame.specs.Frame.{dataOf, isEnd}
@@ -22,17 +23,21 @@ use Rattle.state.specs.declared.Out.the-variants as out
 use Rattle.state.specs.Counts.{counted}
 use Rattle.state.specs.Sizes.{sizesObeyed, startState, fits}
 use Rattle.state.specs.Conditions.{settled, afterStatusBack, afterStatus, breakState, keyState}
-use Rattle.line.specs.HoldingOff.{isGoOrStop, flowed, storedWith, lostState, lineState, resumed, setAfresh, afterWrite, nextOut, afterGiving}
+use Rattle.line.specs.Breaks.{breakCells}
+use Rattle.line.specs.HoldingOff.{isGoOrStop, flowed, storedWith, lostState, lineState, lineBytes, resumed, setAfresh, afterWrite, nextOut, afterGiving}
 use Rattle.loopside.specs.LoopToLine.{adds, addedState, addedBytes}
 use Rattle.loopside.specs.Sends.{ended, ruleOf, removedState, sendState, sendFrom, sendStatus}
 use Rattle.loopside.specs.Frames.{cleared, obeyed, deviceClear, addsBytes, frameBytes}
+use Rattle.laws.specs.Bridges.{ByteCall}
 use Rattle.laws.proofs.Fitting.{keeps-fit}
-use Rattle.laws.proofs.Small.{put-bytes}
 use Rattle.block.specs.States.{CountsRanged, Ranged}
 use Rattle.store.specs.Bytes.{Bytes}
+use Rattle.cells.specs.Cells.{Cells}
+use Rattle.cells.specs.Newest.{replacedCells}
+use Rattle.boundary.proofs.Stored.{set-below, put-below}
 use Rattle.block.proofs.Laws.{counts-ranged, fits-ranged, obeyed-ranged}
 use Rattle.bridge.specs.Calls.{OnState, Call, on, create, reset, write, lineByte, lineBreak, key, nextLineByte, loopFrame}
-use Rattle.bridge.specs.Calls.{show, World, Did, checks, outcome, settledBy, txAfter, roomOf, notRefused, refusedOr, step}
+use Rattle.bridge.specs.Calls.{show, World, Did, checks, outcome, settledBy, rxAfter, txAfter, roomOf, notRefused, refusedOr, step}
 use Rattle.laws.proofs.Refusing.{by-refusal}
 use Rattle.laws.proofs.Ways.{Way, isNext, isBack, isLast, isDamaged, isStored, isPassed, isCleared}
 use Rattle.laws.proofs.Ways.{isObeyed, isAssigned, isSendAsked, isTold, isFinishing, isReady, isIdentified, way}
@@ -129,16 +134,40 @@ counts-kept c w k = after (λ (x : World). Counted (x .state)) c w k (accepted-c
 
 -- ---- the stores
 
+-- a byte from the line is a cell, and so is one that a break marks
+line-cells : (s : State) (rx : List ℕ) (b : ℕ) → b < 256 → Cells rx → Cells (lineBytes s rx b)
+unfolding lineBytes
+line-cells s rx b h k = by-cond Cells (isGoOrStop (s .regs) b) _ _ (λ e. k) (λ e. put-below 65536 b (omega arith) rx (s .rx) k)
+
+break-cells : (s : State) (rx : List ℕ) → Cells rx → Cells (breakCells s rx)
+unfolding breakCells replacedCells
+break-cells s rx k = by-cond Cells (ltb 0 (s .rx .len)) _ _ (λ e. set-below 65536 _ (omega arith) rx _ k) (λ e. k)
+
+accepted-rx : (c : Call) (w : World) → ByteCall c → Cells (w .rx) → Cells (notRefused c w .world .rx)
+unfolding notRefused rxAfter
+accepted-rx (on (lineByte b)) w h k = line-cells (w .state) (w .rx) b h k
+accepted-rx (on lineBreak) w h k = break-cells (w .state) (w .rx) k
+accepted-rx (create m) w h k = k
+accepted-rx (on reset) w h k = k
+accepted-rx (on (write n v)) w h k = k
+accepted-rx (on key) w h k = k
+accepted-rx (on nextLineByte) w h k = k
+accepted-rx (on (loopFrame f)) w h k = k
+accepted-rx (show side) w h k = k
+
+pub rx-kept : (c : Call) (w : World) → ByteCall c → Cells (w .rx) → Cells (step c w .world .rx)
+rx-kept c w h k = after (λ (x : World). Cells (x .rx)) c w k (accepted-rx c w h k)
+
 -- what a data frame adds to the transmit store is bytes
 left-bytes : (s : State) (tx : List ℕ) (f : ℕ) → Ranged s → Bytes tx → Bytes (addedBytes s tx f)
 unfolding addedBytes adds putsBytes
 left-bytes s tx f h k =
     by-cond (λ (l : List ℕ). Bytes (putsBytes tx (s .tx) l)) (isEnd f && endInserted (s .regs)) _ _
-    (λ e. put-bytes _ _ (s .regs .c03) (omega arith) (put-bytes _ _ (s .regs .c02) (omega arith) first))
+    (λ e. put-below 256 (s .regs .c03) (omega arith) _ _ (put-below 256 (s .regs .c02) (omega arith) _ _ first))
     (λ e. first)
   where
     first : Bytes (putBytes tx (s .tx) (dataOf f))
-    first = put-bytes tx (s .tx) (dataOf f) (omega arith) k
+    first = put-below 256 (dataOf f) (omega arith) tx (s .tx) k
 
 accepted-tx : (c : Call) (w : World) → Ranged (w .state) → Bytes (w .tx) → Bytes (notRefused c w .world .tx)
 unfolding notRefused txAfter frameBytes
@@ -172,12 +201,12 @@ misfit-ranged (create m) w e h = pick (sizesObeyed m (length (w .rx)) (length (w
 misfit-ranged (show side) w e h = h
 misfit-ranged (on c) w e h = rw e h
 
-pub ranged-kept : (c : Call) (w : World) → Ranged (w .state) → Bytes (w .rx) → Ranged (step c w .world .state)
-ranged-kept c w h k = pick (fits (w .state) (length (w .rx)) (length (w .tx))) refl
+pub ranged-kept : (c : Call) (w : World) → Ranged (w .state) → Ranged (step c w .world .state)
+ranged-kept c w h = pick (fits (w .state) (length (w .rx)) (length (w .tx))) refl
   where
     pick : (t : Bool) → fits (w .state) (length (w .rx)) (length (w .tx)) ≡ t → Ranged (step c w .world .state)
     pick true e =
-        fits-ranged (step c w .world .state) (step c w .world .rx) (step c w .world .tx) (keeps-fit c w k e) (counts-kept c w (counts-ranged (w .state) h))
+        fits-ranged (step c w .world .state) (step c w .world .rx) (step c w .world .tx) (keeps-fit c w tt e) (counts-kept c w (counts-ranged (w .state) h))
     pick false e = misfit-ranged c w e h
 
 -- of a create that is done, whatever stood there
@@ -202,7 +231,7 @@ room-ranged lineBreak s h = omega arith
 room-ranged key s h = omega arith
 room-ranged nextLineByte s h = omega arith
 
-pub room-small : (c : OnState) (w : World) → Ranged (w .state) → Bytes (w .rx) → step (on c) w .room < 65536
+pub room-small : (c : OnState) (w : World) → Ranged (w .state) → step (on c) w .room < 65536
 unfolding notRefused
-room-small c w h k =
-    by-refusal (λ (d : Did). Ranged (d .world .state) → d .room < 65536) (on c) w (λ _ r. room-ranged c _ r) (λ _ r. omega arith) (ranged-kept (on c) w h k)
+room-small c w h =
+    by-refusal (λ (d : Did). Ranged (d .world .state) → d .room < 65536) (on c) w (λ _ r. room-ranged c _ r) (λ _ r. omega arith) (ranged-kept (on c) w h)

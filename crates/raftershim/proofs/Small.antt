@@ -15,7 +15,7 @@ use Rattle.state.specs.declared.State.{State}
 use Rattle.answers.specs.declared.Answer.{Answer}
 use Rattle.answers.specs.declared.Answer.the-variants as answer
 use Rattle.answers.specs.Answers.{Said, said, byte}
-use Rattle.state.proofs.Fits.{rx-fits, tx-fits}
+use Rattle.state.proofs.Fits.{tx-fits}
 use Rattle.line.specs.HoldingOff.{owed, nextOut, outAnswer}
 use Rattle.loopside.specs.Frames.{frameTaken}
 use Rattle.block.specs.States.{Ranged}
@@ -25,9 +25,9 @@ use Rattle.bridge.specs.Calls.{show, on, World, Did, checksOn, checks, outcome,
 use Rattle.laws.proofs.Refusing.{by-refusal, fitting, frame-fitting}
 use Rattle.laws.proofs.Ways.{way}
 use Rattle.runs.proofs.ElevenBits.{SmallFrame, frame-small}
-use Rattle.laws.proofs.Small.{held-bytes}
 use Rattle.answers.specs.Word.{word}
 use Rattle.boundary.specs.Numbers.{answerOf}
+use Rattle.boundary.proofs.Stored.{held-below}
 use Rattle.boundary.proofs.Words as words
 
 -- ---- answers of 16 bits
@@ -75,7 +75,7 @@ next-small s tx r fit b =
     (λ e. by-cond (λ (n : ℕ). n < 65536) (s .line .holding) _ _ (λ e. omega arith) (λ e. omega arith))
     (λ e. by-cond (λ o. Small (outAnswer o)) (s .line .forbidden || eqb (s .tx .len) 0) _ _
     (λ e. tt)
-    (λ e. omega (arith, held-bytes tx (s .tx) fit b 0)))
+    (λ e. omega (arith, held-below 256 tx (s .tx) fit b 0)))
 
 -- ---- every call
 
@@ -106,10 +106,10 @@ unfolding notRefused
 create-told m w = small-tells answer.Done tt
 
 -- what a call on a state answers is small
-pub on-told : (c : OnState) (w : World) → Ranged (w .state) → Bytes (w .rx) → Bytes (w .tx) → firstRefusal (checks (on c) w) ≡ 0 →
+pub on-told : (c : OnState) (w : World) → Ranged (w .state) → Bytes (w .tx) → firstRefusal (checks (on c) w) ≡ 0 →
     Tells (notRefused (on c) w .said)
 unfolding notRefused outcome
-on-told c w r b k e = small-tells (outcome c w .answer) (small c e)
+on-told c w r k e = small-tells (outcome c w .answer) (small c e)
   where
     small : (c : OnState) → firstRefusal (checks (on c) w) ≡ 0 → Small (outcome c w .answer)
     small reset e = tt
@@ -121,5 +121,5 @@ on-told c w r b k e = small-tells (outcome c w .answer) (small c e)
     small (loopFrame f) e =
         let x = frame-fitting f w e in
         frame-told (frameTaken (w .state) (w .rx) f .answer)
-        (frame-small (w .state) (w .rx) (rx-fits (w .state) (w .rx) (w .tx) (x .0) .ring) b f (omega (arith, ltb-false 2047 f (x .1 .0)))
+        (frame-small (w .state) (w .rx) f (omega (arith, ltb-false 2047 f (x .1 .0)))
         (frameTaken (w .state) (w .rx) f) (way (w .state) (w .rx) f))

@@ -1,4 +1,4 @@
--- What is built, the C functions: numbers and byte buffers, the state in a lent block of one length, and refusal 2 for a block that is no
+-- What is built, the C functions: numbers and buffers of bytes and of cells, the state in a lent block of one length, and refusal 2 for a block that is no
 -- fitting state; showing alone gets no refusal.
 use Prim.Native.Nat.{ℕ}
 use mathlib.Core.List.{List}

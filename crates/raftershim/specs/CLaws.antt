@@ -5,7 +5,7 @@ use Rattle.raftershim.specs.Bridge.{bridges}
 
 -- ---- the answer
 
--- What a reader may hold us to, first: two results that a C function's promise allows are equal, the number and every byte of the three
+-- What a reader may hold us to, first: two results that a C function's promise allows are equal, the number and every number in the three
 -- buffers. It is said of `CPromised`, which the contracts of the C functions cite.
 abbrev pub OneResultInC : Type 0
 OneResultInC = boundary.OneResultInC bridges
@@ -21,7 +21,7 @@ ReservedZero = numbers.ReservedZero
 abbrev pub NoRoomAlone : Type 0
 NoRoomAlone = numbers.NoRoomAlone
 
--- Sizes and refusals, showing: from the oldest byte on, as far as the bytes stand together, as a part of the buffer of that side
+-- Sizes and refusals, showing: from the oldest cell or byte on, as far as they stand together, as a part of the buffer of that store
 abbrev pub ShownPlace : Type 0
 ShownPlace = boundary.ShownPlace bridges
 

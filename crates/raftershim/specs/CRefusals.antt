@@ -19,7 +19,7 @@ misfitBlock l = boundary.misfitBlock bridges l
 abbrev pub cChecks : Call → Lent → List Check
 cChecks c l = boundary.cChecks bridges (callKind c) l
 
--- Sizes and refusals, the table: every C call, on any buffers of bytes, a block of any length among them, answers by its number the refusal
+-- Sizes and refusals, the table: every C call, on any buffers, a block of any length among them, answers by its number the refusal
 -- of the first of its checks that is given, and only then a refusal
 abbrev pub RefusedExactlyInC : Type 0
 RefusedExactlyInC = boundary.RefusedExactlyInC bridges

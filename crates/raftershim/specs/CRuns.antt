@@ -17,13 +17,13 @@ words cs w = boundary.words bridges cs w
 abbrev pub cWords : List Call → Lent → List ℕ
 cWords cs l = boundary.cWords bridges cs l
 
--- what the types of the code give of every world: numbers that fit their places, and a receive store of bytes
+-- what the types of the code give of every world: numbers that fit their places
 abbrev pub Typed : World → Type 0
 Typed w = boundary.Typed bridges w
 
--- what the types of the C functions give of lent buffers: numbers that are bytes
-abbrev pub OfBytes : Lent → Type 0
-OfBytes l = boundary.Lendable bridges l
+-- what the types of the C functions give of lent buffers: a receive store of cells, and bytes in the other two
+abbrev pub Lendable : Lent → Type 0
+Lendable l = boundary.Lendable bridges l
 
 -- and a lent block of the one length, a state or not
 abbrev pub Whole : Lent → Type 0

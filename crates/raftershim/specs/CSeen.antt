@@ -7,7 +7,7 @@ use Rattle.laws.specs.Bridges.{Machine, Law, TellingMachine, TellingLaw, tellin
 use Rattle.laws.specs.Laws.{laws, rooms}
 use Rattle.raftershim.specs.Bridge.{bridges}
 
--- the buffers stand for a world, and the number tells the answer and the room; the types give a block of the one length, and bytes
+-- the buffers stand for a world, and the number tells the answer and the room; the types give a block of the one length, cells and bytes
 abbrev pub cTelling : TellingMachine
 cTelling = boundary.cTelling bridges
 

@@ -1,16 +1,15 @@
-// The bridge as C functions: a lent block that holds the state, two lent stores, and numbers. Each answers one number of 64 bits.
+// The bridge as C functions: a lent block that holds the state, a lent store of cells and one of bytes, and numbers. Each answers one number of
+// 64 bits.
 ghost use mathlib.Core.Path.{_≡_};
 ghost use mathlib.Core.Bool.{false};
 ghost use lib.ListN.{length};
 ghost use Rattle.answers.specs.Answers.{said, isRefusal};
 ghost use Rattle.block.specs.Packed.{blockLen};
-ghost use Rattle.bridge.specs.Calls.{create, show, on, reset, write, lineByte, lineBreak, key, nextLineByte, loopFrame};
+ghost use Rattle.bridge.specs.Calls.{create, show, receive, transmit, on, reset, write, lineByte, lineBreak, key, nextLineByte, loopFrame};
 ghost use Rattle.answers.specs.Word.{wordWith};
-ghost use Rattle.raftershim.specs.ShownWord.{placeOf};
 ghost use Rattle.raftershim.specs.CCalls.{lent, cDid, blockAfter, CPromised};
 use answers::Answer;
 use state::Outcome;
-use state::State;
 
 // Writes the state over the block, unless the call was refused, and gives the answer's number, which tells this room; 0 where none is told.
 fn finished(block: &mut [u8], o: Outcome, room: u16) -> u64
@@ -37,7 +36,7 @@ pub extern "C" fn raftershim_block_len() -> usize
 
 // Makes a state for these stores in the block.
 #[no_mangle]
-pub extern "C" fn raftershim_create(block: &mut [u8], rx: &[u8], tx: &[u8], margin: u32) -> u64
+pub extern "C" fn raftershim_create(block: &mut [u8], rx: &[u16], tx: &[u8], margin: u32) -> u64
     ensures { λ r. ⌜ CPromised (create margin)
         (lent (now (block .entry)) (now (rx .entry)) (now (tx .entry)))
         (cDid r (now (block .exit)) (now (rx .entry)) (now (tx .entry))) ⌝ }
@@ -51,7 +50,7 @@ pub extern "C" fn raftershim_create(block: &mut [u8], rx: &[u8], tx: &[u8], marg
 
 // Resets the state.
 #[no_mangle]
-pub extern "C" fn raftershim_reset(block: &mut [u8], rx: &[u8], tx: &[u8]) -> u64
+pub extern "C" fn raftershim_reset(block: &mut [u8], rx: &[u16], tx: &[u8]) -> u64
     ensures { λ r. ⌜ CPromised (on reset)
         (lent (now (block .entry)) (now (rx .entry)) (now (tx .entry)))
         (cDid r (now (block .exit)) (now (rx .entry)) (now (tx .entry))) ⌝ }
@@ -65,7 +64,7 @@ pub extern "C" fn raftershim_reset(block: &mut [u8], rx: &[u8], tx: &[u8]) -> u6
 #[no_mangle]
 pub extern "C" fn raftershim_write_register(
     block: &mut [u8],
-    rx: &[u8],
+    rx: &[u16],
     tx: &[u8],
     number: u32,
     value: u32,
@@ -81,7 +80,7 @@ pub extern "C" fn raftershim_write_register(
 
 // Takes a line byte, and tells the room of the receive store.
 #[no_mangle]
-pub extern "C" fn raftershim_line_byte(block: &mut [u8], rx: &mut [u8], tx: &[u8], byte: u8) -> u64
+pub extern "C" fn raftershim_line_byte(block: &mut [u8], rx: &mut [u16], tx: &[u8], byte: u8) -> u64
     ensures { λ r. ⌜ CPromised (on (lineByte byte))
         (lent (now (block .entry)) (now (rx .entry)) (now (tx .entry)))
         (cDid r (now (block .exit)) (now (rx .exit)) (now (tx .entry))) ⌝ }
@@ -92,9 +91,9 @@ pub extern "C" fn raftershim_line_byte(block: &mut [u8], rx: &mut [u8], tx: &[u8
     finished(block, o, taken.room)
 }
 
-// Takes a break on the line.
+// Takes a break on the line, and marks it behind the newest byte of the receive store.
 #[no_mangle]
-pub extern "C" fn raftershim_break(block: &mut [u8], rx: &mut [u8], tx: &[u8]) -> u64
+pub extern "C" fn raftershim_break(block: &mut [u8], rx: &mut [u16], tx: &[u8]) -> u64
     ensures { λ r. ⌜ CPromised (on lineBreak)
         (lent (now (block .entry)) (now (rx .entry)) (now (tx .entry)))
         (cDid r (now (block .exit)) (now (rx .exit)) (now (tx .entry))) ⌝ }
@@ -106,7 +105,7 @@ pub extern "C" fn raftershim_break(block: &mut [u8], rx: &mut [u8], tx: &[u8]) -
 
 // Takes a press of the MSRQ key.
 #[no_mangle]
-pub extern "C" fn raftershim_key(block: &mut [u8], rx: &[u8], tx: &[u8]) -> u64
+pub extern "C" fn raftershim_key(block: &mut [u8], rx: &[u16], tx: &[u8]) -> u64
     ensures { λ r. ⌜ CPromised (on key)
         (lent (now (block .entry)) (now (rx .entry)) (now (tx .entry)))
         (cDid r (now (block .exit)) (now (rx .entry)) (now (tx .entry))) ⌝ }
@@ -118,7 +117,7 @@ pub extern "C" fn raftershim_key(block: &mut [u8], rx: &[u8], tx: &[u8]) -> u64
 
 // Gives the next line byte.
 #[no_mangle]
-pub extern "C" fn raftershim_next_line_byte(block: &mut [u8], rx: &[u8], tx: &[u8]) -> u64
+pub extern "C" fn raftershim_next_line_byte(block: &mut [u8], rx: &[u16], tx: &[u8]) -> u64
     ensures { λ r. ⌜ CPromised (on nextLineByte)
         (lent (now (block .entry)) (now (rx .entry)) (now (tx .entry)))
         (cDid r (now (block .exit)) (now (rx .entry)) (now (tx .entry))) ⌝ }
@@ -132,7 +131,7 @@ pub extern "C" fn raftershim_next_line_byte(block: &mut [u8], rx: &[u8], tx: &[u
 #[no_mangle]
 pub extern "C" fn raftershim_loop_frame(
     block: &mut [u8],
-    rx: &[u8],
+    rx: &[u16],
     tx: &mut [u8],
     frame: u32,
 ) -> u64
@@ -146,25 +145,34 @@ pub extern "C" fn raftershim_loop_frame(
     finished(block, o, given.room)
 }
 
-// Where the oldest byte of a side's store is.
-fn start_of(s: State, side: u32) -> usize
-    ensures { λ r. ⌜ r ≡ placeOf side s ⌝ }
-{
-    if side == 0 { s.rx.oldest } else { s.tx.oldest }
-}
-
-// Shows a store: where the longest unbroken run of bytes from the oldest one starts, and how long it is.
+// Shows the receive store: where the longest unbroken run of cells from the oldest one starts, and how long it is.
 #[no_mangle]
-pub extern "C" fn raftershim_show<'a>(block: &[u8], rx: &'a [u8], tx: &'a [u8], side: u32) -> u64
-    ensures { λ r. ⌜ CPromised (show side)
+pub extern "C" fn raftershim_show_receive(block: &[u8], rx: &[u16], tx: &[u8]) -> u64
+    ensures { λ r. ⌜ CPromised (show receive)
         (lent (now (block .entry)) (now (rx .entry)) (now (tx .entry)))
         (cDid r (now (block .entry)) (now (rx .entry)) (now (tx .entry))) ⌝ }
 {
     let s = block::meaning(block);
-    let part = bridge::show(s, rx, tx, side);
+    let part = bridge::show_receive(s, rx, tx);
     let len = part.len();
     if len == 0 {
         return 0;
     }
-    boundary::place_word(start_of(s, side), len)
+    boundary::place_word(s.rx.oldest, len)
+}
+
+// Shows the transmit store: where the longest unbroken run of bytes from the oldest one starts, and how long it is.
+#[no_mangle]
+pub extern "C" fn raftershim_show_transmit(block: &[u8], rx: &[u16], tx: &[u8]) -> u64
+    ensures { λ r. ⌜ CPromised (show transmit)
+        (lent (now (block .entry)) (now (rx .entry)) (now (tx .entry)))
+        (cDid r (now (block .entry)) (now (rx .entry)) (now (tx .entry))) ⌝ }
+{
+    let s = block::meaning(block);
+    let part = bridge::show_transmit(s, rx, tx);
+    let len = part.len();
+    if len == 0 {
+        return 0;
+    }
+    boundary::place_word(s.tx.oldest, len)
 }

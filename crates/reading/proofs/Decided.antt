@@ -1,51 +1,58 @@
--- What a decision rests on: three bytes at most, as many as it takes, and nothing that comes after.
+-- What a decision rests on: as many bytes as it takes, no break among them, and nothing that comes after.
 -- Assumes nothing.
-use Prim.Native.Nat.{ℕ, _≤_}
+use Prim.Native.Nat.{ℕ, _+_, _≤_}
 use native.Mathlib.Omega.{arith}
-use mathlib.Core.Path.{_≡_, refl}
-use mathlib.Core.Bool.{Bool, true, false, cond, _&&_, _||_, false≢true}
+use mathlib.Core.Path.{_≡_, refl, sym, _∙_}
+use mathlib.Core.Bool.{Bool, true, false, cond, _&&_, _||_, and-false, false≢true}
 use mathlib.Core.Logic.{_⊎_, inl, inr}
 use mathlib.Core.List.{List, [], _∷_, _++_}
-use lib.Dec.{eqb}
-use lib.ListN.{length, take}
+use lib.ListN.{length, drop}
 use Rattle.branches.proofs.Branches.{by-cond}
 use Rattle.reading.specs.declared.Rule.{Rule}
 use Rattle.reading.specs.declared.Decision.{Decision}
 use Rattle.reading.specs.declared.Decision.the-variants.{Removed, End, Data, Wait}
-use Rattle.reading.specs.Steps.{startsWithPair, isOnlyC00, isNothing, decision, takes}
+use Rattle.reading.specs.Received.{Received, aByte, aBreak, bytesIn}
+use Rattle.reading.specs.Steps.{isByte, startsWithPair, isOnlyC00, isNothing, decision, takes}
 
--- three bytes are enough
-pub of-three : (r : Rule) (xs : List ℕ) → decision r xs ≡ decision r (take 3 xs)
-of-three r [] = refl
-of-three r (a ∷ []) = refl
-of-three r (a ∷ b ∷ []) = refl
-of-three r (a ∷ b ∷ c ∷ xs) = refl
-
--- a decision has bytes enough for what it takes
-pub least : (r : Rule) (xs : List ℕ) → takes (decision r xs) ≤ length xs
-least r [] = omega arith
-least r (x ∷ xs) =
-    by-cond Fits (r .on) _ _
-    (λ _. by-cond Fits (startsWithPair r (x ∷ xs)) _ _ (two xs)
-    (λ _. by-cond Fits (isOnlyC00 r (x ∷ xs)) _ _ (λ _. omega arith)
-    (λ _. by-cond Fits (startsWithPair r xs) _ _ (three xs)
-    (λ _. by-cond Fits (isNothing xs || isOnlyC00 r xs) _ _ (λ _. omega arith) (λ _. omega arith)))))
+-- a decision takes bytes, and as many as it says
+pub takes-bytes : (r : Rule) (b : ℕ) (xs : List Received) →
+    takes (decision r (aByte b ∷ xs)) + bytesIn (drop (takes (decision r (aByte b ∷ xs))) (aByte b ∷ xs)) ≡ bytesIn (aByte b ∷ xs)
+unfolding bytesIn
+takes-bytes r b xs =
+    by-cond Takes (r .on) _ _
+    (λ _. by-cond Takes (startsWithPair r (aByte b ∷ xs)) _ _ (two xs)
+    (λ _. by-cond Takes (isOnlyC00 r (aByte b ∷ xs)) _ _ (λ _. omega arith)
+    (λ _. by-cond Takes (startsWithPair r xs) _ _ (three xs)
+    (λ _. by-cond Takes (isNothing xs || isOnlyC00 r xs) _ _ (λ _. omega arith) (λ _. omega arith)))))
     (λ _. omega arith)
   where
-    Fits : Decision → Type 0
-    Fits d = takes d ≤ length (x ∷ xs)
+    Takes : Decision → Type 0
+    Takes d = takes d + bytesIn (drop (takes d) (aByte b ∷ xs)) ≡ bytesIn (aByte b ∷ xs)
 
-    two : (ys : List ℕ) → startsWithPair r (x ∷ ys) ≡ true → takes Removed ≤ length (x ∷ ys)
+    two : (ys : List Received) → startsWithPair r (aByte b ∷ ys) ≡ true → 2 + bytesIn (drop 2 (aByte b ∷ ys)) ≡ bytesIn (aByte b ∷ ys)
     two [] e = absurd (false≢true e)
-    two (y ∷ ys) e = omega arith
+    two (aByte y ∷ ys) e = omega arith
+    two (aBreak ∷ ys) e = absurd (false≢true (sym (and-false (isByte (r .c00) (aByte b))) ∙ e))
 
-    three : (ys : List ℕ) → startsWithPair r ys ≡ true → takes End ≤ length (x ∷ ys)
+    three : (ys : List Received) → startsWithPair r ys ≡ true → 3 + bytesIn (drop 3 (aByte b ∷ ys)) ≡ bytesIn (aByte b ∷ ys)
     three [] e = absurd (false≢true e)
     three (y ∷ []) e = absurd (false≢true e)
-    three (y ∷ z ∷ ys) e = omega arith
+    three (aByte y ∷ aByte z ∷ ys) e = omega arith
+    three (aByte y ∷ aBreak ∷ ys) e = absurd (false≢true (sym (and-false (isByte (r .c00) (aByte y))) ∙ e))
+    three (aBreak ∷ z ∷ ys) e = absurd (false≢true e)
+
+-- as many are there
+pub fewer-bytes : (xs : List Received) → bytesIn xs ≤ length xs
+unfolding bytesIn
+fewer-bytes [] = omega arith
+fewer-bytes (aByte b ∷ xs) = omega (arith, fewer-bytes xs)
+fewer-bytes (aBreak ∷ xs) = omega (arith, fewer-bytes xs)
+
+pub least : (r : Rule) (b : ℕ) (xs : List Received) → takes (decision r (aByte b ∷ xs)) ≤ length (aByte b ∷ xs)
+least r b xs = omega (arith, takes-bytes r b xs, fewer-bytes (aByte b ∷ xs))
 
 -- what is decided stays decided, whatever comes after
-pub settled : (r : Rule) (xs ys : List ℕ) → (decision r xs ≡ Wait) ⊎ (decision r (xs ++ ys) ≡ decision r xs)
+pub settled : (r : Rule) (xs ys : List Received) → (decision r xs ≡ Wait) ⊎ (decision r (xs ++ ys) ≡ decision r xs)
 settled r [] ys = inl refl
 settled r (a ∷ []) ys = alone (r .on) (isOnlyC00 r (a ∷ [])) _
   where
@@ -54,7 +61,7 @@ settled r (a ∷ []) ys = alone (r .on) (isOnlyC00 r (a ∷ [])) _
     alone true false d = inl refl
     alone false last d = inr refl
 settled r (a ∷ b ∷ []) [] = inr refl
-settled r (a ∷ b ∷ []) (y ∷ ys) = two (r .on) (startsWithPair r (a ∷ b ∷ [])) (isOnlyC00 r (b ∷ [])) (eqb y (r .c01))
+settled r (a ∷ b ∷ []) (y ∷ ys) = two (r .on) (startsWithPair r (a ∷ b ∷ [])) (isOnlyC00 r (b ∷ [])) (isByte (r .c01) y)
   where
     two : (on pair last next : Bool) →
         (cond on (cond pair Removed (cond last Wait Data)) Data ≡ Wait) ⊎

@@ -54,6 +54,15 @@ module _ {A F : Type 0} (cut : List A → Cut A F) (L : Lawful cut) where
       (λ xs f r e ih. rw (frames-at xs (give f r) e, left-at xs (give f r) e) (give-frames xs f r ys e ∙ ap (λ l. f ∷ l) ih))
       xs
 
+  -- what stays of all is what stays of what stayed first, and what came after
+  pub left-ahead : (xs ys : List A) → leftOver cut (xs ++ ys) ≡ leftOver cut (leftOver cut xs ++ ys)
+  left-ahead xs ys =
+      by-cuts cut L (λ xs. leftOver cut (xs ++ ys) ≡ leftOver cut (leftOver cut xs ++ ys))
+      (λ xs e. rw (left-at xs wait e))
+      (λ xs r e ih. rw (left-at xs (skip r) e) (left-at (xs ++ ys) (skip (r ++ ys)) (skip-stays cut L xs r ys e) ∙ ih))
+      (λ xs f r e ih. rw (left-at xs (give f r) e) (left-at (xs ++ ys) (give f (r ++ ys)) (give-stays cut L xs f r ys e) ∙ ih))
+      xs
+
   -- no frame is left in what stays
   pub left-none : (xs : List A) → frames cut (leftOver cut xs) ≡ []
   left-none =

@@ -2,7 +2,8 @@
 use Prim.Native.Nat.{ℕ}
 use mathlib.Core.List.{List, [], _∷_}
 use lib.ListN.{take}
+use Rattle.reading.specs.declared.Item.{Item}
 
 -- the n oldest bytes, three at most
-abbrev pub firsts : ℕ → ℕ → ℕ → ℕ → List ℕ
+abbrev pub firsts : ℕ → Item → Item → Item → List Item
 firsts n a b c = take n (a ∷ b ∷ c ∷ [])

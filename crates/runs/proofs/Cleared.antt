@@ -49,7 +49,6 @@ use Rattle.runs.proofs.Steps.{answer, after, end, Without, ours, at-lef
 use Rattle.machine.specs.Machine as machine
 use Rattle.machine.specs.Course as course
 use Rattle.machine.specs.Machine.{Obeys}
-use Rattle.laws.proofs.Fitting.{keeps-bytes}
 
 -- ---- what is noted of an event
 
@@ -249,7 +248,7 @@ unfolding course.end machine.course
 not-invented e [] w B k h n = h
 not-invented e (c ∷ cs) w B k h n =
     let m = first-not (happens e) c cs w n in
-    not-invented e cs (after c w) (keeps-bytes c w (k .0) B) (k .1) (notes e c w .fresh (m .0) h) (m .1)
+    not-invented e cs (after c w) tt (k .1) (notes e c w .fresh (m .0) h) (m .1)
 
 -- ---- runs
 

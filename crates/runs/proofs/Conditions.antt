@@ -8,14 +8,14 @@ use Rattle.store.proofs.Laws.{held-length}
 use Rattle.state.proofs.Fits.{rx-fits, tx-fits}
 use Rattle.bridge.specs.Calls.{World}
 use Rattle.laws.specs.Fitting.{Fits}
-use Rattle.laws.specs.Worlds.{heldToSend, heldForLine}
+use Rattle.laws.specs.Worlds.{heldCells, heldForLine}
 use Rattle.laws.specs.StatusTold.{transmitEmpty, transmitNotFull, receiveNotEmpty, receiveFull}
 
 module _ (w : World) (F : Fits w) where
   for-line : w .state .tx .len ≡ length (heldForLine w)
   for-line = sym (held-length (w .tx) (w .state .tx) (tx-fits (w .state) (w .rx) (w .tx) F .ring))
 
-  to-send : w .state .rx .len ≡ length (heldToSend w)
+  to-send : w .state .rx .len ≡ length (heldCells w)
   to-send = sym (held-length (w .rx) (w .state .rx) (rx-fits (w .state) (w .rx) (w .tx) F .ring))
 
   pub empty-same : eqb (w .state .tx .len) 0 ≡ transmitEmpty w

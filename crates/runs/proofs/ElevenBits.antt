@@ -10,8 +10,6 @@ use Rattle.branches.proofs.Branches.{by-cond}
 use Rattle.machine.specs.Machine.{Obeys}
 use Rattle.frame.specs.Frame.{controlOf, dataOf, made}
 use Rattle.frame.proofs.Laws.{service-small}
-use Rattle.store.specs.Ring.{Fit}
-use Rattle.store.specs.Bytes.{Bytes}
 use Rattle.sending.specs.declared.Given.{Given}
 use Rattle.sending.specs.declared.Given.the-variants as given
 use Rattle.sending.specs.Sending.{givenOf, sendHeld}
@@ -63,10 +61,10 @@ unfolding sendState
 send-small s t given.Nothing h = ended-small t 64 (omega arith)
 send-small s t (given.One f) h = serviced-small s f (omega (arith, h f refl))
 
-module _ (s : State) (rx : List ℕ) (fit : Fit rx (s .rx)) (b : Bytes rx) where
+module _ (s : State) (rx : List ℕ) where
   from-small : SmallOut (sendFrom s rx)
   unfolding sendFrom
-  from-small = send-small s (removedState s rx) (givenOf (sendHeld (ruleOf (s .regs)) rx (s .rx))) (λ f e. given-small (ruleOf (s .regs)) rx (s .rx) f fit b e)
+  from-small = send-small s (removedState s rx) (givenOf (sendHeld (ruleOf (s .regs)) rx (s .rx))) (λ f e. given-small (ruleOf (s .regs)) rx (s .rx) f e)
 
   pub frame-small : (f : ℕ) → f < 2048 → (o : Outcome) → Way s rx f o → SmallOut o
   unfolding sendStatus
@@ -102,21 +100,21 @@ out-told (out.Own b) = refl
 out-told (out.Held b) = refl
 out-told out.Nothing = refl
 
-done-small : (c : Call) (w : World) → Bytes (w .rx) → firstRefusal (checks c w) ≡ 0 → isEleven (notRefused c w .said) ≡ true
+done-small : (c : Call) (w : World) → firstRefusal (checks c w) ≡ 0 → isEleven (notRefused c w .said) ≡ true
 unfolding notRefused outcome said
-done-small (create m) w b e = refl
-done-small (show side) w b e = refl
-done-small (on reset) w b e = refl
-done-small (on (write n v)) w b e = refl
-done-small (on (lineByte x)) w b e = refl
-done-small (on lineBreak) w b e = refl
-done-small (on key) w b e = refl
-done-small (on nextLineByte) w b e = out-told (nextOut (w .state) (w .tx))
-done-small (on (loopFrame f)) w b e =
+done-small (create m) w e = refl
+done-small (show side) w e = refl
+done-small (on reset) w e = refl
+done-small (on (write n v)) w e = refl
+done-small (on (lineByte x)) w e = refl
+done-small (on lineBreak) w e = refl
+done-small (on key) w e = refl
+done-small (on nextLineByte) w e = out-told (nextOut (w .state) (w .tx))
+done-small (on (loopFrame f)) w e =
     let x = frame-fitting f w e in
     by-frame (frameTaken (w .state) (w .rx) f .answer)
-    (frame-small (w .state) (w .rx) (rx-fits (w .state) (w .rx) (w .tx) (x .0) .ring) b f (omega (arith, ltb-false 2047 f (x .1 .0)))
+    (frame-small (w .state) (w .rx) f (omega (arith, ltb-false 2047 f (x .1 .0)))
     (frameTaken (w .state) (w .rx) f) (way (w .state) (w .rx) f))
 
 pub eleven-bits : Obeys ours ElevenBits
-eleven-bits c w b = by-refusal (λ (d : Did). isEleven (d .said) ≡ true) c w (done-small c w b) (λ _. refl)
+eleven-bits c w _ = by-refusal (λ (d : Did). isEleven (d .said) ≡ true) c w (done-small c w) (λ _. refl)

@@ -16,6 +16,7 @@ use Rattle.role.specs.RoleFit as role-fit
 use Rattle.talker.specs.Readied.{assignedTalker, finishingTalker}
 use Rattle.talker.proofs.FitLaws as talker-laws
 use Rattle.reading.specs.Reading.{Sent, none, one}
+use Rattle.reading.specs.Received.{Received}
 use Rattle.sending.specs.Sending.{givenOf, sendHeld}
 use Rattle.state.specs.declared.State.{State}
 use Rattle.state.specs.declared.Outcome.{Outcome}
@@ -233,6 +234,6 @@ module _ (s : State) (rx : List ℕ) (f : ℕ) where
   unfolding sendFrom sendState ended talking removedState resumed
   send-notes = go (sendHeld (ruleOf (s .regs)) rx (s .rx))
     where
-      go : (x : Sent ℕ ℕ) → sendState s (removedState s rx) (givenOf x) .state .notes ≡ s .notes
+      go : (x : Sent Received ℕ) → sendState s (removedState s rx) (givenOf x) .state .notes ≡ s .notes
       go (none r) = refl
       go (one g r) = refl

@@ -11,6 +11,7 @@ use Rattle.frame.specs.Frame.{controlOf, made, isData}
 use Rattle.registers.specs.Meanings.{go}
 use Rattle.role.specs.Role.{isActive}
 use Rattle.reading.specs.Reading.{Sent, none, one}
+use Rattle.reading.specs.Received.{Received}
 use Rattle.sending.specs.Sending.{givenOf, sendHeld}
 use Rattle.state.specs.declared.State.{State}
 use Rattle.state.specs.declared.Outcome.{Outcome}
@@ -58,7 +59,7 @@ module _ (w : World) (f : ℕ) where
   unfolding sendFrom sendState ended talking removedState resumed said
   send-shape F m = go (sendHeld (ruleOf (w .state .regs)) (w .rx) (w .state .rx)) refl
     where
-      go : (x : Sent ℕ ℕ) → sendHeld (ruleOf (w .state .regs)) (w .rx) (w .state .rx) ≡ x →
+      go : (x : Sent Received ℕ) → sendHeld (ruleOf (w .state .regs)) (w .rx) (w .state .rx) ≡ x →
           FrameShaped w f (w .tx) (sendState (w .state) (removedState (w .state) (w .rx)) (givenOf x))
       go (none r) e = marked (made 5 64) _ _ _ _ _ _ (w .tx) m refl (isNone r F e)
       go (one g r) e = marked (status.serviced (w .state) g) _ _ _ _ _ _ (w .tx) m refl (isSent g r F e)

@@ -1,87 +1,180 @@
--- Demand 3, first: the frames sent, and those of the bytes still held, are those of all the bytes there were. Assumes nothing.
-use Prim.Native.Nat.{ℕ, _<_}
+-- Demand 3, first: the frames sent, and those of what is still held, are those of all the bytes and breaks there were. Assumes nothing.
+use Prim.Native.Nat.{ℕ, zero, suc, _<_}
+use native.Mathlib.Omega.{arith}
 use mathlib.Core.Path.{_≡_, refl, sym, ap, _∙_}
-use mathlib.Core.Bool.{false, false≢true}
-use mathlib.Core.List.{List, [], _∷_, _++_, append-assoc}
-use Rattle.store.specs.Ring.{held, putRing, putBytes}
-use Rattle.store.proofs.Laws.{held-put}
+use mathlib.Core.Bool.{Bool, true, false, cond, _&&_, not, true≢false, false≢true}
+use mathlib.Core.List.{List, [], _∷_, _++_, map, append-assoc}
+use lib.ListN.{length, getD}
+use borrow.Author.Tests.{ltb-false}
+use Rattle.branches.proofs.Branches.{and-left, by-cond}
+use Rattle.machine.specs.Course.{Each}
+use Rattle.machine.specs.Machine as machine
+use Rattle.machine.specs.Machine.{Obeys, AllFair, course}
+use Rattle.machine.specs.Turns.{Reading, TurnReads}
+use Rattle.machine.proofs.Turns.{from-turns}
+use Rattle.store.specs.Ring.{held, full, putRing, putBytes}
+use Rattle.store.specs.Bytes.{Bytes}
+use Rattle.store.proofs.Laws.{held-put, held-length}
+use Rattle.reading.specs.declared.Rule.{Rule}
 use Rattle.reading.specs.Reading.{Sent, none, one, sentFrames, sentRest, frames}
+use Rattle.reading.specs.Received.{Received, aByte, aBreak, receivedIn, asHeld}
 use Rattle.reading.specs.Steps.{cut}
 use Rattle.reading.proofs.Reading.{send-ahead}
+use Rattle.reading.proofs.Received.{received-byte}
 use Rattle.reading.proofs.Lawful.{lawful}
+use Rattle.reading.proofs.Walls.{walled}
 use Rattle.sending.specs.Sending.{sendHeld, sentRing}
 use Rattle.state.proofs.Fits.{rx-fits}
+use Rattle.line.specs.Breaks.{breakCells}
 use Rattle.line.specs.HoldingOff.{storedWith}
+use Rattle.line.proofs.Breaks.{break-nothing}
 use Rattle.loopside.specs.Sends.{ruleOf}
-use Rattle.bridge.specs.Calls.{Call, World}
-use Rattle.store.specs.Bytes.{Bytes}
-use Rattle.laws.proofs.Fitting.{keeps-bytes}
-use Rattle.laws.specs.Observers.{changes}
-use Rattle.laws.specs.Worlds.{heldToSend, reading}
-use Rattle.laws.specs.Demands.{lineToLoop, FramesRead}
+use Rattle.answers.specs.Answers.{Said}
+use Rattle.bridge.specs.Calls.{lineByte, reset, write, lineBreak, key, nextLineByte, loopFrame, Call, create, show, on, World}
+use Rattle.laws.specs.Bridges.{ByteCall}
+use Rattle.laws.specs.Observers.{taken, isFlow, arrived, accepted, breaks, holdsSome, marks, bytesAndBreaks, bytesAndMarks, sent, changes}
+use Rattle.laws.specs.Worlds.{heldCells, heldToSend, reading}
+use Rattle.laws.specs.Demands.{FramesRead, UnheldBreaks}
 use Rattle.runs.proofs.Shapes.{Seen, seen, Core, core, Fits, Shape, isStill, isBegun}
-use Rattle.runs.proofs.Shapes.{isWritten, isCleared, isStored, isLost, isSent, isNone, isLeft, isHanded}
+use Rattle.runs.proofs.Shapes.{isWritten, isCleared, isStored, isLost, isBroken, isSent, isNone, isLeft, isHanded}
 use Rattle.runs.proofs.View.{view}
-use Rattle.runs.proofs.Bytes.{held-all, sent-plain}
+use Rattle.runs.proofs.Bytes.{sent-plain}
+use Rattle.runs.proofs.Broken.{held-broken, broke}
 use Rattle.runs.proofs.Sends.{held-sent, seen-plain}
 use Rattle.runs.proofs.Runs.{first-not}
 use Rattle.runs.proofs.Steps.{answer, after, Without, ours}
-use Rattle.machine.specs.Course.{Each}
-use Rattle.machine.specs.Machine.{Obeys, AllFair, course}
-use Rattle.machine.specs.Turns.{TurnReads}
-use Rattle.machine.proofs.Turns.{from-turns}
 
 -- what a send leaves
 abbrev afterSend : World → List ℕ
 afterSend w = held (w .rx) (sentRing (ruleOf (w .state .regs)) (w .rx) (w .state .rx))
 
+-- ---- a byte that is accepted is one
+
+no-byte : (k : ℕ) → getD [] k 0 < 256
+no-byte zero = omega arith
+no-byte (suc k) = omega arith
+
+none-bytes : (t : Bool) → Bytes (cond t [] [])
+none-bytes true = no-byte
+none-bytes false = no-byte
+
+one-byte : (b : ℕ) → b < 256 → Bytes (b ∷ [])
+one-byte b h zero = h
+one-byte b h (suc k) = no-byte k
+
+pub accepted-bytes : (c : Call) (w : World) (a : Said) → ByteCall c → Bytes (accepted c w a)
+unfolding accepted arrived
+accepted-bytes (on (lineByte b)) w a h =
+    by-cond Bytes (full (w .state .rx)) [] _ (λ _. no-byte) (λ _. by-cond Bytes (taken a && not (isFlow w b)) _ [] (λ _. one-byte b h) (λ _. no-byte))
+accepted-bytes (create m) w a h = none-bytes (full (w .state .rx))
+accepted-bytes (show side) w a h = none-bytes (full (w .state .rx))
+accepted-bytes (on reset) w a h = none-bytes (full (w .state .rx))
+accepted-bytes (on (write n v)) w a h = none-bytes (full (w .state .rx))
+accepted-bytes (on lineBreak) w a h = none-bytes (full (w .state .rx))
+accepted-bytes (on key) w a h = none-bytes (full (w .state .rx))
+accepted-bytes (on nextLineByte) w a h = none-bytes (full (w .state .rx))
+accepted-bytes (on (loopFrame f)) w a h = none-bytes (full (w .state .rx))
+
 module _ (w : World) where
+  abbrev rule : Rule
+  rule = ruleOf (w .state .regs)
+
   -- a byte stored is the newest of those held
   pub held-stored : (b : ℕ) → Fits w → w .state .rx .len < w .state .rx .cap →
-      held (putBytes (w .rx) (w .state .rx) b) (putRing (w .state .rx)) ≡ heldToSend w ++ (b ∷ [])
+      held (putBytes (w .rx) (w .state .rx) b) (putRing (w .state .rx)) ≡ heldCells w ++ (b ∷ [])
   held-stored b F h = held-put (w .rx) (w .state .rx) b (rx-fits (w .state) (w .rx) (w .tx) F .ring) h
 
   -- what is held after a send
-  pub held-after : (x : Sent ℕ ℕ) → Fits w → sendHeld (ruleOf (w .state .regs)) (w .rx) (w .state .rx) ≡ x →
-      afterSend w ≡ sentRest x
-  held-after x F e = held-sent (ruleOf (w .state .regs)) (w .rx) (w .state .rx) (rx-fits (w .state) (w .rx) (w .tx) F .ring) ∙ ap sentRest e
+  pub held-after : (x : Sent Received ℕ) → Fits w → sendHeld rule (w .rx) (w .state .rx) ≡ x → receivedIn (afterSend w) ≡ asHeld (sentRest x)
+  held-after x F e =
+      held-sent rule (w .rx) (w .state .rx) (rx-fits (w .state) (w .rx) (w .tx) F .ring) ∙ ap (λ (x : Sent Received ℕ). asHeld (sentRest x)) e
 
   -- one send, whatever is accepted after it
-  send-reads : (x : Sent ℕ ℕ) (ys : List ℕ) → Fits w → sendHeld (ruleOf (w .state .regs)) (w .rx) (w .state .rx) ≡ x →
-      reading w (heldToSend w ++ ys) ≡ sentFrames x ++ reading w (afterSend w ++ ys)
+  send-reads : (x : Sent Received ℕ) (ys : List Received) → Fits w → sendHeld rule (w .rx) (w .state .rx) ≡ x →
+      reading w (heldToSend w ++ ys) ≡ sentFrames x ++ reading w (receivedIn (afterSend w) ++ ys)
   unfolding sendHeld ruleOf
   send-reads x ys F e =
-      send-ahead (cut (ruleOf (w .state .regs))) (lawful (ruleOf (w .state .regs))) (heldToSend w) ys
+      send-ahead (cut rule) (lawful rule) (heldToSend w) ys
       ∙ (λ i. sentFrames (e i) ++ reading w (sentRest (e i) ++ ys))
-      ∙ ap (λ l. sentFrames x ++ reading w (l ++ ys)) (sym (held-after x F e))
+      ∙ ap (λ l. sentFrames x ++ l) (sym (walled rule .once (sentRest x) ys) ∙ ap (λ l. reading w (l ++ ys)) (sym (held-after x F e)))
 
-  keeps : (x : Seen) (h : Core) (rx tx : List ℕ) → Shape w x h rx tx → x .changes ≡ false → Bytes (heldToSend w) → (ys : List ℕ) →
-      reading w (heldToSend w ++ (x .accepted ++ ys)) ≡ x .sent ++ frames (cut (ruleOf (h .regs))) (held rx (h .rx) ++ ys)
+  -- a break that counts
+  break-reads : (ys : List Received) → Fits w →
+      reading w (heldToSend w ++ (aBreak ∷ ys)) ≡ reading w (receivedIn (held (breakCells (w .state) (w .rx)) (w .state .rx)) ++ ys)
+  unfolding ruleOf
+  break-reads ys F =
+      ap (reading w) (sym (append-assoc (heldToSend w) (aBreak ∷ []) ys))
+      ∙ sym (walled rule .once (heldToSend w ++ (aBreak ∷ [])) ys)
+      ∙ ap (λ l. reading w (l ++ ys)) (sym (held-broken w F))
+
+  -- one that does not, since nothing is held
+  break-none : Fits w → holdsSome w ≡ false → breakCells (w .state) (w .rx) ≡ w .rx
+  break-none F h =
+      let n : length (heldCells w) ≡ w .state .rx .len = held-length (w .rx) (w .state .rx) (rx-fits (w .state) (w .rx) (w .tx) F .ring) in
+      break-nothing (w .state) (w .rx) (omega (arith, n, ltb-false 0 (length (heldCells w)) h))
+
+  -- a call that is no break that counts
+  keeps : (x : Seen) (h : Core) (rx tx : List ℕ) → Shape w x h rx tx → x .changes ≡ false → (x .breaks ≡ true → holdsSome w ≡ false) →
+      Bytes (x .accepted) → (ys : List Received) →
+      reading w (heldToSend w ++ (map aByte (x .accepted) ++ ys)) ≡ x .sent ++ frames (cut (ruleOf (h .regs))) (receivedIn (held rx (h .rx)) ++ ys)
   unfolding storedWith sendHeld ruleOf
-  keeps x h rx tx isStill n B ys = refl
-  keeps x h rx tx (isBegun m) n B ys = absurd (false≢true (sym n))
-  keeps x h rx tx (isWritten g t) n B ys = absurd (false≢true (sym n))
-  keeps x h rx tx isCleared n B ys = absurd (false≢true (sym n))
-  keeps x h rx tx (isStored b F l) n B ys = ap (reading w) (sym (append-assoc (heldToSend w) (b ∷ []) ys) ∙ ap (λ l. l ++ ys) (sym (held-stored b F l)))
-  keeps x h rx tx (isLost b l) n B ys = refl
-  keeps x h rx tx (isSent f r F e) n B ys =
+  keeps x h rx tx isStill n m B ys = refl
+  keeps x h rx tx (isBegun k) n m B ys = absurd (false≢true (sym n))
+  keeps x h rx tx (isWritten g t) n m B ys = absurd (false≢true (sym n))
+  keeps x h rx tx isCleared n m B ys = absurd (false≢true (sym n))
+  keeps x h rx tx (isStored b F l) n m B ys =
+      ap (reading w)
+      (sym (append-assoc (heldToSend w) (aByte b ∷ []) ys)
+      ∙ ap (λ l. l ++ ys) (sym (ap receivedIn (held-stored b F l) ∙ received-byte (heldCells w) b (B 0))))
+  keeps x h rx tx (isLost b l) n m B ys = refl
+  keeps x h rx tx (isBroken F) n m B ys = ap (λ (l : List ℕ). reading w (receivedIn (held l (w .state .rx)) ++ ys)) (sym (break-none F (m refl)))
+  keeps x h rx tx (isSent f r F e) n m B ys =
       send-reads (one f r) ys F e
-      ∙ ap (λ l. l ++ reading w (afterSend w ++ ys))
-      (sym (seen-plain (w .state) f (sent-plain (ruleOf (w .state .regs)) (heldToSend w) f r e B)))
-  keeps x h rx tx (isNone r F e) n B ys = send-reads (none r) ys F e
-  keeps x h rx tx (isLeft l F e) n B ys = refl
-  keeps x h rx tx (isHanded F e) n B ys = refl
+      ∙ ap (λ l. l ++ reading w (receivedIn (afterSend w) ++ ys)) (sym (seen-plain (w .state) f (sent-plain rule (heldCells w) f r e)))
+  keeps x h rx tx (isNone r F e) n m B ys = send-reads (none r) ys F e
+  keeps x h rx tx (isLeft l F e) n m B ys = refl
+  keeps x h rx tx (isHanded F e) n m B ys = refl
 
--- every call of the run
-turns : (cs : List Call) (w : World) → Bytes (w .rx) → AllFair ours cs → Without changes cs w → Each (TurnReads lineToLoop) (course ours cs w)
-unfolding course ruleOf
-turns [] w B k n = tt
-turns (c ∷ cs) w B k n =
-    let m = first-not changes c cs w n in (
-      keeps w (seen c w (answer c w)) (core (after c w .state)) (after c w .rx) (after c w .tx) (view c w) (m .0) (held-all w B),
-      turns cs (after c w) (keeps-bytes c w (k .0) B) (k .1) (m .1),
-    )
+-- ---- every call of the run, where these breaks count: all that do are breaks, and of the others nothing is held
 
--- (3a)
+module _ (these : Call → World → Said → Bool)
+    (are : (c : Call) (w : World) → these c w (answer c w) ≡ true → breaks c w (answer c w) ≡ true)
+    (others : (c : Call) (w : World) → these c w (answer c w) ≡ false → breaks c w (answer c w) ≡ true → holdsSome w ≡ false) where
+  abbrev counting : Reading World Call Said Received ℕ
+  counting =
+      record { accepted = λ c w a. cond (these c w a) (aBreak ∷ []) (map aByte (accepted c w a)); sent = sent; held = heldToSend; reads = reading }
+
+  turn : (c : Call) (w : World) → ByteCall c → changes c w (answer c w) ≡ false → TurnReads counting (machine.seen ours c w)
+  unfolding ruleOf
+  turn c w k n ys = pick (these c w (answer c w)) refl
+    where
+      pick : (t : Bool) → these c w (answer c w) ≡ t →
+          reading w (heldToSend w ++ (cond t (aBreak ∷ []) (map aByte (accepted c w (answer c w))) ++ ys)) ≡
+          sent c w (answer c w) ++ reading (after c w) (heldToSend (after c w) ++ ys)
+      pick true e =
+          let b = broke w _ _ _ _ (view c w) (are c w e) in
+          break-reads w ys (b .fits) ∙ (λ i. sym (b .sent) i ++ frames (cut (ruleOf (sym (b .core) i .regs))) (receivedIn (held (sym (b .store) i) (sym (b .core) i .rx)) ++ ys))
+      pick false e = keeps w _ _ _ _ (view c w) n (others c w e) (accepted-bytes c w (answer c w) k) ys
+
+  turns : (cs : List Call) (w : World) → AllFair ours cs → Without changes cs w → Each (TurnReads counting) (course ours cs w)
+  unfolding course
+  turns [] w k n = tt
+  turns (c ∷ cs) w k n = let m = first-not changes c cs w n in (turn c w (k .0) (m .0), turns cs (after c w) (k .1) (m .1))
+
+-- (3a): all breaks count
 pub frames-read : Obeys ours FramesRead
-frames-read cs w B k n = from-turns lineToLoop ours cs w (turns cs w B k n)
+unfolding bytesAndBreaks
+frames-read cs w _ k n =
+    from-turns (counting breaks (λ c w e. e) (λ c w e b. absurd (true≢false (sym b ∙ e)))) ours cs w
+    (turns breaks (λ c w e. e) (λ c w e b. absurd (true≢false (sym b ∙ e))) cs w k n)
+
+-- so do only those that come while something is held
+pub unheld-breaks : Obeys ours UnheldBreaks
+unfolding bytesAndMarks
+unheld-breaks cs w u k n = sym (frames-read cs w u k n) ∙ from-turns (counting marks are others) ours cs w (turns marks are others cs w k n)
+  where
+    are : (c : Call) (w : World) → marks c w (answer c w) ≡ true → breaks c w (answer c w) ≡ true
+    are c w e = and-left (breaks c w (answer c w)) (holdsSome w) e
+
+    others : (c : Call) (w : World) → marks c w (answer c w) ≡ false → breaks c w (answer c w) ≡ true → holdsSome w ≡ false
+    others c w e b = (λ i. sym b i && holdsSome w) ∙ e

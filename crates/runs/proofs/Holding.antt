@@ -9,6 +9,7 @@ use Rattle.registers.specs.Meanings.{protocolOn, stop}
 use Rattle.registers.specs.Writing.{written}
 use Rattle.store.specs.Ring.{full, room}
 use Rattle.reading.specs.Reading.{Sent, none, one}
+use Rattle.reading.specs.Received.{Received}
 use Rattle.sending.specs.Sending.{givenOf, sendHeld}
 use Rattle.state.specs.declared.State.{State}
 use Rattle.state.specs.declared.Line.{Line}
@@ -166,7 +167,7 @@ module _ (s : State) (rx : List ℕ) (f : ℕ) where
   unfolding sendFrom sendState ended talking removedState resumed
   send-framed = go (sendHeld (ruleOf (s .regs)) rx (s .rx))
     where
-      go : (x : Sent ℕ ℕ) → Framed false true (sendState s (removedState s rx) (givenOf x) .state)
+      go : (x : Sent Received ℕ) → Framed false true (sendState s (removedState s rx) (givenOf x) .state)
       go (none r) = record { holding = refl; forbidden = refl }
       go (one g r) = record { holding = refl; forbidden = refl }
 

@@ -45,7 +45,6 @@ use Rattle.machine.specs.Machine as machine
 use Rattle.laws.specs.LastSent as last
 use Rattle.machine.specs.Course as course
 use Rattle.machine.specs.Machine.{Obeys}
-use Rattle.laws.proofs.Fitting.{keeps-bytes}
 
 -- ---- calls that send nothing of our own
 
@@ -147,7 +146,7 @@ pub last-kept : Obeys ours LastKept
 unfolding course.end last.lastSent machine.course
 last-kept [] w B k n = refl
 last-kept (c ∷ cs) w B k n =
-    last-kept cs (after c w) (keeps-bytes c w (k .0) B) (k .1) (m .1)
+    last-kept cs (after c w) tt (k .1) (m .1)
     ∙ ap (λ k. lastSent k cs (after c w)) (last-right c w ∙ (λ i. cond (m .0 i) false (lastOf (recorded w) c w (answer c w))))
   where
     m : (startsAnew c w (answer c w) ≡ false) × Without startsAnew cs (after c w)
@@ -155,5 +154,5 @@ last-kept (c ∷ cs) w B k n =
 
 pub last-since : Obeys ours LastSince
 last-since c cs w B j k b n =
-    last-kept cs (after c w) (keeps-bytes c w j B) k n
+    last-kept cs (after c w) tt k n
     ∙ ap (λ k. lastSent k cs (after c w)) (last-right c w ∙ (λ i. cond (b i) false (lastOf (recorded w) c w (answer c w))))

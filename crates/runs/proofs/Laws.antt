@@ -1,7 +1,7 @@
 -- Our bridge obeys every law of this crate. Assumes nothing.
 use Rattle.machine.specs.Machine.{_also_}
 use Rattle.laws.specs.Events.{broken, overrun, pressed}
-use Rattle.laws.specs.StorePlaces.{receive, transmit}
+use Rattle.bridge.specs.Calls.{receive, transmit}
 use Rattle.runs.specs.Obeyed.{OursObeysAll, OursObeysRooms}
 use Rattle.laws.proofs.Answers.{answers-so, refused-exactly}
 use Rattle.laws.proofs.CallPlaces.{places}
@@ -9,7 +9,7 @@ use Rattle.laws.proofs.Fitting.{keeps-fit, create-makes-fit, keeps-stores}
 use Rattle.laws.proofs.Rooms.{room-told}
 use Rattle.laws.proofs.Showing.{shows-so}
 use Rattle.laws.proofs.Starting.{starts-so, margin-recorded, reset-gives-start}
-use Rattle.runs.proofs.FramesRead.{frames-read}
+use Rattle.runs.proofs.FramesRead.{frames-read, unheld-breaks}
 use Rattle.runs.proofs.Events.{events-stay}
 use Rattle.runs.proofs.Margin.{none-lost}
 use Rattle.runs.proofs.Rooms.{room-holds}
@@ -41,7 +41,7 @@ all-obeyed =
     answers-so also refused-exactly also refused-stays also one-frame-out also eleven-bits also shows-so
     also places receive also places transmit also places-since receive also places-since transmit also keeps-fit also create-makes-fit also keeps-stores
     also starts-so also margin-recorded also sizes-stay also reset-gives-start also registers-go also role-goes
-    also frames-read also none-lost also frames-since also send-rule also none-removed also returns-judged also frames-pass also empty-send-resumes
+    also frames-read also unheld-breaks also none-lost also frames-since also send-rule also none-removed also returns-judged also frames-pass also empty-send-resumes
     also events-stay broken also events-stay overrun also events-stay pressed also broken-alone also pressed-alone
     also tells-until-back broken also tells-until-back overrun also tells-until-back pressed also status-told
     also events-clear broken also events-clear overrun also events-clear pressed

@@ -13,6 +13,7 @@ pub mod FrameKinds
 pub mod FrameView
 pub mod View
 pub mod Bytes
+pub mod Broken
 pub mod Sends
 pub mod Runs
 pub mod FramesRead

@@ -16,7 +16,7 @@ use Rattle.laws.specs.Observers.{added, empties}
 use Rattle.laws.specs.Worlds.{heldForLine}
 use Rattle.laws.specs.LineBytes.{loopToLine, LineKept, LineSince}
 use Rattle.runs.proofs.Shapes.{Seen, seen, Core, core, Fits, Shape, isStill, isBegun}
-use Rattle.runs.proofs.Shapes.{isWritten, isCleared, isStored, isLost, isSent, isNone, isLeft, isHanded}
+use Rattle.runs.proofs.Shapes.{isWritten, isCleared, isStored, isLost, isBroken, isSent, isNone, isLeft, isHanded}
 use Rattle.runs.proofs.View.{view}
 use Rattle.runs.proofs.Runs.{first-not}
 use Rattle.runs.proofs.Steps.{answer, after, all, Without, ours}
@@ -51,6 +51,7 @@ keeps w x h rx tx (isWritten g t) n ys = refl
 keeps w x h rx tx isCleared n ys = absurd (false≢true (sym n))
 keeps w x h rx tx (isStored b F l) n ys = refl
 keeps w x h rx tx (isLost b l) n ys = refl
+keeps w x h rx tx (isBroken F) n ys = refl
 keeps w x h rx tx (isSent f r F e) n ys = refl
 keeps w x h rx tx (isNone r F e) n ys = refl
 keeps w x h rx tx (isLeft l F e) n ys = sym (append-assoc (heldForLine w) l ys) ∙ ap (λ k. k ++ ys) (sym (held-left w F l e))
@@ -76,6 +77,7 @@ emptied w x h rx tx (isWritten g t) n = absurd (false≢true n)
 emptied w x h rx tx isCleared n = held-empty (w .tx) _
 emptied w x h rx tx (isStored b F l) n = absurd (false≢true n)
 emptied w x h rx tx (isLost b l) n = absurd (false≢true n)
+emptied w x h rx tx (isBroken F) n = absurd (false≢true n)
 emptied w x h rx tx (isSent f r F e) n = absurd (false≢true n)
 emptied w x h rx tx (isNone r F e) n = absurd (false≢true n)
 emptied w x h rx tx (isLeft l F e) n = absurd (false≢true n)

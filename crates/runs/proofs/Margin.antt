@@ -20,7 +20,7 @@ use Rattle.laws.specs.Worlds.{holdsOff}
 use Rattle.laws.specs.Spells.{AtMost}
 use Rattle.laws.specs.Demands.{NoneLost}
 use Rattle.runs.proofs.Shapes.{Seen, seen, Core, core, Fits, Shape, isStill, isBegun}
-use Rattle.runs.proofs.Shapes.{isWritten, isCleared, isStored, isLost, isSent, isNone, isLeft, isHanded}
+use Rattle.runs.proofs.Shapes.{isWritten, isCleared, isStored, isLost, isBroken, isSent, isNone, isLeft, isHanded}
 use Rattle.runs.proofs.View.{view}
 use Rattle.runs.proofs.Sends.{sent-less, sent-cap}
 use Rattle.runs.proofs.Runs.{first-not}
@@ -111,6 +111,7 @@ calm w x h rx tx (isStored b F l) n m k c i = (
   },
 )
 calm w x h rx tx (isLost b l) n m k c i = absurd (never-full (holdsOff w) m k (store-ring.room (w .state .rx)) (omega arith) (c .room) i)
+calm w x h rx tx (isBroken F) n m k c i = (refl, record { on = c .on; margin = c .margin; room = still-room (holdsOff w) m k (store-ring.room (w .state .rx)) (c .room) })
 calm w x h rx tx (isSent f r F e) n m k c i = (refl, record { on = c .on; margin = c .margin; room = sent-room w m k F c })
 calm w x h rx tx (isNone r F e) n m k c i = (refl, record { on = c .on; margin = c .margin; room = sent-room w m k F c })
 calm w x h rx tx (isLeft l F e) n m k c i = (refl, record { on = c .on; margin = c .margin; room = still-room (holdsOff w) m k (store-ring.room (w .state .rx)) (c .room) })

@@ -5,7 +5,7 @@ use mathlib.Core.List.{List, []}
 use Rattle.store.specs.Ring.{full}
 use Rattle.answers.specs.Answers.{Said}
 use Rattle.bridge.specs.Calls.{Call, World, Did}
-use Rattle.laws.specs.Observers.{arrived, accepted, lost, sent, added, handedOut, changes, empties, startsAnew}
+use Rattle.laws.specs.Observers.{arrived, accepted, lost, breaks, sent, added, handedOut, changes, empties, startsAnew}
 use Rattle.runs.proofs.Alike.{same-either}
 use Rattle.runs.proofs.Shapes.{Seen, seen, Core, core, Shape}
 
@@ -22,6 +22,7 @@ quiet c w a =
       arrived = [];
       accepted = [];
       lost = [];
+      breaks = breaks c w a;
       sent = sent c w a;
       left = added c w a;
       handed = handedOut c w a;
@@ -49,6 +50,7 @@ none-arrives c w a h rx tx e = subst (λ x. Shape w x h rx tx) same
           arrived = sym e i;
           accepted = sym (none-accepted c w a e) i;
           lost = sym (none-lost c w a e) i;
+          breaks = breaks c w a;
           sent = sent c w a;
           left = added c w a;
           handed = handedOut c w a;

@@ -32,7 +32,6 @@ use Rattle.bridge.specs.Calls as calls
 use Rattle.laws.specs.Observers.{taken, dataFrame, asksStatus, statusSent, restarts, clears, empties, any}
 use Rattle.laws.specs.Worlds.{requested}
 use Rattle.registers.specs.Bits.{bit}
-use Rattle.store.specs.Bytes.{Bytes}
 use Rattle.laws.specs.Fitting.{Fits}
 use Rattle.laws.specs.Requests.{comes, RequestsGo}
 use Rattle.laws.specs.Requests as law
@@ -221,10 +220,10 @@ comes-none [] = refl
 comes-none (x ∷ xs) = λ i. no-comes x i || comes-none xs i
 
 -- what comes to hold is the same by the list, in a call that is no create
-same-comes : (c : Call) (w : World) → Bytes (w .rx) → empties c w (answer c w) ≡ false →
+same-comes : (c : Call) (w : World) → empties c w (answer c w) ≡ false →
     comes (law.asking w) (law.asking (after c w)) ≡ status.begins (asking (w .state)) (asking (after c w .state))
 unfolding restarts calls.notRefused said
-same-comes c w B =
+same-comes c w =
     by-refusal (λ (d : Did). empties c w (d .said) ≡ false →
     comes (law.asking w) (law.asking (d .world)) ≡ status.begins (asking (w .state)) (asking (d .world .state))) c w
     (go c) (λ _ _. comes-none (law.asking w) ∙ sym (no-begins (asking (w .state))))
@@ -235,13 +234,13 @@ same-comes c w B =
     go (show side) e q = comes-none (law.asking w) ∙ sym (no-begins (asking (w .state)))
     go (on c) e q =
         let F : Fits w = fitting c w e .0 in
-        let G : Fits (calls.notRefused (on c) w .world) = state-good w B F c e in
+        let G : Fits (calls.notRefused (on c) w .world) = state-good w F c e in
         (λ i. comes (asks-so w F i) (asks-so (calls.notRefused (on c) w .world) G i)) ∙
         comes-so (asking (w .state)) (asking (calls.notRefused (on c) w .world .state))
 
 pub requests-go : Obeys ours RequestsGo
-requests-go c w B =
+requests-go c w _ =
     record {
       starts = starts c w;
-      goes = λ q. goes c w q ∙ ap (λ (t : Bool). (requested w && not (any (statusSent c w (answer c w)))) || t) (sym (same-comes c w B q));
+      goes = λ q. goes c w q ∙ ap (λ (t : Bool). (requested w && not (any (statusSent c w (answer c w)))) || t) (sym (same-comes c w q));
     }

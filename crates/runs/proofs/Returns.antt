@@ -21,21 +21,20 @@ use Rattle.loopside.specs.Frames.{frameTaken, deviceClear}
 use Rattle.bridge.specs.Calls.{reset, write, lineByte, lineBreak, key, nextLineByte, loopFrame, Call, create}
 use Rattle.bridge.specs.Calls.{show, on, World, Did, checks, outcome, settledBy, notRefused, step, refusal}
 use Rattle.laws.specs.Observers.{taken, isAsked, equalReturn, isSend, dataFrame, asksStatus, passesOn, sent, statusSent, restarts}
-use Rattle.laws.specs.Worlds.{heldToSend}
+use Rattle.laws.specs.Worlds.{heldCells}
 use Rattle.laws.specs.StatusWay.{endsWay}
 use Rattle.laws.specs.Returns.{finishes, ownFrame, Judged, ReturnsJudged}
 use Rattle.machine.proofs.Course.{neither}
-use Rattle.store.specs.Bytes.{Bytes}
 use Rattle.reading.specs.Reading.{Sent, none, one}
+use Rattle.reading.specs.Received.{Received}
 use Rattle.sending.specs.Sending.{givenOf, sendHeld}
 use Rattle.talker.specs.UnderWay.{talking}
 use Rattle.loopside.specs.Sends.{ruleOf, ended, removedState, sendState, sendFrom, sendStatus}
-use Rattle.runs.proofs.Bytes.{held-all, sent-plain}
+use Rattle.runs.proofs.Bytes.{sent-plain}
 use Rattle.runs.proofs.Sends.{seen-plain}
 use Rattle.runs.proofs.Answered.{status-frame}
 use Rattle.frame.proofs.Laws.{stripped-twice}
 use Rattle.role.specs.Role.{isActive}
-use Rattle.laws.proofs.Fitting.{keeps-bytes}
 use Rattle.laws.proofs.Refusing.{by-refusal, fitting}
 use Rattle.runs.proofs.Refusals.{if-taken}
 use Rattle.runs.proofs.Alike.{same-either}
@@ -165,7 +164,7 @@ module _ (k : Bool) (g : ℕ) (e : Bool) where
 one-of : (f g : ℕ) → f ∷ [] ≡ g ∷ [] → f ≡ g
 one-of f g e = cc
 
-module _ (w : World) (B : Bytes (w .rx)) (f g : ℕ) where
+module _ (w : World) (f g : ℕ) where
   abbrev Sends : Bool → Outcome → Type 0
   Sends k o = cond k (cond (asksStatus (w .state) f) (dataFrame (said (o .answer))) [])
       (cond (passesOn (w .state) f || asksStatus (w .state) f) [] (dataFrame (said (o .answer)))) ≡ g ∷ [] →
@@ -180,12 +179,12 @@ module _ (w : World) (B : Bytes (w .rx)) (f g : ℕ) where
   unfolding sendFrom sendState ended talking sendHeld said
   sent-under = go (sendHeld (ruleOf (w .state .regs)) (w .rx) (w .state .rx)) refl
     where
-      go : (x : Sent ℕ ℕ) → sendHeld (ruleOf (w .state .regs)) (w .rx) (w .state .rx) ≡ x →
+      go : (x : Sent Received ℕ) → sendHeld (ruleOf (w .state .regs)) (w .rx) (w .state .rx) ≡ x →
           dataFrame (said (sendState (w .state) (removedState (w .state) (w .rx)) (givenOf x) .answer)) ≡ g ∷ [] →
           Under false g false (sendState (w .state) (removedState (w .state) (w .rx)) (givenOf x) .state)
       go (none r) e q = nothing q
       go (one h r) e q =
-          let p = sent-plain (ruleOf (w .state .regs)) (heldToSend w) h r e (held-all w B) in
+          let p = sent-plain (ruleOf (w .state .regs)) (heldCells w) h r e in
           record { talker = refl; frame = p .bare ∙ one-of h g (sym (seen-plain (w .state) h p) ∙ q); finishing = λ _. refl }
 
   -- the status byte
@@ -221,9 +220,9 @@ none-either : (k x y : Bool) → _≡_ {A = List ℕ} (cond k (cond x [] []) (co
 none-either k x y = (λ i. cond k (same-either x [] i) (same-either y [] i)) ∙ same-either k []
 
 -- what a call of ours sends is under way after it
-own-under : (k : Bool) (g : ℕ) (c : Call) (w : World) → Bytes (w .rx) → ownFrame k c w (answer c w) ≡ g ∷ [] → Under k g false (after c w .state)
+own-under : (k : Bool) (g : ℕ) (c : Call) (w : World) → ownFrame k c w (answer c w) ≡ g ∷ [] → Under k g false (after c w .state)
 unfolding sent statusSent notRefused outcome settledBy
-own-under k g c w B =
+own-under k g c w =
     by-refusal (λ (d : Did). ownFrame k c w (d .said) ≡ g ∷ [] → Under k g false (d .world .state)) c w (done c)
     (λ _ q. absurd (nil≢cons (sym (refused-none c (firstRefusal (checks c w))) ∙ q)))
   where
@@ -249,7 +248,7 @@ own-under k g c w B =
     done (on nextLineByte) e q = absurd (nil≢cons (sym (same-either k []) ∙ q))
     done (on (loopFrame f)) e q =
         moved k g false _ _ (settled-untouched (w .state) (deviceClear (w .state) f) _)
-        (kind-under w B f g k (frameTaken (w .state) (w .rx) f) (kind-of f w (fitting (loopFrame f) w e .0)) q)
+        (kind-under w f g k (frameTaken (w .state) (w .rx) f) (kind-of f w (fitting (loopFrame f) w e .0)) q)
 
 -- ---- the run after it
 
@@ -323,24 +322,18 @@ module _ (k : Bool) (g : ℕ) (e : Bool) (w : World) (u : Under k g e (w .state)
       if-taken (λ (d : Did). Ends (d .said)) (firstRefusal (checks (on (loopFrame r)) w)) (notRefused (on (loopFrame r)) w) w
       (λ _. ends-way (frameTaken (w .state) (w .rx) r) (way (w .state) (w .rx) r)) t
 
-  judged : Bytes (w .rx) → taken (answer (on (loopFrame r)) w) ≡ true → Judged g r k e (machine.seen ours (on (loopFrame r)) w)
-  judged B t =
+  judged : taken (answer (on (loopFrame r)) w) ≡ true → Judged g r k e (machine.seen ours (on (loopFrame r)) w)
+  judged t =
       let x = ends t in
-      record { damaged = x .0; ended = x .1; next = λ m n. send-rule (on (loopFrame r)) w B r refl t (sends m n) }
+      record { damaged = x .0; ended = x .1; next = λ m n. send-rule (on (loopFrame r)) w tt r refl t (sends m n) }
 
 pub returns-judged : Obeys ours ReturnsJudged
-unfolding finally
 returns-judged c cs d w B j h k g r q n =
     at-call (λ d. isData r ≡ true → taken (answer d v) ≡ true → Judged g r k (some finishes cs (after c w)) (machine.seen ours d v)) (on (loopFrame r))
-    (at-left (λ v. Bytes (v .rx) → isData r ≡ true → taken (answer (on (loopFrame r)) v) ≡ true →
+    (at-left (λ v. isData r ≡ true → taken (answer (on (loopFrame r)) v) ≡ true →
     Judged g r k (some finishes cs (after c w)) (machine.seen ours (on (loopFrame r)) v)) cs (after c w)
-    (λ b D t. judged k g (some finishes cs (after c w)) (end cs (after c w)) (run-on k g false cs (after c w) n (own-under k g c w B q)) r D b t)
-    (left-bytes cs (after c w) (keeps-bytes c w j B) h))
+    (λ D t. judged k g (some finishes cs (after c w)) (end cs (after c w)) (run-on k g false cs (after c w) n (own-under k g c w q)) r D t))
     d
   where
     v : World
     v = finally ours cs (after c w)
-
-    left-bytes : (cs : List Call) (w : World) → Bytes (w .rx) → machine.AllFair ours cs → Bytes (finally ours cs w .rx)
-    left-bytes [] w b h = b
-    left-bytes (c ∷ cs) w b h = left-bytes cs (after c w) (keeps-bytes c w (h .0) b) (h .1)

@@ -14,8 +14,8 @@ use Rattle.role.specs.declared.Role.{Role}
 use Rattle.role.specs.Role.{withAddress, withPhase}
 use Rattle.role.specs.ReadyFrames.{givesAddress}
 use Rattle.role.proofs.ReadyLaws.{address-numbers}
-use Rattle.store.specs.Bytes.{Bytes}
 use Rattle.reading.specs.Reading.{Sent, none, one}
+use Rattle.reading.specs.Received.{Received}
 use Rattle.sending.specs.Sending.{givenOf, sendHeld}
 use Rattle.talker.specs.declared.Talker.{Talker}
 use Rattle.talker.specs.Obeying.{obeyedTalker}
@@ -32,12 +32,12 @@ use Rattle.bridge.specs.Calls.{reset, write, lineByte, lineBreak, key, nextLine
 use Rattle.bridge.specs.Calls.{show, on, World, Did, checks, outcome, settledBy, notRefused, step, refusal}
 use Rattle.laws.specs.Observers.{any, taken, dataFrame, onFrame, restarts}
 use Rattle.laws.specs.Fitting.{Fits}
-use Rattle.laws.specs.Worlds.{heldToSend}
+use Rattle.laws.specs.Worlds.{heldCells}
 use Rattle.laws.specs.Roles.{commanded, readied, returnedTo, byFrame, remoteByFrame, RoleGoes, RemoteGoes}
 use Rattle.laws.proofs.Answers.{frame-not-refused}
 use Rattle.laws.proofs.Refusing.{by-refusal, fitting}
 use Rattle.runs.proofs.Alike.{same-kind}
-use Rattle.runs.proofs.Bytes.{held-all, sent-plain}
+use Rattle.runs.proofs.Bytes.{sent-plain}
 use Rattle.runs.proofs.Sends.{seen-plain}
 use Rattle.runs.proofs.FrameKinds.{address-high, role-fits}
 use Rattle.laws.proofs.Ways.{Way, Returning, Arriving, Commanding, Readying, Identifying, isNext, isBack, isLast, isDamaged, isStored}
@@ -49,7 +49,7 @@ use Rattle.runs.proofs.Steps.{ours}
 
 -- ---- frames
 
-module _ (w : World) (B : Bytes (heldToSend w)) (F : Fits w) (f : ℕ) where
+module _ (w : World) (F : Fits w) (f : ℕ) where
   abbrev r : Role
   r = w .state .talker .role
 
@@ -61,13 +61,13 @@ module _ (w : World) (B : Bytes (heldToSend w)) (F : Fits w) (f : ℕ) where
   unfolding sendFrom sendState ended talking removedState resumed sendHeld said
   send-role = go (sendHeld (ruleOf (w .state .regs)) (w .rx) (w .state .rx)) refl
     where
-      go : (x : Sent ℕ ℕ) → sendHeld (ruleOf (w .state .regs)) (w .rx) (w .state .rx) ≡ x →
+      go : (x : Sent Received ℕ) → sendHeld (ruleOf (w .state .regs)) (w .rx) (w .state .rx) ≡ x →
           sendState (w .state) (removedState (w .state) (w .rx)) (givenOf x) .state .talker .role
           ≡ withPhase (w .state .talker .role) (cond (any (dataFrame (said (sendState (w .state) (removedState (w .state) (w .rx)) (givenOf x) .answer)))) 2 1)
       go (none q) e = refl
       go (one g q) e =
           ap (λ (l : List ℕ). withPhase (w .state .talker .role) (cond (any l) 2 1))
-          (sym (seen-plain (w .state) g (sent-plain (ruleOf (w .state .regs)) (heldToSend w) g q e B)))
+          (sym (seen-plain (w .state) g (sent-plain (ruleOf (w .state .regs)) (heldCells w) g q e)))
 
   -- a data frame that comes back, and one that does not
   returned-role : Returning (w .state) f → (t : Role) (a : Said) → t ≡ withPhase (w .state .talker .role) (cond (any (dataFrame a)) 2 1) →
@@ -175,21 +175,21 @@ untouched : (s t : State) → Untouched s t → (settled s t .talker .role ≡ s
 unfolding settled
 untouched s t u = (ap (λ (q : Talker). q .role) (u .talker), u .remote)
 
-done-goes : (c : Call) (w : World) → Bytes (w .rx) → firstRefusal (checks c w) ≡ 0 → Goes c w (notRefused c w)
+done-goes : (c : Call) (w : World) → firstRefusal (checks c w) ≡ 0 → Goes c w (notRefused c w)
 unfolding notRefused outcome settledBy restarts said
-done-goes (create m) w B e q = absurd (true≢false q)
-done-goes (show side) w B e q = (refl, refl)
-done-goes (on reset) w B e q = absurd (true≢false q)
-done-goes (on (write n v)) w B e q = untouched (w .state) _ (write-untouched (w .state) n v)
-done-goes (on (lineByte b)) w B e q = untouched (w .state) _ (line-untouched (w .state) b)
-done-goes (on lineBreak) w B e q = untouched (w .state) _ (break-untouched (w .state))
-done-goes (on key) w B e q = untouched (w .state) _ (key-untouched (w .state))
-done-goes (on nextLineByte) w B e q = untouched (w .state) _ (given-untouched (w .state) (nextOut (w .state) (w .tx)))
-done-goes (on (loopFrame f)) w B e q =
+done-goes (create m) w e q = absurd (true≢false q)
+done-goes (show side) w e q = (refl, refl)
+done-goes (on reset) w e q = absurd (true≢false q)
+done-goes (on (write n v)) w e q = untouched (w .state) _ (write-untouched (w .state) n v)
+done-goes (on (lineByte b)) w e q = untouched (w .state) _ (line-untouched (w .state) b)
+done-goes (on lineBreak) w e q = untouched (w .state) _ (break-untouched (w .state))
+done-goes (on key) w e q = untouched (w .state) _ (key-untouched (w .state))
+done-goes (on nextLineByte) w e q = untouched (w .state) _ (given-untouched (w .state) (nextOut (w .state) (w .tx)))
+done-goes (on (loopFrame f)) w e q =
     let o : Outcome = frameTaken (w .state) (w .rx) f in
     let u : Untouched (o .state) _ = settled-untouched (w .state) (deviceClear (w .state) f) (o .state) in
     let F : Fits w = fitting (loopFrame f) w e .0 in (
-      ap (λ (t : Talker). t .role) (u .talker) ∙ role-way w (held-all w B) F f o (way (w .state) (w .rx) f)
+      ap (λ (t : Talker). t .role) (u .talker) ∙ role-way w F f o (way (w .state) (w .rx) f)
           ∙ (λ i. cond (not (sym (frame-not-refused (w .state) (w .rx) f) i)) (byFrame f (w .state .talker .role) (said (o .answer))) (w .state .talker .role)),
       u .remote ∙ remote-way w F f o (way (w .state) (w .rx) f)
           ∙ (λ i. cond (not (sym (frame-not-refused (w .state) (w .rx) f) i)) (remoteByFrame f (w .state .talker .role) (w .state .remote)) (w .state .remote)),
@@ -198,11 +198,11 @@ done-goes (on (loopFrame f)) w B e q =
 refused-goes : (c : Call) (w : World) (n : ℕ) → Goes c w (refusal n w)
 refused-goes c w n e = (sym (same-kind (w .state .talker .role) c .0), sym (same-kind (w .state .remote) c .0))
 
-goes : (c : Call) (w : World) → Bytes (w .rx) → Goes c w (step c w)
-goes c w B = by-refusal (Goes c w) c w (done-goes c w B) (λ _. refused-goes c w _)
+goes : (c : Call) (w : World) → Goes c w (step c w)
+goes c w = by-refusal (Goes c w) c w (done-goes c w) (λ _. refused-goes c w _)
 
 pub role-goes : Obeys ours RoleGoes
-role-goes c w B = λ q. goes c w B q .0
+role-goes c w _ = λ q. goes c w q .0
 
 pub remote-goes : Obeys ours RemoteGoes
-remote-goes c w B = λ q. goes c w B q .1
+remote-goes c w _ = λ q. goes c w q .1

@@ -13,7 +13,6 @@ use Rattle.machine.specs.Machine.{Obeys}
 use Rattle.machine.specs.Course as course
 use Rattle.frame.specs.Frame.{isData}
 use Rattle.answers.specs.Answers.{refused}
-use Rattle.store.specs.Bytes.{Bytes}
 use Rattle.store.specs.Ring.{room, dropRing}
 use Rattle.store.proofs.Several.{puts-cap, puts-len, puts-size}
 use Rattle.state.specs.Sizes.{startState, fits}
@@ -29,7 +28,7 @@ use Rattle.laws.proofs.Fitting.{keeps-fit}
 use Rattle.laws.proofs.Refusing.{taken-fits}
 use Rattle.laws.proofs.Rooms.{told-after}
 use Rattle.runs.proofs.Shapes.{Seen, seen, Core, core, Shape, isStill, isBegun}
-use Rattle.runs.proofs.Shapes.{isWritten, isCleared, isStored, isLost, isSent, isNone, isLeft, isHanded}
+use Rattle.runs.proofs.Shapes.{isWritten, isCleared, isStored, isLost, isBroken, isSent, isNone, isLeft, isHanded}
 use Rattle.runs.proofs.View.{view}
 use Rattle.runs.proofs.Rooms.{Free, none-came}
 use Rattle.runs.proofs.Steps.{answer, after}
@@ -44,6 +43,7 @@ goes n w x h rx tx (isWritten g t) f a = none-came n _ _ f
 goes n w x h rx tx isCleared f a = record { cap = f .cap; room = omega (arith, f .room) }
 goes n w x h rx tx (isStored b F l) f a = none-came n _ _ f
 goes n w x h rx tx (isLost b l) f a = none-came n _ _ f
+goes n w x h rx tx (isBroken F) f a = none-came n _ _ f
 goes n w x h rx tx (isSent k r F e) f a = none-came n _ _ f
 goes n w x h rx tx (isNone r F e) f a = none-came n _ _ f
 goes n w x h rx tx (isLeft l F e) f a =
@@ -93,18 +93,18 @@ busy-lacks f w h b =
     let enough : length (adds (s .regs) f) ≤ room (s .tx) = rw (carries, listens) at h in
     omega (arith, short, enough)
 
-told-free : (f : ℕ) (w : World) → Bytes (w .rx) → taken (answer (on (loopFrame f)) w) ≡ true →
+told-free : (f : ℕ) (w : World) → taken (answer (on (loopFrame f)) w) ≡ true →
     Free (step (on (loopFrame f)) w .room) (after (on (loopFrame f)) w .state .tx) (after (on (loopFrame f)) w .tx)
 unfolding roomOf
-told-free f w B t =
+told-free f w t =
     let v : World = after (on (loopFrame f)) w in
-    let fit = tx-fits (v .state) (v .rx) (v .tx) (keeps-fit (on (loopFrame f)) w B (taken-fits (loopFrame f) w t)) .ring in
+    let fit = tx-fits (v .state) (v .rx) (v .tx) (keeps-fit (on (loopFrame f)) w tt (taken-fits (loopFrame f) w t)) .ring in
     record { cap = fit .cap; room = omega (arith, told-after (loopFrame f) w t) }
 
 pub room-takes : Obeys (telling step) RoomTakes
 room-takes (on (loopFrame k)) cs d w B j ks f q t a r =
     let v : World = ends cs (after (on (loopFrame k)) w) in
-    let free = still-free cs (step (on (loopFrame k)) w .room) (length (wouldAdd v f)) (after (on (loopFrame k)) w) (told-free k w B t) a in
+    let free = still-free cs (step (on (loopFrame k)) w .room) (length (wouldAdd v f)) (after (on (loopFrame k)) w) (told-free k w t) a in
     busy-lacks f v free (is-busy f v (subst (λ (c : Call). answer c v ≡ refused 4) q r))
 room-takes (create m) cs d w B j ks f q t a r = absurd (false≢true t)
 room-takes (show side) cs d w B j ks f q t a r = absurd (false≢true t)

@@ -9,7 +9,6 @@ use Rattle.machine.specs.Machine as machine
 use Rattle.machine.specs.Machine.{Obeys}
 use Rattle.machine.specs.Course as course
 use Rattle.store.specs.declared.Ring.{Ring}
-use Rattle.store.specs.Bytes.{Bytes}
 use Rattle.store.specs.Ring.{room}
 use Rattle.store.proofs.Laws.{ring-len, put-cap, put-size}
 use Rattle.state.proofs.Fits.{rx-fits}
@@ -20,11 +19,11 @@ use Rattle.bridge.specs.Calls.{reset, write, lineByte, lineBreak, key, nextLine
 use Rattle.laws.specs.Bridges.{telling}
 use Rattle.laws.specs.Observers.{taken, arrived, lost}
 use Rattle.laws.specs.Rooms.{ofSaid, RoomHolds}
-use Rattle.laws.proofs.Fitting.{keeps-fit}
+use Rattle.laws.proofs.Fitting.{break-size, keeps-fit}
 use Rattle.laws.proofs.Refusing.{taken-fits}
 use Rattle.laws.proofs.Rooms.{told-after}
 use Rattle.runs.proofs.Shapes.{Seen, seen, Core, core, Fits, Shape, isStill, isBegun}
-use Rattle.runs.proofs.Shapes.{isWritten, isCleared, isStored, isLost, isSent, isNone, isLeft, isHanded}
+use Rattle.runs.proofs.Shapes.{isWritten, isCleared, isStored, isLost, isBroken, isSent, isNone, isLeft, isHanded}
 use Rattle.runs.proofs.View.{view}
 use Rattle.runs.proofs.Sends.{sent-less, sent-cap}
 use Rattle.runs.proofs.Steps.{answer, after}
@@ -69,6 +68,8 @@ goes n w x h rx tx (isStored b F l) f a =
           };
     }
 goes n w x h rx tx (isLost b l) f a = absurd (omega (arith, f .room))
+goes n w x h rx tx (isBroken F) f a =
+    record { none = refl; free = record { cap = f .cap ∙ sym (break-size (w .state) (w .rx)); room = omega (arith, f .room) } }
 goes n w x h rx tx (isSent k r F e) f a = record { none = refl; free = none-came n _ _ (sent-free n w F f) }
 goes n w x h rx tx (isNone r F e) f a = record { none = refl; free = none-came n _ _ (sent-free n w F f) }
 goes n w x h rx tx (isLeft l F e) f a = record { none = refl; free = none-came n _ _ f }
@@ -90,16 +91,16 @@ none-lost (c ∷ cs) n w f a =
     both e f = λ i. e i ++ f i
 
 -- the room told by a line byte is free after it
-told-free : (b : ℕ) (w : World) → Bytes (w .rx) → taken (answer (on (lineByte b)) w) ≡ true →
+told-free : (b : ℕ) (w : World) → taken (answer (on (lineByte b)) w) ≡ true →
     Free (step (on (lineByte b)) w .room) (after (on (lineByte b)) w .state .rx) (after (on (lineByte b)) w .rx)
 unfolding roomOf
-told-free b w B t =
+told-free b w t =
     let v : World = after (on (lineByte b)) w in
-    let fit = rx-fits (v .state) (v .rx) (v .tx) (keeps-fit (on (lineByte b)) w B (taken-fits (lineByte b) w t)) .ring in
+    let fit = rx-fits (v .state) (v .rx) (v .tx) (keeps-fit (on (lineByte b)) w tt (taken-fits (lineByte b) w t)) .ring in
     record { cap = fit .cap; room = omega (arith, told-after (lineByte b) w t) }
 
 pub room-holds : Obeys (telling step) RoomHolds
-room-holds (on (lineByte b)) cs w B k ks t a = none-lost cs (step (on (lineByte b)) w .room) (after (on (lineByte b)) w) (told-free b w B t) a
+room-holds (on (lineByte b)) cs w B k ks t a = none-lost cs (step (on (lineByte b)) w .room) (after (on (lineByte b)) w) (told-free b w t) a
 room-holds (create m) cs w B k ks t a = absurd (false≢true t)
 room-holds (show side) cs w B k ks t a = absurd (false≢true t)
 room-holds (on reset) cs w B k ks t a = absurd (false≢true t)

@@ -10,6 +10,7 @@ use Rattle.frame.specs.Frame.{controlOf, dataOf, made, hasService, stripped, wi
 use Rattle.frame.proofs.Laws.{service-set}
 use Rattle.role.specs.Role.{isActive}
 use Rattle.reading.specs.Reading.{Sent, none, one}
+use Rattle.reading.specs.Received.{Received}
 use Rattle.sending.specs.Sending.{givenOf, sendHeld}
 use Rattle.state.specs.declared.State.{State}
 use Rattle.state.specs.declared.Outcome.{Outcome}
@@ -21,15 +22,14 @@ use Rattle.loopside.specs.Frames.{frameTaken}
 use Rattle.answers.specs.Refusals.{firstRefusal}
 use Rattle.bridge.specs.Calls.{on, loopFrame, World, Did, checks, outcome, refusedOr, step, refusal}
 use Rattle.bridge.specs.Calls as calls
-use Rattle.store.specs.Bytes.{Bytes}
 use Rattle.laws.specs.Observers.{passesOn}
-use Rattle.laws.specs.Worlds.{heldToSend}
+use Rattle.laws.specs.Worlds.{heldCells}
 use Rattle.laws.specs.Service.{carriesService, ServiceRight, ServiceBit}
 use Rattle.laws.proofs.Ways.{Way, Returning, Arriving, Commanding, Readying, Identifying, way}
 use Rattle.laws.proofs.Ways.{isNext, isBack, isLast, isDamaged, isStored, isPassed, isCleared}
 use Rattle.laws.proofs.Ways.{isObeyed, isAssigned, isSendAsked, isTold, isFinishing, isReady, isIdentified}
 use Rattle.runs.proofs.Answered.{serviced-kind, status-small}
-use Rattle.runs.proofs.Bytes.{Plain, plain-data, sent-plain, held-all}
+use Rattle.runs.proofs.Bytes.{Plain, plain-data, sent-plain}
 use Rattle.machine.specs.Machine.{Obeys}
 use Rattle.runs.proofs.Steps.{ours, answer, at-call}
 
@@ -74,14 +74,14 @@ module _ (w : World) (f : ℕ) where
   plain-ready : (x : ℕ) → controlOf x ≡ 5 → Right (said (Frame x))
   plain-ready x e = answers x (record { bit = λ h. absurd (false≢true (sym (ap carriesService e) ∙ h)); other = λ _ _. ap (λ k. ltb k 4 || eqb k 5) e })
 
-  send-right : Bytes (heldToSend w) → passesOn (w .state) f ≡ false → OutRight (sendFrom (w .state) (w .rx))
+  send-right : passesOn (w .state) f ≡ false → OutRight (sendFrom (w .state) (w .rx))
   unfolding sendFrom sendState ended sendHeld
-  send-right B N = go (sendHeld (ruleOf (w .state .regs)) (w .rx) (w .state .rx)) refl
+  send-right N = go (sendHeld (ruleOf (w .state .regs)) (w .rx) (w .state .rx)) refl
     where
-      go : (x : Sent ℕ ℕ) → sendHeld (ruleOf (w .state .regs)) (w .rx) (w .state .rx) ≡ x →
+      go : (x : Sent Received ℕ) → sendHeld (ruleOf (w .state .regs)) (w .rx) (w .state .rx) ≡ x →
           OutRight (sendState (w .state) (removedState (w .state) (w .rx)) (givenOf x))
       go (none r) e = plain-ready (made 5 64) refl
-      go (one g r) e = own N g (sent-plain (ruleOf (w .state .regs)) (heldToSend w) g r e B)
+      go (one g r) e = own N g (sent-plain (ruleOf (w .state .regs)) (heldCells w) g r e)
 
   -- a frame that passes, and a command
   passed-right : passesOn (w .state) f ≡ true → Right (said (Frame (serviced (w .state) f)))
@@ -120,24 +120,24 @@ module _ (w : World) (f : ℕ) where
       omega (arith, ltb-false (controlOf f) 4 (r .isdata), eqb-false (controlOf f) 4 (r .four), eqb-false (controlOf f) 5 (r .five)) in
       λ j. (r .isdata j && not (isActive (w .state .talker .role))) || lt-ltb 5 (controlOf f) p j
 
-  way-right : Bytes (heldToSend w) → (o : Outcome) → Way (w .state) (w .rx) f o → OutRight o
+  way-right : (o : Outcome) → Way (w .state) (w .rx) f o → OutRight o
   unfolding ended sendStatus
-  way-right B o (isNext r m k e) = send-right B (returning r)
-  way-right B o (isBack r m k) = plain-ready (made 5 64) refl
-  way-right B o (isLast r m k e) = plain-ready (made 5 64) refl
-  way-right B o (isDamaged r m) = plain-ready (made 5 65) refl
-  way-right B o (isStored r l) = passed-right (arriving r)
-  way-right B o (isPassed r l) = passed-right (arriving r)
-  way-right B o (isCleared r c) = command-right r
-  way-right B o (isObeyed r c) = command-right r
-  way-right B o (isAssigned r a) =
+  way-right o (isNext r m k e) = send-right (returning r)
+  way-right o (isBack r m k) = plain-ready (made 5 64) refl
+  way-right o (isLast r m k e) = plain-ready (made 5 64) refl
+  way-right o (isDamaged r m) = plain-ready (made 5 65) refl
+  way-right o (isStored r l) = passed-right (arriving r)
+  way-right o (isPassed r l) = passed-right (arriving r)
+  way-right o (isCleared r c) = command-right r
+  way-right o (isObeyed r c) = command-right r
+  way-right o (isAssigned r a) =
       let b : dataOf f - dataOf f % 32 ≡ 128 = eqb-true (dataOf f - dataOf f % 32) 128 (and-left _ _ (and-left _ _ a)) in
       plain-ready (made 5 (dataOf f + 1)) (omega arith)
-  way-right B o (isSendAsked r a x) = send-right B (readying r)
-  way-right B o (isTold r a x y) = own (readying r) (made 0 (statusOf (w .state))) (plain-data (statusOf (w .state)) (status-small (w .state)))
-  way-right B o (isFinishing r a x y z) = plain-ready f (eqb-true (controlOf f) 5 (r .five))
-  way-right B o (isReady r a x y z) = plain-ready f (eqb-true (controlOf f) 5 (r .five))
-  way-right B o (isIdentified r) = passed-right (identifying r)
+  way-right o (isSendAsked r a x) = send-right (readying r)
+  way-right o (isTold r a x y) = own (readying r) (made 0 (statusOf (w .state))) (plain-data (statusOf (w .state)) (status-small (w .state)))
+  way-right o (isFinishing r a x y z) = plain-ready f (eqb-true (controlOf f) 5 (r .five))
+  way-right o (isReady r a x y z) = plain-ready f (eqb-true (controlOf f) 5 (r .five))
+  way-right o (isIdentified r) = passed-right (identifying r)
 
   refused-right : (n : ℕ) → Right (refused n)
   refused-right n k d e = let z : _≡_ {A = ℕ} 0 1 = cc in absurd (omega arith)
@@ -148,7 +148,7 @@ service-bit c w b f k d =
     at-call (λ c. answer c w ≡ frame k d → ServiceRight w f k d) (on (loopFrame f))
     (let n = firstRefusal (checks (on (loopFrame f)) w) in
     by-cond (λ (x : Did). Right w f (x .said)) (eqb n 0) (calls.notRefused (on (loopFrame f)) w) (refusal n w)
-    (λ _. way-right w f (held-all w b) (frameTaken (w .state) (w .rx) f) (way (w .state) (w .rx) f))
+    (λ _. way-right w f (frameTaken (w .state) (w .rx) f) (way (w .state) (w .rx) f))
     (λ _. refused-right w f n)
     k d)
     c

@@ -8,6 +8,7 @@ use Rattle.registers.specs.declared.Registers.{Registers}
 use Rattle.store.specs.declared.Ring.{Ring}
 use Rattle.store.specs.Ring.{held, emptyRing, putBytes, putsRing, putsBytes, dropRing}
 use Rattle.reading.specs.Reading.{none, one}
+use Rattle.reading.specs.Received.{Received}
 use Rattle.sending.specs.Sending.{sendHeld, sentRing}
 use Rattle.state.specs.declared.State.{State}
 use Rattle.state.specs.declared.Counts.{Counts}
@@ -16,16 +17,18 @@ use Rattle.answers.specs.Answers.{Said, said}
 use Rattle.state.specs.Sizes.{startState, fits}
 use Rattle.state.specs.Counts.{counted}
 use Rattle.state.specs.Conditions.{serviced}
+use Rattle.line.specs.Breaks.{breakCells}
 use Rattle.line.specs.HoldingOff.{storedState}
 use Rattle.loopside.specs.Sends.{ruleOf, removedState}
 use Rattle.bridge.specs.Calls.{Call, World}
-use Rattle.laws.specs.Observers.{dataFrame, arrived, accepted, lost, sent, added, handedOut, changes, empties, startsAnew}
+use Rattle.laws.specs.Observers.{dataFrame, arrived, accepted, lost, breaks, sent, added, handedOut, changes, empties, startsAnew}
 
 -- all that is seen of a call
 pub record Seen : Type 0 where
   pub arrived : List ℕ
   pub accepted : List ℕ
   pub lost : List ℕ
+  pub breaks : Bool
   pub sent : List ℕ
   pub left : List ℕ
   pub handed : List ℕ
@@ -39,6 +42,7 @@ seen c w a =
       arrived = arrived c w a;
       accepted = accepted c w a;
       lost = lost c w a;
+      breaks = breaks c w a;
       sent = sent c w a;
       left = added c w a;
       handed = handedOut c w a;
@@ -70,23 +74,39 @@ core s =
 -- nothing is seen
 abbrev pub still : Seen
 still =
-    record { arrived = []; accepted = []; lost = []; sent = []; left = []; handed = []; changes = false; empties = false; startsAnew = false }
+    record { arrived = []; accepted = []; lost = []; breaks = false; sent = []; left = []; handed = []; changes = false; empties = false; startsAnew = false }
+
+-- a break is
+abbrev pub broken : Seen
+broken =
+    record {
+      arrived = [];
+      accepted = [];
+      lost = [];
+      breaks = true;
+      sent = [];
+      left = [];
+      handed = [];
+      changes = false;
+      empties = false;
+      startsAnew = false;
+    }
 
 abbrev pub takes : List ℕ → List ℕ → List ℕ → Seen
 takes n a l =
-    record { arrived = n; accepted = a; lost = l; sent = []; left = []; handed = []; changes = false; empties = false; startsAnew = false }
+    record { arrived = n; accepted = a; lost = l; breaks = false; sent = []; left = []; handed = []; changes = false; empties = false; startsAnew = false }
 
 abbrev pub frames : List ℕ → List ℕ → Bool → Seen
 frames s l c =
-    record { arrived = []; accepted = []; lost = []; sent = s; left = l; handed = []; changes = c; empties = c; startsAnew = false }
+    record { arrived = []; accepted = []; lost = []; breaks = false; sent = s; left = l; handed = []; changes = c; empties = c; startsAnew = false }
 
 abbrev pub hands : List ℕ → Seen
 hands l =
-    record { arrived = []; accepted = []; lost = []; sent = []; left = []; handed = l; changes = false; empties = false; startsAnew = false }
+    record { arrived = []; accepted = []; lost = []; breaks = false; sent = []; left = []; handed = l; changes = false; empties = false; startsAnew = false }
 
 abbrev pub begun : Bool → Bool → Seen
 begun x r =
-    record { arrived = []; accepted = []; lost = []; sent = []; left = []; handed = []; changes = x; empties = r; startsAnew = r }
+    record { arrived = []; accepted = []; lost = []; breaks = false; sent = []; left = []; handed = []; changes = x; empties = r; startsAnew = r }
 
 abbrev pub Fits : World → Type 0
 Fits w = fits (w .state) (length (w .rx)) (length (w .tx)) ≡ true
@@ -153,13 +173,14 @@ pub data Shape (w : World) : Seen → Core → List ℕ → List ℕ → Type 0 
         counts = record { stored = w .state .counts .stored; lost = counted (w .state .counts .lost); sent = w .state .counts .sent };
       })
       (w .rx) (w .tx)
-  isSent : (f : ℕ) (r : List ℕ) → Fits w → sendHeld (ruleOf (w .state .regs)) (w .rx) (w .state .rx) ≡ one f r →
+  isBroken : Fits w → Shape w broken (core (w .state)) (breakCells (w .state) (w .rx)) (w .tx)
+  isSent : (f : ℕ) (r : List Received) → Fits w → sendHeld (ruleOf (w .state .regs)) (w .rx) (w .state .rx) ≡ one f r →
       Shape w (frames (dataFrame (said (Frame (serviced (w .state) f)))) [] false)
       (withReceive (w .state) (sentRing (ruleOf (w .state .regs)) (w .rx) (w .state .rx))
       (removedState (w .state) (w .rx) .line .holding)
       (record { stored = w .state .counts .stored; lost = w .state .counts .lost; sent = counted (w .state .counts .sent) }))
       (w .rx) (w .tx)
-  isNone : (r : List ℕ) → Fits w → sendHeld (ruleOf (w .state .regs)) (w .rx) (w .state .rx) ≡ none r →
+  isNone : (r : List Received) → Fits w → sendHeld (ruleOf (w .state .regs)) (w .rx) (w .state .rx) ≡ none r →
       Shape w still
       (withReceive (w .state) (sentRing (ruleOf (w .state .regs)) (w .rx) (w .state .rx))
       (removedState (w .state) (w .rx) .line .holding)

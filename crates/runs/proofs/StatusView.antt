@@ -19,6 +19,7 @@ use Rattle.store.specs.Ring.{full}
 use Rattle.status.specs.declared.Events.{Events}
 use Rattle.status.specs.Status.{showed, stays, acknowledged}
 use Rattle.reading.specs.Reading.{Sent, none, one}
+use Rattle.reading.specs.Received.{Received}
 use Rattle.sending.specs.Sending.{givenOf, sendHeld}
 use Rattle.state.specs.declared.State.{State}
 use Rattle.state.specs.declared.Outcome.{Outcome}
@@ -152,7 +153,7 @@ module _ (w : World) (f : ℕ) where
   unfolding sendFrom sendState ended talking removedState resumed
   send-kind = go (sendHeld (ruleOf (w .state .regs)) (w .rx) (w .state .rx))
     where
-      go : (x : Sent ℕ ℕ) → FrameKind (sendState (w .state) (removedState (w .state) (w .rx)) (givenOf x))
+      go : (x : Sent Received ℕ) → FrameKind (sendState (w .state) (removedState (w .state) (w .rx)) (givenOf x))
       go (none r) = idles refl (keeps _)
       go (one g r) = idles refl (keeps _)
 

@@ -23,7 +23,7 @@ after c w = step c w .world
 abbrev pub end : List Call → World → World
 end cs w = course.end w (machine.course ours cs w)
 
-abbrev pub all : (Call → World → Said → List ℕ) → List Call → World → List ℕ
+abbrev pub all : {X : Type 0} → (Call → World → Said → List X) → List Call → World → List X
 all see cs w = course.all see (machine.course ours cs w)
 
 abbrev pub some : (Call → World → Said → Bool) → List Call → World → Bool

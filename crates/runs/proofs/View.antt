@@ -11,7 +11,7 @@ use Rattle.bridge.specs.Calls.{Call, on, create, reset, write, lineByte, lineBr
 use Rattle.bridge.specs.Calls.{show, World, Did, checks, outcome, settledBy, rxAfter, txAfter, refusedOr, step, refusal}
 use Rattle.bridge.specs.Calls as calls
 use Rattle.laws.specs.Observers.{passesOn, asksStatus, arrived, sent, added, handedOut, restarts, writes, clears}
-use Rattle.runs.proofs.Shapes.{core, frames, hands, Shape, isStill, isBegun}
+use Rattle.runs.proofs.Shapes.{core, frames, hands, Shape, isStill, isBegun, isBroken}
 use Rattle.laws.proofs.Refusing.{fitting, frame-fitting}
 use Rattle.runs.proofs.Refusals.{or-refused}
 use Rattle.runs.proofs.Quiet.{Shaped, none-arrives}
@@ -52,7 +52,7 @@ view (create m) w = refused-or w (create m) _ _ (λ e. none-arrives (create m) w
 view (on reset) w = refused-or w (on reset) _ _ (λ e. none-arrives (on reset) w done _ _ _ refl (isBegun (w .state .margin)))
 view (on (write n v)) w = refused-or w (on (write n v)) _ _ (λ e. write-shape w n v)
 view (on (lineByte b)) w = refused-or w (on (lineByte b)) _ _ (λ e. line-shape w (fitting (lineByte b) w e .0) b)
-view (on lineBreak) w = refused-or w (on lineBreak) _ _ (λ e. none-arrives (on lineBreak) w done _ _ _ refl isStill)
+view (on lineBreak) w = refused-or w (on lineBreak) _ _ (λ e. none-arrives (on lineBreak) w done _ _ _ refl (isBroken (fitting lineBreak w e .0)))
 view (on key) w = refused-or w (on key) _ _ (λ e. none-arrives (on key) w done _ _ _ refl isStill)
 view (on nextLineByte) w = refused-or w (on nextLineByte) _ _ (λ e. next-shape w (fitting nextLineByte w e .0))
 view (on (loopFrame f)) w =

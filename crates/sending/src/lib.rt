@@ -1,11 +1,13 @@
-// One send from a store by the reading rule. It knows of the store only what the store promises.
+// One send from a store of cells by the reading rule. It knows of the store only what the store promises.
 ghost use mathlib.Core.Path.{_≡_};
 ghost use Prim.Native.Nat.{_≤_};
 ghost use lib.ListN.{getD};
 ghost use Rattle.store.specs.Ring.{Fit, held};
+ghost use Rattle.reading.specs.Received.{itemOf, receivedIn};
 ghost use Rattle.reading.specs.Steps.{decision};
 ghost use Rattle.sending.specs.Sending.{isRemoved, Skips, Goes, Sends};
 use reading::Decision;
+use reading::Item;
 use reading::Rule;
 use store::Ring;
 
@@ -21,19 +23,22 @@ pub struct Sending {
     pub ring: Ring,
 }
 
-// The k-th oldest byte, and 0 where fewer are held.
-fn oldest(s: &[u8], r: Ring, k: usize) -> u8
+// What the k-th oldest cell stands for, and 0 where fewer are held.
+fn oldest(s: &[u16], r: Ring, k: usize) -> Item
     requires { ⌜ Fit (now s) r ⌝ }
-    ensures { λ o. ⌜ o ≡ getD (held (now (s .entry)) r) k 0 ⌝ }
+    ensures { λ o. ⌜ o ≡ itemOf (getD (held (now (s .entry)) r) k 0) ⌝ }
 {
     let len = r.len;
-    if k < len { store::look(s, r, k) } else { 0 }
+    if k < len {
+        return reading::item_of(cells::look(s, r, k));
+    }
+    reading::item_of(0)
 }
 
 // What the bytes held decide.
-fn decided(rule: Rule, s: &[u8], r: Ring) -> Decision
+fn decided(rule: Rule, s: &[u16], r: Ring) -> Decision
     requires { ⌜ Fit (now s) r ⌝ }
-    ensures { λ o. ⌜ o ≡ decision rule (held (now (s .entry)) r) ⌝ }
+    ensures { λ o. ⌜ o ≡ decision rule (receivedIn (held (now (s .entry)) r)) ⌝ }
 {
     let len = r.len;
     let a = oldest(s, r, 0);
@@ -55,7 +60,7 @@ fn removes(d: Decision) -> bool
 }
 
 // Step 1 as often as it holds.
-fn skipped(rule: Rule, s: &[u8], r: Ring) -> Ring
+fn skipped(rule: Rule, s: &[u16], r: Ring) -> Ring
     requires { ⌜ Fit (now s) r ⌝ }
     ensures { λ o. ⌜ Skips rule (now (s .entry)) r o ⌝ }
 {
@@ -67,13 +72,13 @@ fn skipped(rule: Rule, s: &[u8], r: Ring) -> Ring
 }
 
 // The frame with these control bits that takes the n oldest bytes.
-fn one_frame(s: &[u8], q: Ring, control: u8, n: usize) -> Sending
+fn one_frame(s: &[u16], q: Ring, control: u8, n: usize) -> Sending
     requires { ⌜ Fit (now s) q ⌝ }
     requires { ⌜ n ≤ q .len ⌝ }
     ensures { λ o. ⌜ Goes (now (s .entry)) q control n o ⌝ }
 {
     let first = oldest(s, q, 0);
-    let frame = frame::make(control, first);
+    let frame = frame::make(control, first.byte);
     let left = store::drop_oldest(q, n);
     Sending {
         given: Given::One(frame),
@@ -82,7 +87,7 @@ fn one_frame(s: &[u8], q: Ring, control: u8, n: usize) -> Sending
 }
 
 // One send: what it gives and what it leaves.
-pub fn send_one(rule: Rule, s: &[u8], r: Ring) -> Sending
+pub fn send_one(rule: Rule, s: &[u16], r: Ring) -> Sending
     requires { ⌜ Fit (now s) r ⌝ }
     ensures { λ o. ⌜ Sends rule (now (s .entry)) r o ⌝ }
 {

@@ -21,8 +21,7 @@ use Rattle.state.proofs.Fits.{tx-fits}
 use Rattle.line.specs.HoldingOff.{owed, nextOut, afterGiving, outAnswer}
 use Rattle.bridge.specs.Calls.{on, nextLineByte, World, Did, checksOn, checks, outcome, settledBy, notRefused, refusedOr, step}
 use Rattle.laws.specs.Fitting.{Fits}
-use Rattle.store.specs.Bytes.{Bytes}
-use Rattle.laws.proofs.Fitting.{keeps-fit, keeps-bytes}
+use Rattle.laws.proofs.Fitting.{keeps-fit}
 use Rattle.transcript.specs.Transcript.{lineOut, asks}
 use Rattle.transcript.specs.UntilNone.{lineWorld, Enough}
 
@@ -74,13 +73,12 @@ no-byte w e = rw e (go (nextOut (w .state) (w .tx)))
     go Nothing h = refl
 
 -- more asks than there is to give end with none
-pub until-none : (n : ℕ) (w : World) → Bytes (w .rx) → Fits w → weight (w .state) < n → step (on nextLineByte) (lineWorld n w) .said ≡ none
+pub until-none : (n : ℕ) (w : World) → Fits w → weight (w .state) < n → step (on nextLineByte) (lineWorld n w) .said ≡ none
 unfolding lineWorld
-until-none zero w b e h = absurd (omega arith)
-until-none (suc k) w b e h =
+until-none zero w e h = absurd (omega arith)
+until-none (suc k) w e h =
     by-cond (λ (v : World). step (on nextLineByte) v .said ≡ none) (isByte (step (on nextLineByte) w .said)) _ _
-    (λ t. until-none k (step (on nextLineByte) w .world) (keeps-bytes (on nextLineByte) w tt b) (keeps-fit (on nextLineByte) w b e)
-    (omega (arith, step-falls w t)))
+    (λ t. until-none k (step (on nextLineByte) w .world) (keeps-fit (on nextLineByte) w tt e) (omega (arith, step-falls w t)))
     (λ t. no-byte w e t)
 
 -- asks after none give nothing more
@@ -106,10 +104,10 @@ at-most-one true = omega arith
 at-most-one false = omega arith
 
 -- the asks of the program are enough for every state that fits its stores
-pub asks-enough : (w : World) → Bytes (w .rx) → Fits w → length (w .tx) ≡ 64 → Enough w
+pub asks-enough : (w : World) → Fits w → length (w .tx) ≡ 64 → Enough w
 unfolding isByte
-asks-enough w b e h =
+asks-enough w e h =
     let f : TxFits (w .state) (w .tx) = tx-fits (w .state) (w .rx) (w .tx) e in
     let last : step (on nextLineByte) (lineWorld asks w) .said ≡ none =
-    until-none asks w b e (omega (arith, f .ring .cap, f .ring .within .len, at-most-one (owed (w .state .line)))) in
+    until-none asks w e (omega (arith, f .ring .cap, f .ring .within .len, at-most-one (owed (w .state .line)))) in
     record { answer = last; same = λ n k. no-more asks n w k (ap isByte last) }

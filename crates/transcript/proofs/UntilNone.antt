@@ -1,20 +1,17 @@
 -- Every world of a run fits the stores, so that the asks are enough. Assumes nothing.
 use Prim.Native.Nat.{ℕ, zero, suc, _+_}
-use native.Mathlib.Omega.{arith}
 use mathlib.Core.Path.{_≡_, refl, _∙_}
 use mathlib.Core.List.{List}
 use lib.Dec.{eqb}
-use lib.ListN.{length, getD, replicate}
+use lib.ListN.{length, getD}
 use Rattle.answers.specs.Refusals.{firstRefusal}
 use Rattle.branches.proofs.Branches.{by-cond}
 use Rattle.state.specs.declared.State.{State}
 use Rattle.state.specs.Sizes.{sizesObeyed, startState}
 use Rattle.bridge.specs.Calls.{Call, on, write, lineByte, loopFrame, World, world, Did, checks, rxAfter, txAfter, notRefused, refusedOr, step}
 use Rattle.laws.specs.Fitting.{Fits}
-use Rattle.laws.specs.Bridges.{ByteCall}
-use Rattle.store.specs.Bytes.{Bytes}
 use Rattle.laws.proofs.States.{start-fits}
-use Rattle.laws.proofs.Fitting.{keeps-fit, keeps-bytes, stores-stay}
+use Rattle.laws.proofs.Fitting.{keeps-fit, stores-stay}
 use Rattle.transcript.specs.declared.Set.{Set}
 use Rattle.transcript.specs.Input.{high, sectionsOf}
 use Rattle.answers.specs.Answers.{faultOf}
@@ -24,22 +21,15 @@ use Rattle.transcript.proofs.Asks.{asks-enough}
 
 -- a world of the program
 record Right (w : World) : Type 0 where
-  bytes : Bytes (w .rx)
   fits : Fits w
   size : length (w .tx) ≡ 64
 
-step-right : (c : Call) (w : World) → ByteCall c → Right w → Right (step c w .world)
-step-right c w b r =
-    record { bytes = keeps-bytes c w b (r .bytes); fits = keeps-fit c w (r .bytes) (r .fits); size = stores-stay c w .tx ∙ r .size }
-
-zeros-bytes : (n : ℕ) → Bytes (replicate n 0)
-zeros-bytes zero k = omega arith
-zeros-bytes (suc n) zero = omega arith
-zeros-bytes (suc n) (suc k) = zeros-bytes n k
+step-right : (c : Call) (w : World) → Right w → Right (step c w .world)
+step-right c w r = record { fits = keeps-fit c w tt (r .fits); size = stores-stay c w .tx ∙ r .size }
 
 start-right : Right (world (startState 8 64 64) store store)
 unfolding sizesObeyed
-start-right = record { bytes = zeros-bytes 64; fits = start-fits 8 64 64 refl; size = refl }
+start-right = record { fits = start-fits 8 64 64 refl; size = refl }
 
 -- a register write leaves both stores
 write-stores : (n v : ℕ) (w : World) → (step (on (write n v)) w .world .rx ≡ w .rx) × (step (on (write n v)) w .world .tx ≡ w .tx)
@@ -59,21 +49,21 @@ set-right (suc n) x i w r =
     let c : Call = (on (write (getD x i 0) (getD x (i + 1) 0))) in
     by-cond (λ (g : Set). Right (world (g .state) (w .rx) (w .tx))) (eqb (faultOf (step c w .said)) 0) _ _
     (λ _. let kept = write-stores (getD x i 0) (getD x (i + 1) 0) w in
-    same-stores _ (kept .0) (kept .1) (set-right n x (i + 2) (step c w .world) (step-right c w tt r)))
+    same-stores _ (kept .0) (kept .1) (set-right n x (i + 2) (step c w .world) (step-right c w r)))
     (λ _. r)
 
-take-right : (n : ℕ) (x : List ℕ) (i : ℕ) (w : World) → Bytes x → Right w → Right (takeBytes n x i w)
+take-right : (n : ℕ) (x : List ℕ) (i : ℕ) (w : World) → Right w → Right (takeBytes n x i w)
 unfolding takeBytes
-take-right zero x i w b r = r
-take-right (suc n) x i w b r = take-right n x (i + 1) (step (on (lineByte (getD x i 0))) w .world) b (step-right (on (lineByte (getD x i 0))) w (b i) r)
+take-right zero x i w r = r
+take-right (suc n) x i w r = take-right n x (i + 1) (step (on (lineByte (getD x i 0))) w .world) (step-right (on (lineByte (getD x i 0))) w r)
 
 frames-right : (n : ℕ) (x : List ℕ) (i : ℕ) (w : World) → Right w → Right (framesWorld n x i w)
 unfolding framesWorld
 frames-right zero x i w r = r
-frames-right (suc n) x i w r = frames-right n x (i + 2) (step (on (loopFrame (high x i))) w .world) (step-right (on (loopFrame (high x i))) w tt r)
+frames-right (suc n) x i w r = frames-right n x (i + 2) (step (on (loopFrame (high x i))) w .world) (step-right (on (loopFrame (high x i))) w r)
 
-run-right : (x : List ℕ) → Bytes x → Right (runWorld x)
-run-right x b = frames-right _ x _ _ (take-right _ x _ _ b (set-right (sectionsOf x .regs) x 2 (world (startState 8 64 64) store store) start-right))
+run-right : (x : List ℕ) → Right (runWorld x)
+run-right x = frames-right _ x _ _ (take-right _ x _ _ (set-right (sectionsOf x .regs) x 2 (world (startState 8 64 64) store store) start-right))
 
 pub asks-until-none : UntilNone
-asks-until-none x b = let r : Right (runWorld x) = run-right x b in asks-enough (runWorld x) (r .bytes) (r .fits) (r .size)
+asks-until-none x = let r : Right (runWorld x) = run-right x in asks-enough (runWorld x) (r .fits) (r .size)

@@ -77,7 +77,7 @@ registersSet x p rx tx = setRegisters (p .regs) x 2 (world (startState 8 (length
 unfoldable pub runText : List ℕ → Sections → List ℕ → List ℕ → List ℕ
 runText x p rx tx = firstLine ++ setText x p (registersSet x p rx tx) rx tx
 
--- the program, sizes: a store of 64 bytes
+-- the program, sizes: a store of 64 cells or bytes, all 0
 abbrev pub store : List ℕ
 store = replicate 64 0
 

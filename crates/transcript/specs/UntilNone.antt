@@ -5,7 +5,6 @@ use mathlib.Core.Bool.{cond}
 use mathlib.Core.List.{List}
 use Rattle.answers.specs.Answers.{none, isByte}
 use Rattle.bridge.specs.Calls.{on, nextLineByte, World, world, step}
-use Rattle.store.specs.Bytes.{Bytes}
 use Rattle.transcript.specs.Input.{sectionsOf}
 use Rattle.transcript.specs.Transcript.{lineOut, asks, lastWorld, registersSet, store}
 
@@ -23,6 +22,6 @@ pub record Enough (w : World) : Type 0 where
   pub answer : step (on nextLineByte) (lineWorld asks w) .said ≡ none
   pub same : (n : ℕ) → asks ≤ n → lineOut n w ≡ lineOut asks w
 
--- for every input; its numbers are bytes, as a buffer of bytes has them
+-- for every input
 abbrev pub UntilNone : Type 0
-UntilNone = (x : List ℕ) → Bytes x → Enough (runWorld x)
+UntilNone = (x : List ℕ) → Enough (runWorld x)

@@ -33,7 +33,7 @@ pub struct Set {
 }
 
 // Writes the line of the line bytes.
-fn put_last(s: State, rx: &[u8], tx: &[u8], out: &mut [u8], to: usize) -> usize
+fn put_last(s: State, rx: &[u16], tx: &[u8], out: &mut [u8], to: usize) -> usize
     requires { ⌜ to + 273 ≤ length (now out) ⌝ }
     ensures { λ r. ⌜ Wrote (now (out .entry)) to (lineText (world s (now (rx .entry)) (now (tx .entry)))) (now (out .exit)) r ⌝ }
 {
@@ -49,7 +49,7 @@ fn put_rest(
     x: &[u8],
     p: Sections,
     s: State,
-    rx: &mut [u8],
+    rx: &mut [u16],
     tx: &mut [u8],
     out: &mut [u8],
     to: usize,
@@ -66,7 +66,7 @@ fn put_rest(
 }
 
 // Sets the registers, and goes on where none is refused.
-fn put_run(x: &[u8], p: Sections, rx: &mut [u8], tx: &mut [u8], out: &mut [u8]) -> usize
+fn put_run(x: &[u8], p: Sections, rx: &mut [u16], tx: &mut [u8], out: &mut [u8]) -> usize
     requires { ⌜ Whole (now x) p ⌝ }
     requires { ⌜ 1200 ≤ length (now out) ⌝ }
     ensures { λ r. ⌜ Wrote (now (out .entry)) 0 (runText (now (x .entry)) p (now (rx .entry)) (now (tx .entry))) (now (out .exit)) r ⌝ }
@@ -91,7 +91,7 @@ pub fn run(input: &[u8], output: &mut [u8]) -> usize
     if !p.ok {
         return text::put_refused(output, 0, 9);
     }
-    let mut rx = [0u8; 64];
+    let mut rx = [0u16; 64];
     let mut tx = [0u8; 64];
     put_run(input, p, &mut rx, &mut tx, output)
 }

@@ -17,7 +17,7 @@ fn wide32(x: u8) -> u32
 }
 
 // Writes n registers from place i of the input, until one is refused.
-pub fn set_registers(s: State, rx: &[u8], tx: &[u8], x: &[u8], i: usize, n: usize) -> Set
+pub fn set_registers(s: State, rx: &[u16], tx: &[u8], x: &[u8], i: usize, n: usize) -> Set
     requires { ⌜ (i + 2 * n ≤ length (now x)) × (i + 2 * n < 65536) ⌝ }
     ensures { λ r. ⌜ r ≡ setRegisters n (now (x .entry)) i (world s (now (rx .entry)) (now (tx .entry))) ⌝ }
 {
@@ -42,7 +42,7 @@ pub fn set_registers(s: State, rx: &[u8], tx: &[u8], x: &[u8], i: usize, n: usiz
 }
 
 // Takes n line bytes from place i of the input.
-pub fn take_bytes(s: State, rx: &mut [u8], tx: &[u8], x: &[u8], i: usize, n: usize) -> State
+pub fn take_bytes(s: State, rx: &mut [u16], tx: &[u8], x: &[u8], i: usize, n: usize) -> State
     requires { ⌜ (i + n ≤ length (now x)) × (i + n < 65536) ⌝ }
     ensures { λ r. ⌜ world r (now (rx .exit)) (now (tx .entry)) ≡ takeBytes n (now (x .entry)) i (world s (now (rx .entry)) (now (tx .entry))) ⌝ }
 {
@@ -61,7 +61,7 @@ pub fn take_bytes(s: State, rx: &mut [u8], tx: &[u8], x: &[u8], i: usize, n: usi
 // Offers n frames from place i of the input, and writes the line of each answer.
 pub fn offer_frames(
     s: State,
-    rx: &[u8],
+    rx: &[u16],
     tx: &mut [u8],
     x: &[u8],
     i: usize,
@@ -90,7 +90,7 @@ pub fn offer_frames(
 }
 
 // How many line bytes are given until none, in n asks at most.
-pub fn count_line(s: State, rx: &[u8], tx: &[u8], n: usize) -> usize
+pub fn count_line(s: State, rx: &[u16], tx: &[u8], n: usize) -> usize
     ensures { λ r. ⌜ (r ≡ length (lineOut n (world s (now (rx .entry)) (now (tx .entry))))) × (r ≤ n) ⌝ }
 {
     let mut t = s;
@@ -110,7 +110,7 @@ pub fn count_line(s: State, rx: &[u8], tx: &[u8], n: usize) -> usize
 }
 
 // Writes the line bytes that are given until none, in n asks at most, each after a space.
-pub fn put_line(s: State, rx: &[u8], tx: &[u8], n: usize, out: &mut [u8], to: usize) -> usize
+pub fn put_line(s: State, rx: &[u16], tx: &[u8], n: usize, out: &mut [u8], to: usize) -> usize
     requires { ⌜ to + 4 * n ≤ length (now out) ⌝ }
     ensures { λ r. ⌜ (Wrote (now (out .entry)) to (bytesText (lineOut n (world s (now (rx .entry)) (now (tx .entry))))) (now (out .exit)) r)
         × (r ≤ to + 4 * n) ⌝ }

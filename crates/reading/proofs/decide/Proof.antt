@@ -1,6 +1,5 @@
 -- `reading::decide` meets its contract: each answer is computed by the tests that led to it.
 -- Assumes nothing.
-use borrow.Author.Tests.{not-true, not-false}
 use Rattle.branches.proofs.Branches.{branches}
 use Rattle.reading.proofs.Firsts.{by-tests}
 use Rattle.reading.proofs.decide.Statement.{statement}
@@ -11,19 +10,9 @@ decide-spec =
     tie.close
     (tie.spec
     (λ c. rw by-tests (search branches))
-    (λ c. rw (by-tests, not-true (c .before .before .before .args .rule .on) (c .if2 .taken)) (search branches))
-    (λ c.
-    let e = c .before .before .before in
-    rw (by-tests, not-false (e .before .before .before .args .rule .on) (e .if2 .left)) (search branches))
-    (λ c.
-    let e = c .before .before .before .before .before in
-    rw (by-tests, not-false (e .before .before .before .args .rule .on) (e .if2 .left)) (search branches))
-    (λ c.
-    let e = c .before .before .before .before .before .before .before .before in
-    rw (by-tests, not-false (e .before .before .before .args .rule .on) (e .if2 .left)) (search branches))
-    (λ c.
-    let e = c .before .before .before .before .before .before .before .before .before .before in
-    rw (by-tests, not-false (e .before .before .before .args .rule .on) (e .if2 .left)) (search branches))
-    (λ c.
-    let e = c .before .before .before .before .before .before .before .before .before .before in
-    rw (by-tests, not-false (e .before .before .before .args .rule .on) (e .if2 .left)) (search branches)))
+    (λ c. rw by-tests (search branches))
+    (λ c. let e = c .before .before .before .before .before in rw (by-tests, e .if2 .left) (search branches))
+    (λ c. let e = c .before .before .before .before .before .before .before .before in rw (by-tests, e .if2 .left) (search branches))
+    (λ c. let e = c .before .before .before .before .before .before .before .before .before .before .before .before .before .before in rw (by-tests, e .if2 .left) (search branches))
+    (λ c. let e = c .before .before .before .before .before .before .before .before .before .before .before .before .before .before .before in rw (by-tests, e .if2 .left) (search branches))
+    (λ c. let e = c .before .before .before .before .before .before .before .before .before .before .before .before .before .before .before in rw (by-tests, e .if2 .left) (search branches)))

@@ -9,7 +9,7 @@ returns c =
     let q₂ = c .before in
     let q₁ = q₂ .before in
     let p = q₁ .before .before in
-    one-frame-met (now (p .args .s)) (p .args .q) (p .args .control) (p .args .n) (q₁ .oldest .result) (q₂ .make .result) (c .drop-oldest .result)
+    one-frame-met (now (p .args .s)) (p .args .q) (p .args .control) (p .args .n) (q₂ .make .result) (q₁ .oldest .result) (c .drop-oldest .result)
     (q₁ .oldest .ensures) (q₂ .make .ensures) (c .drop-oldest .ensures)
 
 pub one-frame-spec : {M : Type 1} → statement M
