@@ -47,7 +47,8 @@ pub struct Notes<G, X> {
 /// - A reset or a device clear throws away what the bridge holds. Readings that ended in it are
 ///   gone. The one that it cuts in two has a gap; the one after that has none.
 /// - Data frames that the app takes by [`loop_frame`](Meter::loop_frame) are missing in the reading
-///   that they belong to. A reading whose end the app has so taken is not given.
+///   that they belong to. A reading whose end, or whose last byte before a break, the app has so taken
+///   is not given.
 /// - A reading that is longer than the text has a gap.
 /// - A byte that the serial port lost was never seen here, so the app says where it is missing, by
 ///   [`line_gap`](Meter::line_gap).
