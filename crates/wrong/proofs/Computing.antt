@@ -3,7 +3,10 @@ use Rattle.machine.specs.Course.{end, all, some}
 use Rattle.machine.specs.Machine.{course, finally}
 use Rattle.frame.specs.Frame.{stripped, withService, sameApart}
 use Rattle.reading.specs.Reading.{inCuts, byCuts}
+use Rattle.reading.specs.Received.{received, bytesIn, asHeld}
 use Rattle.reading.specs.Steps.{cut}
+use Rattle.cells.specs.Newest.{replacedCells}
+use Rattle.line.specs.Breaks.{breakCells}
 use Rattle.registers.specs.Table.{table, rowIn, carriedOf, startOf, startRegisters}
 use Rattle.registers.specs.Bits.{tooLarge, bitNotCarried, inRange}
 use Rattle.registers.specs.RegistersFit.{values, allInRange, registersFit}
@@ -48,7 +51,7 @@ runs-open = tt
 
 -- frames, the reading rule, registers, roles, the talker, stores and a send from one
 unfoldable parts-open : Unit {0}
-unfolding stripped withService sameApart inCuts byCuts cut table rowIn carriedOf startOf startRegisters tooLarge bitNotCarried inRange values
+unfolding stripped withService sameApart inCuts byCuts received bytesIn asHeld cut table rowIn carriedOf startOf startRegisters tooLarge bitNotCarried inRange values
 parts-open = tt
 
 unfoldable registers-open : Unit {0}
@@ -64,7 +67,7 @@ unfolding talker-commands.forgotten talker-commands.obeyedTalker talking returnO
 talker-open = tt
 
 unfoldable stores-open : Unit {0}
-unfolding fitTest putRing putBytes putsRing putsBytes dropRing statusByte sendHeld sentRing
+unfolding fitTest putRing putBytes putsRing putsBytes dropRing replacedCells statusByte sendHeld sentRing
 stores-open = tt
 
 -- the state, its line and its loop
@@ -77,7 +80,7 @@ unfolding status.statusOf status.afterStatus status.afterStatusBack status.break
 status-open = tt
 
 unfoldable line-open : Unit {0}
-unfolding line.isGoOrStop line.flowed line.storedWith line.lostState line.lineState line.lineBytes line.resumed line.setAfresh line.afterWrite
+unfolding line.isGoOrStop line.flowed line.storedWith line.lostState line.lineState line.lineBytes line.resumed line.setAfresh line.afterWrite breakCells
 line-open = tt
 
 unfoldable out-open : Unit {0}
@@ -111,7 +114,7 @@ unfolding see.equalReturn see.isSend see.asksStatus see.passesOn see.isFlow see.
 sights-open = tt
 
 unfoldable others-open : Unit {0}
-unfolding see.added see.handedOut see.restarts see.writes see.clears way.endsWay way.underWay way.statusBack way.comesBack
+unfolding see.bytesAndBreaks see.bytesAndMarks see.added see.handedOut see.restarts see.writes see.clears way.endsWay way.underWay way.statusBack way.comesBack
 others-open = tt
 
 unfoldable laws-open : Unit {0}

@@ -20,7 +20,7 @@ use Rattle.laws.specs.Cleared.{Clears}
 use Rattle.refuting.proofs.Apart.{alike, alike-same}
 use Rattle.wrong.specs.Trials.{sendStatus, fullNoting}
 use Rattle.wrong.specs.Broken.{Breaks}
-use Rattle.wrong.proofs.Small.{allBelow, bytes, full-bytes, byteCalls, fair-calls}
+use Rattle.wrong.proofs.Small.{byteCalls, fair-calls}
 
 -- a test that holds of every event
 unfoldable pub ofEvery : (Event → Bool) → Bool
@@ -59,10 +59,10 @@ shown e (g ∷ gs) = bit (place e) g
 shows-shown : (e : Event) (gs : List ℕ) → Shows e gs → shown e gs ≡ true
 shows-shown e (g ∷ gs) h = h
 
-module _ (B : Event → Call → World → Did) (w : World) (cs : List Call) where
-  -- it happens in the world w, and then the calls cs are made; status is asked for after them
+module _ (B : Event → Call → World → Did) (w : Event → World) (cs : List Call) where
+  -- it happens in its world, and then the calls cs are made; status is asked for after them
   abbrev first : Event → Saw
-  first e = seen (bridge (B e)) (happening e) w
+  first e = seen (bridge (B e)) (happening e) (w e)
 
   abbrev rest : Event → List Saw
   rest e = course (bridge (B e)) cs (first e .after)
@@ -71,23 +71,23 @@ module _ (B : Event → Call → World → Did) (w : World) (cs : List Call) whe
   asks e = seen (bridge (B e)) (on (loopFrame sendStatus)) (finally (bridge (B e)) cs (first e .after))
 
   -- it is not noted any more, and no status byte has come back
-  pub not-kept : allBelow (w .rx) ≡ true → byteCalls cs ≡ true → ofEvery (λ e. of (happens e) (first e)) ≡ true → ofNone (λ e. some empties (rest e)) ≡ true →
+  pub not-kept : byteCalls cs ≡ true → ofEvery (λ e. of (happens e) (first e)) ≡ true → ofNone (λ e. some empties (rest e)) ≡ true →
       ofNone (λ e. bitOf e (end (first e .after) (rest e))) ≡ true → ofNone (λ e. sentAndBack (rest e)) ≡ true →
       (e : Event) → Breaks (B e) (Stays e)
-  not-kept b f h n k t e law =
+  not-kept f h n k t e law =
       ⊎-elim (λ p. true≢false (sym p ∙ never _ k e)) (λ p. true≢false (sym p ∙ never _ t e))
-      (law (happening e) cs w (bytes (w .rx) b) (fair e) (fair-calls (B e) cs f) (every _ h e) (never _ n e))
+      (law (happening e) cs (w e) tt (fair e) (fair-calls (B e) cs f) (every _ h e) (never _ n e))
 
   -- no status byte has come back, and the one that is asked for does not show it
-  pub not-told : allBelow (w .rx) ≡ true → byteCalls cs ≡ true → ofEvery (λ e. of (happens e) (first e)) ≡ true → ofNone (λ e. some empties (rest e)) ≡ true →
+  pub not-told : byteCalls cs ≡ true → ofEvery (λ e. of (happens e) (first e)) ≡ true → ofNone (λ e. some empties (rest e)) ≡ true →
       ofNone (λ e. sentAndBack (rest e)) ≡ true → ofEvery (λ e. taken (asks e .answer)) ≡ true →
       ofEvery (λ e. asksStatus (asks e .before .state) sendStatus) ≡ true → ofNone (λ e. shown e (of statusSent (asks e))) ≡ true →
       (e : Event) → Breaks (B e) (TellsUntilBack e)
-  not-told b f h n t a s k e law =
+  not-told f h n t a s k e law =
       true≢false
       (sym
       (shows-shown e (of statusSent (asks e))
-      (law (happening e) cs (on (loopFrame sendStatus)) w (bytes (w .rx) b) (fair e) (fair-calls (B e) cs f) (every _ h e) (never _ n e) (never _ t e)
+      (law (happening e) cs (on (loopFrame sendStatus)) (w e) tt (fair e) (fair-calls (B e) cs f) (every _ h e) (never _ n e) (never _ t e)
       sendStatus refl (every _ a e) (every _ s e)))
       ∙ never _ k e)
 
@@ -113,5 +113,5 @@ module _ (B : Event → Call → World → Did) where
   not-cleared s r k e law =
       true≢false
       (sym (every _ k e)
-      ∙ law (on (loopFrame sendStatus)) [] (on (loopFrame (telling e))) (fullNoting e) full-bytes tt tt (telling e)
+      ∙ law (on (loopFrame sendStatus)) [] (on (loopFrame (telling e))) (fullNoting e) tt tt tt (telling e)
       (alike-same (of statusSent (sends e)) (telling e ∷ []) (every _ s e)) refl refl (every _ r e))

@@ -1,42 +1,20 @@
--- What the runs of wrong bridges need of bytes and of what the stores of the trials hold. Assumes nothing.
-use Prim.Native.Nat.{ℕ, zero, suc}
-use native.Mathlib.Omega.{arith}
+-- What the runs of wrong bridges need of their calls and of what the stores of the trials hold. Assumes nothing.
 use mathlib.Core.Path.{_≡_, refl}
 use mathlib.Core.Bool.{Bool, true, _&&_}
 use mathlib.Core.List.{List, [], _∷_}
 use lib.Dec.{ltb}
 use borrow.Author.Tests.{ltb-true}
 use Rattle.branches.proofs.Branches.{and-left, and-right}
-use Rattle.store.specs.Bytes.{Bytes}
 use Rattle.state.specs.Sizes.{startState}
 use Rattle.machine.specs.Machine.{AllFair}
 use Rattle.bridge.specs.Calls.{reset, write, lineByte, lineBreak, key, nextLineByte, loopFrame, Call, create, show, on, World, Did}
 use Rattle.laws.specs.Bridges.{ByteCall, bridge}
 use Rattle.laws.specs.Observers.{onLineByte}
-use Rattle.laws.specs.Worlds.{heldToSend}
+use Rattle.laws.specs.Worlds.{heldCells}
 use Rattle.refuting.proofs.StandsIn.{holds}
-use Rattle.wrong.specs.Trials.{twoLines, full, undecidedBytes, undecided, oneToFour}
+use Rattle.wrong.specs.Trials.{twoLines, full, undecidedBytes, undecided}
 
--- ---- bytes
-
--- a list of bytes, by a test
-abbrev pub allBelow : List ℕ → Bool
-allBelow [] = true
-allBelow (b ∷ bs) = ltb b 256 && allBelow bs
-
-pub bytes : (bs : List ℕ) → allBelow bs ≡ true → Bytes bs
-bytes [] e k = omega arith
-bytes (b ∷ bs) e zero = ltb-true b 256 (and-left (ltb b 256) (allBelow bs) e)
-bytes (b ∷ bs) e (suc k) = bytes bs (and-right (ltb b 256) (allBelow bs) e) k
-
-pub full-bytes : Bytes twoLines
-full-bytes = bytes twoLines refl
-
-pub undecided-bytes : Bytes undecidedBytes
-undecided-bytes = bytes undecidedBytes refl
-
-pub are-bytes : Bytes oneToFour
-are-bytes = bytes oneToFour refl
+-- ---- calls
 
 -- calls that bring bytes, by a test
 abbrev pub byteCall : Call → Bool
@@ -63,10 +41,10 @@ fair-calls B (c ∷ cs) e = (fair-call c (and-left (byteCall c) (byteCalls cs) e
 
 -- ---- what a store holds, by the laws of the store
 
-pub full-holds : heldToSend full ≡ twoLines
+pub full-holds : heldCells full ≡ twoLines
 unfolding startState
 full-holds = holds twoLines 0 6 refl
 
-pub undecided-holds : heldToSend undecided ≡ 13 ∷ 10 ∷ 13 ∷ []
+pub undecided-holds : heldCells undecided ≡ 13 ∷ 10 ∷ 13 ∷ []
 unfolding startState
 undecided-holds = holds undecidedBytes 0 3 refl

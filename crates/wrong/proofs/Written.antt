@@ -2,18 +2,17 @@
 use Prim.Native.Nat.{ℕ}
 use mathlib.Core.List.{List}
 use Rattle.answers.specs.Answers.{Said, Answered, done}
-use Rattle.store.specs.Bytes.{Bytes}
 use Rattle.bridge.specs.Calls.{OnState, lineByte, Call, on, World, Did, roomOf}
 use Rattle.laws.specs.Bridges.{Saw, ByteCall}
 use Rattle.refuting.specs.WrittenOut as out
 
 -- a bridge as the kind of machine that it is
 abbrev pub bridges : out.Kind World Call Said Did
-bridges = record { said = λ d. d .said; left = λ d. d .world; Fine = λ w. Bytes (w .rx); Fair = ByteCall }
+bridges = record { said = λ d. d .said; left = λ d. d .world; Fine = λ w. Unit {0}; Fair = ByteCall }
 
 -- the same with the room that it tells
 abbrev pub tellingBridges : out.Kind World Call Answered Did
-tellingBridges = record { said = λ d. record { said = d .said; room = d .room }; left = λ d. d .world; Fine = λ w. Bytes (w .rx); Fair = ByteCall }
+tellingBridges = record { said = λ d. record { said = d .said; room = d .room }; left = λ d. d .world; Fine = λ w. Unit {0}; Fair = ByteCall }
 
 -- a call, and what it does
 abbrev pub Turn : Type 0

@@ -12,7 +12,6 @@ use Rattle.wrong.specs.WrongTelling.{losesUnnoted}
 use Rattle.wrong.specs.WrongCounts.{countsEveryCall, countsStatus, restartKeepsCounts, clearRestartsCounts}
 use Rattle.wrong.specs.Broken.{Breaks}
 use Rattle.wrong.proofs.Computing.{computes}
-use Rattle.wrong.proofs.Small.{full-bytes, are-bytes}
 
 -- one byte came in
 abbrev came : World
@@ -29,33 +28,33 @@ small-full = record { stored = omega arith; lost = omega arith; sent = omega ari
 -- no byte is stored by a break
 pub counts-every-call-falls : Breaks countsEveryCall CountsGo
 unfolding computes
-counts-every-call-falls law = numbers-differ _ _ refl (law (on lineBreak ∷ []) came are-bytes (tt, tt) refl small-came .stored)
+counts-every-call-falls law = numbers-differ _ _ refl (law (on lineBreak ∷ []) came tt (tt, tt) refl small-came .stored)
 
 -- no data frame is sent by status
 pub counts-status-falls : Breaks countsStatus CountsGo
 unfolding computes
-counts-status-falls law = numbers-differ _ _ refl (law (on (loopFrame sendStatus) ∷ []) full full-bytes (tt, tt) refl small-full .sent)
+counts-status-falls law = numbers-differ _ _ refl (law (on (loopFrame sendStatus) ∷ []) full tt (tt, tt) refl small-full .sent)
 
 -- the point is accepted and not counted
 pub swallows-the-point-miscounts : Breaks swallowsThePoint CountsGo
 unfolding computes
-swallows-the-point-miscounts law = numbers-differ _ _ refl (law (on (lineByte 46) ∷ []) came are-bytes (omega arith, tt) refl small-came .stored)
+swallows-the-point-miscounts law = numbers-differ _ _ refl (law (on (lineByte 46) ∷ []) came tt (omega arith, tt) refl small-came .stored)
 
 -- a byte is lost and not counted
 pub loses-unnoted-miscounts : Breaks losesUnnoted CountsGo
 unfolding computes
-loses-unnoted-miscounts law = numbers-differ _ _ refl (law (on (lineByte 51) ∷ []) full full-bytes (omega arith, tt) refl small-full .lost)
+loses-unnoted-miscounts law = numbers-differ _ _ refl (law (on (lineByte 51) ∷ []) full tt (omega arith, tt) refl small-full .lost)
 
 -- a device clear takes the byte that came in from the count
 pub clear-restarts-counts-falls : Breaks clearRestartsCounts CountsGo
 unfolding computes
-clear-restarts-counts-falls law = numbers-differ _ _ refl (law (on (loopFrame clearAll) ∷ []) came are-bytes (tt, tt) refl small-came .stored)
+clear-restarts-counts-falls law = numbers-differ _ _ refl (law (on (loopFrame clearAll) ∷ []) came tt (tt, tt) refl small-came .stored)
 
 -- at a reset, with nothing after it
 pub counts-every-call-falls-since : Breaks countsEveryCall CountsSince
 unfolding computes
-counts-every-call-falls-since law = numbers-differ _ _ refl (law (on reset) [] came are-bytes tt tt refl refl .stored)
+counts-every-call-falls-since law = numbers-differ _ _ refl (law (on reset) [] came tt tt tt refl refl .stored)
 
 pub restart-keeps-counts-falls : Breaks restartKeepsCounts CountsSince
 unfolding computes
-restart-keeps-counts-falls law = numbers-differ _ _ refl (law (on reset) [] came are-bytes tt tt refl refl .stored)
+restart-keeps-counts-falls law = numbers-differ _ _ refl (law (on reset) [] came tt tt tt refl refl .stored)

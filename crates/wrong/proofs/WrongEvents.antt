@@ -19,25 +19,24 @@ use Rattle.wrong.specs.WrongEvents.{breakEmpties, breakPresses, pressPer
 use Rattle.wrong.specs.WrongEvents.{commandSets, lineByteSets, clearKeeps, resetKeeps, createSets}
 use Rattle.wrong.specs.Broken.{Breaks}
 use Rattle.wrong.proofs.Computing.{computes}
-use Rattle.wrong.proofs.Small.{are-bytes}
 
 -- ---- a break and a press that do more
 
 pub break-empties-falls : Breaks breakEmpties (Alone broken)
 unfolding computes
-break-empties-falls law = true≢false (ap (λ (w : World). eqb (w .state .rx .len) 0) (law (on lineBreak) (holdingBytes 2) are-bytes refl .rest))
+break-empties-falls law = true≢false (ap (λ (w : World). eqb (w .state .rx .len) 0) (law (on lineBreak) (holdingBytes 2) tt refl .rest))
 
 pub break-presses-falls : Breaks breakPresses (Alone broken)
 unfolding computes
-break-presses-falls law = true≢false (law (on lineBreak) fresh are-bytes refl .seen pressed)
+break-presses-falls law = true≢false (law (on lineBreak) fresh tt refl .seen pressed)
 
 pub press-permits-falls : Breaks pressPermits (Alone pressed)
 unfolding computes
-press-permits-falls law = false≢true (ap (λ (w : World). w .state .line .forbidden) (law (on key) (forbidding fresh) are-bytes refl .rest))
+press-permits-falls law = false≢true (ap (λ (w : World). w .state .line .forbidden) (law (on key) (forbidding fresh) tt refl .rest))
 
 pub press-forgets-falls : Breaks pressForgets (Alone pressed)
 unfolding computes
-press-forgets-falls law = false≢true (law (on key) (happened overrun) are-bytes refl .seen overrun)
+press-forgets-falls law = false≢true (law (on key) (happened overrun) tt refl .seen overrun)
 
 -- ---- every event
 
@@ -74,12 +73,12 @@ quiet-byte pressed B = refl
 pub command-sets-falls : (e : Event) → Breaks (commandSets e) (NotInvented e)
 unfolding computes
 command-sets-falls e law =
-    true≢false (sym (as-noted e true noEvents) ∙ law oneCommand fresh are-bytes (tt, tt) (none-noted e) (quiet-command e (commandSets e)))
+    true≢false (sym (as-noted e true noEvents) ∙ law oneCommand fresh tt (tt, tt) (none-noted e) (quiet-command e (commandSets e)))
 
 pub line-byte-sets-falls : (e : Event) → Breaks (lineByteSets e) (NotInvented e)
 unfolding computes
 line-byte-sets-falls e law =
-    true≢false (sym (as-noted e true noEvents) ∙ law oneByte fresh are-bytes (omega arith, tt) (none-noted e) (quiet-byte e (lineByteSets e)))
+    true≢false (sym (as-noted e true noEvents) ∙ law oneByte fresh tt (omega arith, tt) (none-noted e) (quiet-byte e (lineByteSets e)))
 
 -- what was noted, and is set again as it was
 as-kept : (e : Event) (x : Events) → noted e (noting e (noted e (noting e true noEvents)) x) ≡ true
@@ -87,12 +86,12 @@ as-kept e x = as-noted e (noted e (noting e true noEvents)) x ∙ as-noted e tru
 
 pub clear-keeps-falls : (e : Event) → Breaks (clearKeeps e) (NotAtStart e)
 unfolding computes
-clear-keeps-falls e law = true≢false (sym (as-kept e noEvents) ∙ law (takesCommand 20) (happened e) are-bytes refl)
+clear-keeps-falls e law = true≢false (sym (as-kept e noEvents) ∙ law (takesCommand 20) (happened e) tt refl)
 
 pub reset-keeps-falls : (e : Event) → Breaks (resetKeeps e) (NotAtStart e)
 unfolding computes
-reset-keeps-falls e law = true≢false (sym (as-kept e noEvents) ∙ law (on reset) (happened e) are-bytes refl)
+reset-keeps-falls e law = true≢false (sym (as-kept e noEvents) ∙ law (on reset) (happened e) tt refl)
 
 pub create-sets-falls : (e : Event) → Breaks (createSets e) (NotAtStart e)
 unfolding computes
-create-sets-falls e law = true≢false (sym (as-noted e true noEvents) ∙ law (create 1) fresh are-bytes refl)
+create-sets-falls e law = true≢false (sym (as-noted e true noEvents) ∙ law (create 1) fresh tt refl)

@@ -11,7 +11,6 @@ use Rattle.wrong.specs.Trials.{cameIn, switchedOff, begunWith, oneForThe
 use Rattle.wrong.specs.WrongLine.{takesDataForStop, neverRecordsSent, switchOffDropsGo, withholdsGoWhenOff}
 use Rattle.wrong.specs.Broken.{Breaks}
 use Rattle.wrong.proofs.Computing.{computes}
-use Rattle.wrong.proofs.Small.{are-bytes}
 use Rattle.wrong.proofs.Written.{Turn, takes, Does, leaves}
 use Rattle.wrong.proofs.Trying.{in-since, in-between}
 
@@ -20,17 +19,17 @@ use Rattle.wrong.proofs.Trying.{in-since, in-between}
 -- the data byte 19 is handed out
 pub takes-data-for-stop-falls : Breaks takesDataForStop LastKept
 unfolding computes
-takes-data-for-stop-falls law = true≢false (rw (holds (begunWith 19) 0 1 refl) at (law (on nextLineByte ∷ []) (oneForTheLine 19) are-bytes (tt, tt) refl))
+takes-data-for-stop-falls law = true≢false (rw (holds (begunWith 19) 0 1 refl) at (law (on nextLineByte ∷ []) (oneForTheLine 19) tt (tt, tt) refl))
 
 -- our own 19 is handed out
 pub never-records-sent-falls : Breaks neverRecordsSent LastKept
 unfolding computes
-never-records-sent-falls law = false≢true (law (on nextLineByte ∷ []) (cameIn 3 true false) are-bytes (tt, tt) refl)
+never-records-sent-falls law = false≢true (law (on nextLineByte ∷ []) (cameIn 3 true false) tt (tt, tt) refl)
 
 -- a reset where stop was the last
 pub never-records-sent-falls-since : Breaks neverRecordsSent LastSince
 unfolding computes
-never-records-sent-falls-since law = true≢false (law (on reset) [] (cameIn 3 true true) are-bytes tt tt refl refl)
+never-records-sent-falls-since law = true≢false (law (on reset) [] (cameIn 3 true true) tt tt tt refl refl)
 
 -- ---- an owed go
 
@@ -62,19 +61,19 @@ withholds-go-when-off-runs = (refl, (rw (no-round 4 0 refl), (rw (no-round 4 1 r
 pub switch-off-drops-go-falls : Breaks switchOffDropsGo LastSince
 unfolding computes begins stoppedOff
 switch-off-drops-go-falls law =
-    false≢true (in-since switchOffDropsGo LastSince fresh begins (stoppedOff false) switch-off-drops-go-runs refl refl law refl refl)
+    false≢true (in-since switchOffDropsGo LastSince fresh begins (stoppedOff false) switch-off-drops-go-runs refl law refl refl)
 
 -- nothing is given, where go is owed
 pub switch-off-drops-go-stays-silent : Breaks switchOffDropsGo OwnGiven
 unfolding computes begins stoppedOff
 switch-off-drops-go-stays-silent law =
     answers-differ _ _ refl
-    (in-between switchOffDropsGo OwnGiven fresh begins (stoppedOff false) (on nextLineByte) switch-off-drops-go-runs refl refl law
+    (in-between switchOffDropsGo OwnGiven fresh begins (stoppedOff false) (on nextLineByte) switch-off-drops-go-runs refl law
     refl refl refl refl refl)
 
 pub withholds-go-when-off-stays-silent : Breaks withholdsGoWhenOff OwnGiven
 unfolding computes begins stoppedOff
 withholds-go-when-off-stays-silent law =
     answers-differ _ _ refl
-    (in-between withholdsGoWhenOff OwnGiven fresh begins (stoppedOff true) (on nextLineByte) withholds-go-when-off-runs refl refl law
+    (in-between withholdsGoWhenOff OwnGiven fresh begins (stoppedOff true) (on nextLineByte) withholds-go-when-off-runs refl law
     refl refl refl refl refl)

@@ -16,7 +16,6 @@ use Rattle.wrong.specs.Trials.{fullOf, oneToFour, cameIn, talkerCameIn, 
 use Rattle.wrong.specs.WrongHolding.{beginsLate, endsAtMargin}
 use Rattle.wrong.specs.Broken.{Breaks}
 use Rattle.wrong.proofs.Computing.{computes}
-use Rattle.wrong.proofs.Small.{are-bytes}
 use Rattle.wrong.proofs.Written.{Turn, takes, does, Does, leaves}
 use Rattle.wrong.proofs.Trying.{in-run}
 
@@ -25,14 +24,14 @@ use Rattle.wrong.proofs.Trying.{in-run}
 -- the third byte of four leaves one free
 pub begins-late-falls : Breaks beginsLate HoldingGoes
 unfolding computes
-begins-late-falls law = false≢true (law (on (lineByte 51)) (cameIn 2 false false) are-bytes)
+begins-late-falls law = false≢true (law (on (lineByte 51)) (cameIn 2 false false) tt)
 
 -- a send leaves one free, where two end it
 pub ends-at-margin-falls : Breaks endsAtMargin HoldingGoes
 unfolding computes
 ends-at-margin-falls law =
     false≢true
-    (rw (holds oneToFour 0 4 refl) at (law (on (loopFrame sendData)) (having (λ s. withHolding s true) (fullOf oneToFour)) are-bytes))
+    (rw (holds oneToFour 0 4 refl) at (law (on (loopFrame sendData)) (having (λ s. withHolding s true) (fullOf oneToFour)) tt))
 
 -- ---- no byte is lost, where at most one arrives in each spell
 
@@ -48,7 +47,7 @@ pub begins-late-loses : Breaks beginsLate NoneLost
 unfolding computes fiveCome
 begins-late-loses law =
     lists-differ _ _ refl
-    (in-run beginsLate NoneLost (cameIn 2 false false) fiveCome (rw (no-round 4 2 refl), (rw (no-round 4 3 refl), (refl, tt))) refl refl law
+    (in-run beginsLate NoneLost (cameIn 2 false false) fiveCome (rw (no-round 4 2 refl), (rw (no-round 4 3 refl), (refl, tt))) refl law
     refl refl refl (omega arith) (omega arith, tt))
 
 -- one byte arrives in the first spell; a send ends it with one free; the next byte begins the second, and one more is lost
@@ -72,5 +71,5 @@ pub ends-at-margin-loses : Breaks endsAtMargin NoneLost
 unfolding computes twoSpells
 ends-at-margin-loses law =
     lists-differ _ _ refl
-    (in-run endsAtMargin NoneLost (talkerCameIn 2 false) twoSpells ends-at-margin-runs refl refl law
+    (in-run endsAtMargin NoneLost (talkerCameIn 2 false) twoSpells ends-at-margin-runs refl law
     refl refl refl (omega arith) (omega arith, (omega arith, tt)))

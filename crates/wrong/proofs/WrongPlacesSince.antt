@@ -6,10 +6,10 @@ use mathlib.Core.List.{List, [], _∷_}
 use Rattle.frame.specs.Frame.{made}
 use Rattle.answers.specs.Answers.{byte, frame}
 use Rattle.state.specs.State.{withRx, withTx}
-use Rattle.bridge.specs.Calls.{World, world, on, nextLineByte, loopFrame}
+use Rattle.bridge.specs.Calls.{receive, transmit, World, world, on, nextLineByte, loopFrame}
 use Rattle.laws.specs.Fitting.{KeepsFit}
 use Rattle.laws.specs.NextByte.{NextGiven}
-use Rattle.laws.specs.StorePlaces.{receive, transmit, PlacesSince}
+use Rattle.laws.specs.StorePlaces.{PlacesSince}
 use Rattle.refuting.specs.SmallRings.{ring}
 use Rattle.refuting.proofs.Apart.{lists-differ, answers-differ}
 use Rattle.refuting.proofs.StandsIn.{holds, no-round, goes-round}
@@ -18,7 +18,6 @@ use Rattle.wrong.specs.Trials.{oneToFour, cameIn, talkerCameIn, oneGone,
 use Rattle.wrong.specs.WrongStores.{roundLate, roundMasked, roundToSecond, comparesOnce, oldestLate, readsAcross, clearsInPlace, wiping}
 use Rattle.wrong.specs.Broken.{Breaks}
 use Rattle.wrong.proofs.Computing.{computes}
-use Rattle.wrong.proofs.Small.{are-bytes}
 use Rattle.wrong.proofs.Written.{Turn, takes, Does, leaves}
 use Rattle.wrong.proofs.Trying.{in-since}
 
@@ -46,7 +45,7 @@ round-late-runs = (refl, (refl, (refl, (refl, (refl, (rw (holds oneToFour 0 4 re
 pub round-late-falls : Breaks roundLate (PlacesSince receive)
 unfolding computes fifthCame
 round-late-falls law =
-    lists-differ _ _ refl (in-since roundLate (PlacesSince receive) (talkerCameIn 0 false) cleared fifthCame round-late-runs refl refl law refl refl)
+    lists-differ _ _ refl (in-since roundLate (PlacesSince receive) (talkerCameIn 0 false) cleared fifthCame round-late-runs refl law refl refl)
 
 -- "1" and "2" came in, a device clear comes, and then "<"
 abbrev clearedInPlace : Turn
@@ -64,7 +63,7 @@ pub clears-in-place-goes-on : Breaks clearsInPlace (PlacesSince receive)
 unfolding computes oneMore
 clears-in-place-goes-on law =
     lists-differ _ _ refl
-    (in-since clearsInPlace (PlacesSince receive) (cameIn 2 false false) clearedInPlace oneMore clears-in-place-runs refl refl law refl refl)
+    (in-since clearsInPlace (PlacesSince receive) (cameIn 2 false false) clearedInPlace oneMore clears-in-place-runs refl law refl refl)
 
 -- ---- the transmit store
 
@@ -73,7 +72,7 @@ pub round-masked-falls : Breaks roundMasked (PlacesSince transmit)
 unfolding computes
 round-masked-falls law =
     lists-differ _ _ refl
-    (law (on (loopFrame clearAll)) (on (loopFrame 65) ∷ on (loopFrame 66) ∷ []) listenerAddingEnds are-bytes tt (tt, (tt, tt)) refl refl)
+    (law (on (loopFrame clearAll)) (on (loopFrame 65) ∷ on (loopFrame 66) ∷ []) listenerAddingEnds tt tt (tt, (tt, tt)) refl refl)
 
 -- a listener whose transmit store holds n bytes from the place p on, and the device clear that empties it
 abbrev listenerHolding : List ℕ → ℕ → ℕ → World
@@ -96,7 +95,7 @@ pub wiping-wipes : Breaks wiping (PlacesSince transmit)
 unfolding computes clearedForLine
 wiping-wipes law =
     lists-differ _ _ refl
-    (in-since wiping (PlacesSince transmit) (listenerHolding (begunWith 0) 0 0) clearedForLine oneHanded wiping-runs refl refl law refl refl)
+    (in-since wiping (PlacesSince transmit) (listenerHolding (begunWith 0) 0 0) clearedForLine oneHanded wiping-runs refl law refl refl)
 
 -- "A", "B" and "C" come, "A" is handed out, and "D" comes
 fourthCame : List Turn
@@ -118,7 +117,7 @@ pub round-to-second-falls : Breaks roundToSecond (PlacesSince transmit)
 unfolding computes clearedForLine fourthCame
 round-to-second-falls law =
     lists-differ _ _ refl
-    (in-since roundToSecond (PlacesSince transmit) (listenerHolding (begunWith 0) 0 0) clearedForLine fourthCame round-to-second-runs refl refl law
+    (in-since roundToSecond (PlacesSince transmit) (listenerHolding (begunWith 0) 0 0) clearedForLine fourthCame round-to-second-runs refl law
     refl refl)
 
 -- "A" comes and is handed out, and "B" comes as an end byte
@@ -138,7 +137,7 @@ pub compares-once-falls : Breaks comparesOnce (PlacesSince transmit)
 unfolding computes clearedForLine acrossTheEnd
 compares-once-falls law =
     lists-differ _ _ refl
-    (in-since comparesOnce (PlacesSince transmit) (listenerHolding (begunWith 0) 0 0) clearedForLine acrossTheEnd compares-once-runs refl refl law
+    (in-since comparesOnce (PlacesSince transmit) (listenerHolding (begunWith 0) 0 0) clearedForLine acrossTheEnd compares-once-runs refl law
     refl refl)
 
 -- ---- what a ring that goes round wrongly breaks besides: the state fits no more, and a byte is handed out that is not the oldest
@@ -146,11 +145,11 @@ compares-once-falls law =
 -- the byte at the last place is handed out, and the next is at place 3 of three
 pub oldest-late-falls : Breaks oldestLate KeepsFit
 unfolding computes
-oldest-late-falls law = false≢true (rw (goes-round 3 3 refl) at (law (on nextLineByte) (listenerHolding (65 ∷ 66 ∷ 67 ∷ []) 2 1) are-bytes refl))
+oldest-late-falls law = false≢true (rw (goes-round 3 3 refl) at (law (on nextLineByte) (listenerHolding (65 ∷ 66 ∷ 67 ∷ []) 2 1) tt refl))
 
 -- "C" is at the last place, and "A" is handed out
 pub reads-across-falls : Breaks readsAcross NextGiven
 unfolding computes
 reads-across-falls law =
     answers-differ _ _ refl
-    (rw (holds (65 ∷ 66 ∷ 67 ∷ []) 2 1 refl) at (law (on nextLineByte) (listenerHolding (65 ∷ 66 ∷ 67 ∷ []) 2 1) are-bytes refl refl))
+    (rw (holds (65 ∷ 66 ∷ 67 ∷ []) 2 1 refl) at (law (on nextLineByte) (listenerHolding (65 ∷ 66 ∷ 67 ∷ []) 2 1) tt refl refl))

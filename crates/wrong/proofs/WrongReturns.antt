@@ -41,7 +41,7 @@ judged : (B : Call → World → Did) (f : ℕ) (ts : List Turn) (r : ℕ) → D
     (saw (on (loopFrame r)) (leftSo (oneSent activeData f) ts) (B (on (loopFrame r)) (leftSo (oneSent activeData f) ts)))
 unfolding computes
 judged B f ts r does none fair isdata answered law =
-    in-between B ReturnsJudged full (sends f) ts (on (loopFrame r)) does refl fair law false firstFrame r refl none refl isdata answered
+    in-between B ReturnsJudged full (sends f) ts (on (loopFrame r)) does fair law false firstFrame r refl none refl isdata answered
 
 -- the second line is held
 second-holds : held twoLines (ring 6 3 3) ≡ 50 ∷ 13 ∷ 10 ∷ []

@@ -13,7 +13,6 @@ use Rattle.wrong.specs.WrongRoles.{ignoring, neverTalker, neverListener,
 use Rattle.wrong.specs.WrongRoles.{activeThroughout, neverEnds, readdressed, remoteUnasked}
 use Rattle.wrong.specs.Broken.{Breaks}
 use Rattle.wrong.proofs.Computing.{computes}
-use Rattle.wrong.proofs.Small.{are-bytes}
 
 abbrev isListener : Role → Bool
 isListener r = r .listener
@@ -28,66 +27,66 @@ isRemote m = m .remote
 
 pub ignoring-144-falls : Breaks (ignoring 144) RoleGoes
 unfolding computes
-ignoring-144-falls law = true≢false (ap isListener (law (takesCommand 144) listening are-bytes refl))
+ignoring-144-falls law = true≢false (ap isListener (law (takesCommand 144) listening tt refl))
 
 pub ignoring-146-falls : Breaks (ignoring 146) RemoteGoes
 unfolding computes
-ignoring-146-falls law = false≢true (ap isEnabled (law (takesCommand 146) fresh are-bytes refl))
+ignoring-146-falls law = false≢true (ap isEnabled (law (takesCommand 146) fresh tt refl))
 
 pub ignoring-147-falls : Breaks (ignoring 147) RemoteGoes
 unfolding computes
-ignoring-147-falls law = true≢false (ap isRemote (law (takesCommand 147) listening are-bytes refl))
+ignoring-147-falls law = true≢false (ap isRemote (law (takesCommand 147) listening tt refl))
 
 pub ignoring-1-falls : Breaks (ignoring 1) RemoteGoes
 unfolding computes
-ignoring-1-falls law = true≢false (ap isRemote (law (takesCommand 1) listening are-bytes refl))
+ignoring-1-falls law = true≢false (ap isRemote (law (takesCommand 1) listening tt refl))
 
 pub ignoring-154-falls : Breaks (ignoring 154) RoleGoes
 unfolding computes
-ignoring-154-falls law = false≢true (ap isUnassigned (law (takesCommand 154) listening are-bytes refl))
+ignoring-154-falls law = false≢true (ap isUnassigned (law (takesCommand 154) listening tt refl))
 
 pub passes-all-stays-listener : Breaks passesAll RoleGoes
 unfolding computes
-passes-all-stays-listener law = true≢false (ap isListener (law (takesCommand 144) listening are-bytes refl))
+passes-all-stays-listener law = true≢false (ap isListener (law (takesCommand 144) listening tt refl))
 
 -- ---- talker and listener
 
 pub never-talker-falls : Breaks neverTalker RoleGoes
 unfolding computes
-never-talker-falls law = false≢true (ap isTalker (law (takesCommand 69) assigned are-bytes refl))
+never-talker-falls law = false≢true (ap isTalker (law (takesCommand 69) assigned tt refl))
 
 pub never-listener-falls : Breaks neverListener RoleGoes
 unfolding computes
-never-listener-falls law = false≢true (ap isListener (law (takesCommand 37) assigned are-bytes refl))
+never-listener-falls law = false≢true (ap isListener (law (takesCommand 37) assigned tt refl))
 
 pub listens-to-31-falls : Breaks listensTo31 RoleGoes
 unfolding computes
-listens-to-31-falls law = true≢false (ap isListener (law (takesCommand 63) fresh are-bytes refl))
+listens-to-31-falls law = true≢false (ap isListener (law (takesCommand 63) fresh tt refl))
 
 pub talker-and-listener-falls : Breaks talkerAndListener RoleGoes
 unfolding computes
-talker-and-listener-falls law = true≢false (ap isTalker (law (takesCommand 37) addressedTalker are-bytes refl))
+talker-and-listener-falls law = true≢false (ap isTalker (law (takesCommand 37) addressedTalker tt refl))
 
 -- it is talker and listener at once, and so does not fit
 pub talker-and-listener-misfits : Breaks talkerAndListener KeepsFit
 unfolding computes
-talker-and-listener-misfits law = false≢true (law (takesCommand 37) addressedTalker are-bytes refl)
+talker-and-listener-misfits law = false≢true (law (takesCommand 37) addressedTalker tt refl)
 
 pub active-throughout-falls : Breaks activeThroughout RoleGoes
 unfolding computes
-active-throughout-falls law = true≢false (ap isActive (law (takesCommand 20) activeTalker are-bytes refl))
+active-throughout-falls law = true≢false (ap isActive (law (takesCommand 20) activeTalker tt refl))
 
 -- 0,49 comes back for 0,48
 pub never-ends-falls : Breaks neverEnds RoleGoes
 unfolding computes
-never-ends-falls law = true≢false (ap isActive (law (takes 0 49) activeTalker are-bytes refl))
+never-ends-falls law = true≢false (ap isActive (law (takes 0 49) activeTalker tt refl))
 
 -- ---- address and remote
 
 pub readdressed-falls : Breaks readdressed RoleGoes
 unfolding computes
-readdressed-falls law = true≢false (ap (λ (r : Role). eqb (r .address) 7) (law (takesReady 135) assigned are-bytes refl))
+readdressed-falls law = true≢false (ap (λ (r : Role). eqb (r .address) 7) (law (takesReady 135) assigned tt refl))
 
 pub remote-unasked-falls : Breaks remoteUnasked RemoteGoes
 unfolding computes
-remote-unasked-falls law = true≢false (ap isRemote (law (takesCommand 37) assigned are-bytes refl))
+remote-unasked-falls law = true≢false (ap isRemote (law (takesCommand 37) assigned tt refl))

@@ -17,7 +17,6 @@ use Rattle.wrong.specs.Trials.{oneToFour, cameIn}
 use Rattle.wrong.specs.WrongRooms.{tellsBefore, tellsTheOther, tellsWhenRefused, tellsIfStored}
 use Rattle.wrong.specs.Broken.{BreaksTelling}
 use Rattle.wrong.proofs.Computing.{computes}
-use Rattle.wrong.proofs.Small.{are-bytes}
 use Rattle.wrong.proofs.Trying.{told-since, told-between}
 use Rattle.wrong.proofs.Written.{Turn, tells, does}
 
@@ -27,22 +26,22 @@ use Rattle.wrong.proofs.Written.{Turn, tells, does}
 pub tells-before-falls : BreaksTelling tellsBefore RoomTold
 unfolding computes
 tells-before-falls law =
-    numbers-differ _ _ refl (rw (no-round 4 1 refl, holds oneToFour 0 2 refl) at (law (on (lineByte 50)) (cameIn 1 false false) are-bytes))
+    numbers-differ _ _ refl (rw (no-round 4 1 refl, holds oneToFour 0 2 refl) at (law (on (lineByte 50)) (cameIn 1 false false) tt))
 
 -- at a go, which is 17: the transmit store has three places free, and the receive store two
 pub tells-the-other-falls : BreaksTelling tellsTheOther RoomTold
 unfolding computes
-tells-the-other-falls law = numbers-differ _ _ refl (rw (holds oneToFour 0 2 refl) at (law (on (lineByte 17)) (cameIn 2 false false) are-bytes))
+tells-the-other-falls law = numbers-differ _ _ refl (rw (holds oneToFour 0 2 refl) at (law (on (lineByte 17)) (cameIn 2 false false) tt))
 
 -- 2,048 is no frame
 pub tells-when-refused-falls : BreaksTelling tellsWhenRefused RoomTold
 unfolding computes
-tells-when-refused-falls law = numbers-differ _ _ refl (law (on (loopFrame 2048)) fresh are-bytes)
+tells-when-refused-falls law = numbers-differ _ _ refl (law (on (loopFrame 2048)) fresh tt)
 
 -- a go
 pub tells-if-stored-falls : BreaksTelling tellsIfStored RoomTold
 unfolding computes
-tells-if-stored-falls law = numbers-differ _ _ refl (rw (holds oneToFour 0 2 refl) at (law (on (lineByte 17)) (cameIn 2 false false) are-bytes))
+tells-if-stored-falls law = numbers-differ _ _ refl (rw (holds oneToFour 0 2 refl) at (law (on (lineByte 17)) (cameIn 2 false false) tt))
 
 -- ---- what is told of the receive store is there
 
@@ -53,7 +52,7 @@ tells-before-loses law =
     lists-differ _ _ refl
     (told-since tellsBefore RoomHolds (cameIn 2 false false) (tells (lineByte 51) done 2 (cameIn 3 true false))
     (tells (lineByte 52) done 1 (cameIn 4 true false) ∷ does tellsBefore (on (lineByte 53)) (cameIn 4 true false) ∷ [])
-    (rw (no-round 4 2 refl), (rw (no-round 4 3 refl), (refl, tt))) refl refl law refl (leb-true _ _ refl))
+    (rw (no-round 4 2 refl), (rw (no-round 4 3 refl), (refl, tt))) refl law refl (leb-true _ _ refl))
 
 -- it tells three, and the next byte is lost
 pub tells-the-other-loses : BreaksTelling tellsTheOther RoomHolds
@@ -61,7 +60,7 @@ unfolding computes
 tells-the-other-loses law =
     lists-differ _ _ refl
     (told-since tellsTheOther RoomHolds (cameIn 3 true false) (tells (lineByte 52) done 3 (cameIn 4 true false))
-    (does tellsTheOther (on (lineByte 53)) (cameIn 4 true false) ∷ []) (rw (no-round 4 3 refl), (refl, tt)) refl refl law refl (leb-true _ _ refl))
+    (does tellsTheOther (on (lineByte 53)) (cameIn 4 true false) ∷ []) (rw (no-round 4 3 refl), (refl, tt)) refl law refl (leb-true _ _ refl))
 
 -- ---- what is told of the transmit store is there
 
@@ -78,11 +77,11 @@ pub tells-before-is-busy : BreaksTelling tellsBefore RoomTakes
 unfolding computes
 tells-before-is-busy law =
     told-between tellsBefore RoomTakes listening (tells (loopFrame 65) (frame 0 65) 3 (kept 1)) (second 2 1) (on (loopFrame 68))
-    (rw (no-round 3 0 refl), (rw (no-round 3 1 refl), (rw (no-round 3 2 refl), tt))) refl refl law 68 refl refl (leb-true _ _ refl) refl
+    (rw (no-round 3 0 refl), (rw (no-round 3 1 refl), (rw (no-round 3 2 refl), tt))) refl law 68 refl refl (leb-true _ _ refl) refl
 
 -- it tells four, two are added, and the one after these is busy
 pub tells-the-other-is-busy : BreaksTelling tellsTheOther RoomTakes
 unfolding computes
 tells-the-other-is-busy law =
     told-between tellsTheOther RoomTakes listening (tells (loopFrame 65) (frame 0 65) 4 (kept 1)) (second 4 4) (on (loopFrame 68))
-    (rw (no-round 3 0 refl), (rw (no-round 3 1 refl), (rw (no-round 3 2 refl), tt))) refl refl law 68 refl refl (leb-true _ _ refl) refl
+    (rw (no-round 3 0 refl), (rw (no-round 3 1 refl), (rw (no-round 3 2 refl), tt))) refl law 68 refl refl (leb-true _ _ refl) refl

@@ -6,15 +6,13 @@ use mathlib.Core.Bool.{true≢false}
 use mathlib.Core.List.{List, []}
 use lib.Dec.{eqb}
 use lib.ListN.{getD}
-use Rattle.store.specs.Bytes.{Bytes}
-use Rattle.bridge.specs.Calls.{write, show, on}
+use Rattle.bridge.specs.Calls.{receive, write, show, on}
 use Rattle.laws.specs.Showing.{ShowsSo}
 use Rattle.laws.specs.Starting.{SizesStay}
 use Rattle.wrong.specs.SmallWorlds.{holdingBytes, misfitting, takesCommand}
 use Rattle.wrong.specs.Trials.{oneToFour}
-use Rattle.wrong.specs.WrongShows.{showsNothing, showsMisfits, clearsMargin, writesMargin, wideBytes, wide}
+use Rattle.wrong.specs.WrongShows.{showsNothing, showsMisfits, clearsMargin, writesMargin, wide}
 use Rattle.wrong.specs.Broken.{Breaks}
-use Rattle.wrong.proofs.Small.{bytes, are-bytes}
 use Rattle.wrong.proofs.Computing.{computes}
 use Rattle.wrong.proofs.Ends.{hasAt}
 
@@ -22,20 +20,17 @@ use Rattle.wrong.proofs.Ends.{hasAt}
 pub shows-nothing-falls : Breaks showsNothing ShowsSo
 unfolding computes
 shows-nothing-falls law =
-    let n : _≡_ {A = ℕ} 0 2 = law (show 0) (holdingBytes 2) are-bytes 0 [] refl refl .rx refl refl .longest in
+    let n : _≡_ {A = ℕ} 0 2 = law (show receive) (holdingBytes 2) tt receive [] refl refl .part refl .longest in
     omega arith
 
 pub shows-misfits-falls : Breaks showsMisfits ShowsSo
 unfolding computes
-shows-misfits-falls law = true≢false (ap (hasAt 0 49) (law (show 0) misfitting are-bytes 0 oneToFour refl refl .misfit refl))
-
-wide-bytes : Bytes wideBytes
-wide-bytes = bytes wideBytes refl
+shows-misfits-falls law = true≢false (ap (hasAt 0 49) (law (show receive) misfitting tt receive oneToFour refl refl .misfit refl))
 
 pub clears-margin-falls : Breaks clearsMargin SizesStay
 unfolding computes
-clears-margin-falls law = true≢false (ap (λ (x : List ℕ). eqb (getD x 0 0) 1) (law (takesCommand 20) wide wide-bytes refl))
+clears-margin-falls law = true≢false (ap (λ (x : List ℕ). eqb (getD x 0 0) 1) (law (takesCommand 20) wide tt refl))
 
 pub writes-margin-falls : Breaks writesMargin SizesStay
 unfolding computes
-writes-margin-falls law = true≢false (ap (λ (x : List ℕ). eqb (getD x 0 0) 1) (law (on (write 11 8)) wide wide-bytes refl))
+writes-margin-falls law = true≢false (ap (λ (x : List ℕ). eqb (getD x 0 0) 1) (law (on (write 11 8)) wide tt refl))

@@ -17,7 +17,6 @@ use Rattle.wrong.specs.WrongStatus.{enablesExchanged, enablesAll, reques
 use Rattle.wrong.specs.Broken.{Breaks}
 use Rattle.wrong.proofs.Computing.{computes}
 use Rattle.wrong.proofs.Ends.{hasAt}
-use Rattle.wrong.proofs.Small.{are-bytes}
 
 one-held : held oneToFour (record { cap = 4; oldest = 0; len = 1 }) ≡ 49 ∷ []
 one-held = held-unbroken oneToFour (record { cap = 4; oldest = 0; len = 1 }) (omega arith)
@@ -31,7 +30,7 @@ all-held = held-unbroken transmitBytes (record { cap = 3; oldest = 0; len = 3 })
 pub shows-exchanged-falls : Breaks showsExchanged StatusTold
 unfolding computes
 shows-exchanged-falls law =
-    let sent = law (takesReady 97) talkerOfOne are-bytes (made 5 97) refl refl refl in
+    let sent = law (takesReady 97) talkerOfOne tt (made 5 97) refl refl refl in
     let z : true ≡ false = rw (one-held, held-empty transmitBytes 3) at (ap (hasAt 0 11) sent) in
     true≢false z
 
@@ -39,7 +38,7 @@ shows-exchanged-falls law =
 pub shows-room-falls : Breaks showsRoom StatusTold
 unfolding computes
 shows-room-falls law =
-    let sent = law (takesReady 97) talkerWithoutRoom are-bytes (made 5 97) refl refl refl in
+    let sent = law (takesReady 97) talkerWithoutRoom tt (made 5 97) refl refl refl in
     let z : true ≡ false = rw (all-held, held-empty oneToFour 4) at (ap (hasAt 0 2) sent) in
     true≢false z
 
@@ -47,7 +46,7 @@ shows-room-falls law =
 pub shows-after-falls : Breaks showsAfter StatusTold
 unfolding computes
 shows-after-falls law =
-    let sent = law (takesReady 97) shownRequest are-bytes (made 5 97) refl refl refl in
+    let sent = law (takesReady 97) shownRequest tt (made 5 97) refl refl refl in
     let z : true ≡ false = rw (held-empty oneToFour 4, held-empty transmitBytes 3) at (ap (hasAt 0 3) sent) in
     true≢false z
 
@@ -55,7 +54,7 @@ shows-after-falls law =
 pub shows-any-request-falls : Breaks showsAnyRequest StatusTold
 unfolding computes
 shows-any-request-falls law =
-    let sent = law (takesReady 97) hiddenRequest are-bytes (made 5 97) refl refl refl in
+    let sent = law (takesReady 97) hiddenRequest tt (made 5 97) refl refl refl in
     let z : true ≡ false = rw (held-empty oneToFour 4, held-empty transmitBytes 3) at (ap (hasAt 0 67) sent) in
     true≢false z
 
@@ -65,17 +64,17 @@ shows-any-request-falls law =
 pub enables-exchanged-falls : Breaks enablesExchanged RequestsGo
 unfolding computes
 enables-exchanged-falls law =
-    let z : false ≡ true = rw one-held at (law (on (write 1 4)) (holdingBytes 1) are-bytes .goes refl) in
+    let z : false ≡ true = rw one-held at (law (on (write 1 4)) (holdingBytes 1) tt .goes refl) in
     false≢true z
 
 pub enables-all-falls : Breaks enablesAll RequestsGo
 unfolding computes
-enables-all-falls law = true≢false (law (on key) fresh are-bytes .goes refl)
+enables-all-falls law = true≢false (law (on key) fresh tt .goes refl)
 
 pub requests-on-falls : Breaks requestsOn RequestsGo
 unfolding computes
-requests-on-falls law = true≢false (law (takesCommand 20) hiddenRequest are-bytes .starts refl)
+requests-on-falls law = true≢false (law (takesCommand 20) hiddenRequest tt .starts refl)
 
 pub requests-forever-falls : Breaks requestsForever RequestsGo
 unfolding computes
-requests-forever-falls law = true≢false (law (takesReady 97) hiddenRequest are-bytes .goes refl)
+requests-forever-falls law = true≢false (law (takesReady 97) hiddenRequest tt .goes refl)

@@ -10,7 +10,7 @@ use Rattle.role.specs.Role.{startRole, addressed, activeData, activeStatus, wit
 use Rattle.state.specs.Sizes.{startState}
 use Rattle.state.specs.State.{withRegisters, withRx, withTx, withLine, withCounts}
 use Rattle.bridge.specs.Calls.{World, world}
-use Rattle.laws.specs.Events.{Event}
+use Rattle.laws.specs.Events.{Event, broken, overrun, pressed}
 use Rattle.refuting.specs.SmallRings.{ring}
 use Rattle.wrong.specs.Changing.{withRole, withUnder}
 use Rattle.wrong.specs.Seeing.{having, withNoted, withForbidden}
@@ -43,6 +43,12 @@ oneSent phase f =
 -- where the event is noted
 abbrev pub fullNoting : Event → World
 fullNoting e = having (withNoted e true) full
+
+-- for each event: a break comes where nothing is held, so that it marks no cell
+abbrev pub forEvent : World → Event → World
+forEvent w broken = having (λ s. withRx s (ring 6 0 0)) w
+forEvent w overrun = w
+forEvent w pressed = w
 
 -- where the status byte 47 is under way
 abbrev pub statusUnderWay : World

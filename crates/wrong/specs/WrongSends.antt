@@ -5,7 +5,6 @@ use mathlib.Core.List.{List, [], _∷_}
 use lib.Dec.{eqb}
 use Rattle.frame.specs.Frame.{controlOf, dataOf, isEnd}
 use Rattle.store.specs.Ring.{emptyRing}
-use Rattle.store.specs.Bytes.{Bytes}
 use Rattle.answers.specs.Answers.{Said, done, frame}
 use Rattle.state.specs.State.{withRx, withLine}
 use Rattle.bridge.specs.Calls.{Call, World, Did, step}
@@ -39,7 +38,7 @@ tired =
       stands = λ o. o .world;
       answer = λ c o. tires c o .said;
       after = λ c o. record { world = tires c o .world; calls = o .calls + 1 };
-      Fine = λ o. Bytes (o .world .rx);
+      Fine = λ o. Unit {0};
       Fair = ByteCall;
     }
 

@@ -7,9 +7,11 @@ use lib.ListN.{length, set, getD}
 use Rattle.store.specs.Ring.{emptyRing, dropRing}
 use Rattle.answers.specs.Answers.{done, byte}
 use Rattle.state.specs.State.{withRx, withTx}
-use Rattle.bridge.specs.Calls.{Call, World, world, Did, step}
-use Rattle.laws.specs.Observers.{any, accepted, lost, added, handedOut, clears}
+use Rattle.bridge.specs.Calls.{receive, Call, World, world, Did, step}
+use Rattle.laws.specs.Observers.{any, accepted, breaks, lost, added, handedOut, clears}
 use Rattle.places.specs.OneStore.{nextPlace, writtenFrom}
+use Rattle.reading.specs.Received.{markedCell}
+use Rattle.laws.specs.StorePlaces.{writtenTo}
 use Rattle.places.specs.GoingRound.{GoingRound}
 use Rattle.places.specs.WrongGoingRound.{late, masked, toTheSecond}
 use Rattle.wrong.specs.Changing.{leaving, afterwards, answering, isCreate}
@@ -20,7 +22,8 @@ use Rattle.wrong.specs.Changing.{leaving, afterwards, answering, isCreat
 abbrev pub oneTooFar : Call → World → Did
 oneTooFar =
     leaving
-    (λ c w v. world (v .state) (writtenFrom ((nextPlace (length (w .rx)) (w .state .rx) + 1) % length (w .rx)) (accepted c w done) (w .rx)) (v .tx))
+    (λ c w v. world (v .state) (writtenFrom markedCell ((nextPlace (length (w .rx)) (w .state .rx) + 1) % length (w .rx)) (writtenTo receive c w done) (w .rx))
+    (v .tx))
 
 -- a device clear drops what the receive store holds and does not go back to place 0
 abbrev pub clearsInPlace : Call → World → Did
@@ -42,7 +45,7 @@ abbrev roundBy : GoingRound → Call → World → Did
 roundBy g =
     leaving
     (λ c w v.
-    world (v .state) (writtenBy g (w .state .rx .oldest + w .state .rx .len) (accepted c w done) (w .rx))
+    world (v .state) (cond (breaks c w done) (v .rx) (writtenBy g (w .state .rx .oldest + w .state .rx .len) (accepted c w done) (w .rx)))
     (writtenBy g (w .state .tx .oldest + w .state .tx .len) (added c w done) (w .tx)))
 
 -- goes round one place late, and swallows the byte that should stand at place 0
