@@ -1,31 +1,34 @@
 /*
  * Raftershim: a software HP-IL/RS-232 interface, one device on a loop, as C functions.
  *
- * The bridge keeps nothing between calls. The caller lends three buffers at every call, each as a pointer and a length in bytes:
- * the block, which holds the state (raftershim_block_len() bytes), the receive store (line to loop) and the transmit store (loop
- * to line). They are the same three at every call, untouched in between, and they do not overlap. A pointer is not null and is
- * good for its length. One call at a time may use a set of buffers. A state knows its stores by their lengths alone: two of equal length
- * that are exchanged are not noticed, and neither is a store of another bridge.
+ * The bridge keeps nothing between calls. The caller lends three buffers at every call, each as a pointer and a length: the block,
+ * which holds the state (raftershim_block_len() bytes), the receive store (line to loop), of cells with its length in cells, and the
+ * transmit store (loop to line), of bytes. They are the same three at every call, untouched in between, and they do not overlap. A pointer
+ * is not null and is good for its length, and that of the receive store is aligned for 16 bits. One call at a time may use a set of
+ * buffers. A state knows its stores by their lengths alone: a store of another bridge that has the same length is not noticed.
+ *
+ * A cell is 16 bits: bits 0 to 7 the byte, bit 8 the mark that a break follows it. The bits above are written as 0 and do not count when a
+ * cell is read. The length of the receive store is its number of cells, and not its sizeof, which is twice as much.
  *
  * A length has 64 bits on every target, also where a pointer has 32: that is what the proved code takes, so no length is ever cut.
  *
- * The first byte of a block is the version of its layout, which is 2. A block with another first byte is not a state: every call but
- * create is refused by 2, and showing answers an empty part. What the other bytes are stands below: a caller may read them and writes
- * none.
+ * The first byte of a block is the version of what the block means, which is 3. A block with another first byte is not a state: every call
+ * but create is refused by 2, and showing answers an empty part. So is a block of version 2, whose receive store had bytes. What the other
+ * bytes are stands below: a caller may read them and writes none.
  *
- * Every function but raftershim_block_len and raftershim_show answers one number of 64 bits:
+ * Every function but raftershim_block_len and the two that show a store answers one number of 64 bits:
  *
  *   bits 0 to 15    the value: a line byte, a frame or the number of a refusal, and 0 where there is none
  *   bits 16 to 23   the kind: 0 done, 1 none, 2 a line byte, 3 a frame, 4 refused
  *   bits 24 to 31   reserved: 0 for now
- *   bits 32 to 47   the room, 0 to 32768: how many bytes more a store can hold after the call
+ *   bits 32 to 47   the room, 0 to 32768: how many cells or bytes more a store can hold after the call
  *   bits 48 to 63   reserved: 0 for now
  *
  * A reader masks off what it does not read, as RAFTERSHIM_KIND, RAFTERSHIM_VALUE and RAFTERSHIM_ROOM do.
  *
  * Two functions tell the room, whatever the byte or the frame did: raftershim_line_byte that of the receive store, and
  * raftershim_loop_frame that of the transmit store. A refusal is its number alone and has 0 there, and so has every other function that
- * answers such a number. RAFTERSHIM_ROOM is not for raftershim_show.
+ * answers such a number. RAFTERSHIM_ROOM is not for the two that show a store.
  *
  * A frame is 11 bits: three control bits above eight data bits, control * 256 + data.
  *
@@ -65,27 +68,27 @@ extern "C" {
 /* The one refusal that passes: the frame is offered again when the line has taken bytes. */
 #define RAFTERSHIM_BUSY 4u
 
-/* The start and the length of a part that raftershim_show answered. */
+/* The start and the length of a part that was shown: in cells of the receive store, in bytes of the transmit store. */
 #define RAFTERSHIM_START(answer) ((uint32_t)((answer) >> 32))
 #define RAFTERSHIM_LENGTH(answer) ((uint32_t)((answer) & 0xFFFFFFFFu))
 
-/* The sides of raftershim_show. */
-#define RAFTERSHIM_RECEIVE 0u
-#define RAFTERSHIM_TRANSMIT 1u
+/* The byte of a cell of the receive store, and its mark: 1 if a break follows the byte, else 0. */
+#define RAFTERSHIM_CELL_BYTE(cell) ((uint32_t)(cell) & 0xFFu)
+#define RAFTERSHIM_CELL_BREAK(cell) ((uint32_t)(cell) >> 8 & 1u)
 
 /*
- * The layout of a block, version 2: where each field starts, and how it is packed. A number of two or four bytes has its low byte first;
+ * The layout of a block, version 3: where each field starts, and how it is packed. A number of two or four bytes has its low byte first;
  * a flag is 1 or 0. A field means what it says while the block is a state, which is after create, and after every later call.
  */
-#define RAFTERSHIM_VERSION 2u
+#define RAFTERSHIM_VERSION 3u
 #define RAFTERSHIM_BLOCK_LEN 56u
 
 #define RAFTERSHIM_AT_VERSION 0u /* byte: the version */
 #define RAFTERSHIM_AT_MARGIN 1u /* two: the margin */
-#define RAFTERSHIM_AT_RECEIVE_LEN 3u /* two: the length of the receive store */
-#define RAFTERSHIM_AT_RECEIVE_OLDEST 5u /* two: the place of its oldest byte */
-#define RAFTERSHIM_AT_RECEIVE_HELD 7u /* two: how many bytes it holds */
-#define RAFTERSHIM_AT_TRANSMIT_LEN 9u /* two: the length of the transmit store */
+#define RAFTERSHIM_AT_RECEIVE_LEN 3u /* two: the length of the receive store, in cells */
+#define RAFTERSHIM_AT_RECEIVE_OLDEST 5u /* two: the place of its oldest cell */
+#define RAFTERSHIM_AT_RECEIVE_HELD 7u /* two: how many cells it holds */
+#define RAFTERSHIM_AT_TRANSMIT_LEN 9u /* two: the length of the transmit store, in bytes */
 #define RAFTERSHIM_AT_TRANSMIT_OLDEST 11u /* two: the place of its oldest byte */
 #define RAFTERSHIM_AT_TRANSMIT_HELD 13u /* two: how many bytes it holds */
 #define RAFTERSHIM_AT_STORED 15u /* four: bytes stored in the receive store */
@@ -138,7 +141,7 @@ extern "C" {
 #define RAFTERSHIM_LOST(block) RAFTERSHIM_FOUR(block, RAFTERSHIM_AT_LOST)
 #define RAFTERSHIM_SENT(block) RAFTERSHIM_FOUR(block, RAFTERSHIM_AT_SENT)
 
-/* How many bytes each store holds. */
+/* How many cells the receive store holds, which are as many bytes, and how many bytes the transmit store holds. */
 #define RAFTERSHIM_RECEIVE_HELD(block) RAFTERSHIM_TWO(block, RAFTERSHIM_AT_RECEIVE_HELD)
 #define RAFTERSHIM_TRANSMIT_HELD(block) RAFTERSHIM_TWO(block, RAFTERSHIM_AT_TRANSMIT_HELD)
 
@@ -171,17 +174,17 @@ uint64_t raftershim_block_len(void);
 /*
  * Makes a state in the block for stores of these lengths, with this margin; what the block held does not matter. Neither store is
  * written. Answers done.
- * Refusal 1: the margin is not 1 to 1024, the receive store has not 2 * margin + 2 to 32768 bytes, the transmit store has not 3 to
+ * Refusal 1: the margin is not 1 to 1024, the receive store has not 2 * margin + 2 to 32768 cells, the transmit store has not 3 to
  * 32768 bytes, or the block has not raftershim_block_len() bytes.
  */
-uint64_t raftershim_create(uint8_t *block, uint64_t block_len, const uint8_t *rx, uint64_t rx_len, const uint8_t *tx,
+uint64_t raftershim_create(uint8_t *block, uint64_t block_len, const uint16_t *rx, uint64_t rx_len, const uint8_t *tx,
                            uint64_t tx_len, uint32_t margin);
 
 /*
  * Gives the block what create gives for the same sizes and margin. Neither store is written. Answers done.
  * Refusal 2: the block is not a state that fits the stores.
  */
-uint64_t raftershim_reset(uint8_t *block, uint64_t block_len, const uint8_t *rx, uint64_t rx_len, const uint8_t *tx, uint64_t tx_len);
+uint64_t raftershim_reset(uint8_t *block, uint64_t block_len, const uint16_t *rx, uint64_t rx_len, const uint8_t *tx, uint64_t tx_len);
 
 /*
  * Writes a register: numbers 0 to 12 are R00 to R12, 16 to 21 are C00 to C05. Neither store is written. Answers done.
@@ -189,37 +192,41 @@ uint64_t raftershim_reset(uint8_t *block, uint64_t block_len, const uint8_t *rx,
  * a control register, or above 255 for a character. Refusal 7: the value has a control bit that is not carried. Refusal 8: the go and
  * stop characters would be equal.
  */
-uint64_t raftershim_write_register(uint8_t *block, uint64_t block_len, const uint8_t *rx, uint64_t rx_len, const uint8_t *tx,
+uint64_t raftershim_write_register(uint8_t *block, uint64_t block_len, const uint16_t *rx, uint64_t rx_len, const uint8_t *tx,
                                    uint64_t tx_len, uint32_t number, uint32_t value);
 
 /*
- * Takes a byte from the line: go and stop permit or forbid our sending while the protocol is on, any other byte is stored in the
- * receive store, or lost if that is full. Answers done, and the room of the receive store: go and stop leave it as it is, and after a
- * byte that is lost it is 0.
+ * Takes a byte from the line: go and stop permit or forbid our sending while the protocol is on, any other byte is stored in a cell of
+ * the receive store without a mark, or lost if that is full. Answers done, and the room of the receive store in cells: go and stop leave it
+ * as it is, and after a byte that is lost it is 0.
  * Refusal 2: the block is not a state that fits the stores.
  */
-uint64_t raftershim_line_byte(uint8_t *block, uint64_t block_len, uint8_t *rx, uint64_t rx_len, const uint8_t *tx, uint64_t tx_len,
+uint64_t raftershim_line_byte(uint8_t *block, uint64_t block_len, uint16_t *rx, uint64_t rx_len, const uint8_t *tx, uint64_t tx_len,
                               uint8_t byte);
 
 /*
- * Takes a break on the line. Answers done. Neither store is written; the receive store is lent for writing so that a mark of the break in
- * it would change no caller.
+ * Takes a break on the line. Answers done. If the receive store holds anything, its newest cell becomes its byte with the mark, 256 + byte,
+ * and nothing else in a store is written. If it holds nothing, no store is written. A mark takes no room, and several breaks at one place
+ * are one mark. The break is told by the status byte in any case.
+ * A break parts the ends of lines: with R10 bit 3 on, C00 before it and C01 after it are no end of line, and a byte before it gets no end of
+ * line that comes after it. What waited to be decided waits no longer: each such byte becomes a data frame. With R10 bit 3 off a mark
+ * means nothing.
  * Refusal 2: the block is not a state that fits the stores.
  */
-uint64_t raftershim_break(uint8_t *block, uint64_t block_len, uint8_t *rx, uint64_t rx_len, const uint8_t *tx, uint64_t tx_len);
+uint64_t raftershim_break(uint8_t *block, uint64_t block_len, uint16_t *rx, uint64_t rx_len, const uint8_t *tx, uint64_t tx_len);
 
 /*
  * Takes a press of the MSRQ key. Answers done.
  * Refusal 2: the block is not a state that fits the stores.
  */
-uint64_t raftershim_key(uint8_t *block, uint64_t block_len, const uint8_t *rx, uint64_t rx_len, const uint8_t *tx, uint64_t tx_len);
+uint64_t raftershim_key(uint8_t *block, uint64_t block_len, const uint16_t *rx, uint64_t rx_len, const uint8_t *tx, uint64_t tx_len);
 
 /*
  * Gives the next line byte: our own go or stop if one is owed, else the oldest byte of the transmit store. Answers that line byte, or
  * none.
  * Refusal 2: the block is not a state that fits the stores.
  */
-uint64_t raftershim_next_line_byte(uint8_t *block, uint64_t block_len, const uint8_t *rx, uint64_t rx_len, const uint8_t *tx,
+uint64_t raftershim_next_line_byte(uint8_t *block, uint64_t block_len, const uint16_t *rx, uint64_t rx_len, const uint8_t *tx,
                                    uint64_t tx_len);
 
 /*
@@ -228,16 +235,21 @@ uint64_t raftershim_next_line_byte(uint8_t *block, uint64_t block_len, const uin
  * Refusal 2: the block is not a state that fits the stores. Refusal 3: the frame is above 2047. Refusal 4: busy, offer the frame again
  * when the line has taken bytes.
  */
-uint64_t raftershim_loop_frame(uint8_t *block, uint64_t block_len, const uint8_t *rx, uint64_t rx_len, uint8_t *tx, uint64_t tx_len,
+uint64_t raftershim_loop_frame(uint8_t *block, uint64_t block_len, const uint16_t *rx, uint64_t rx_len, uint8_t *tx, uint64_t tx_len,
                                uint32_t frame);
 
 /*
- * Shows a store: side 0 is the receive store, side 1 the transmit store. Nothing is written. Answers where the longest unbroken run of
- * bytes from the oldest one is: in bits 32 to 63 the place in that store where it starts, in bits 0 to 31 its length. The answer is 0,
- * an empty part, if nothing is held, the block is not a state that fits the stores, or the side is neither. It is never refused.
+ * Shows the receive store. Nothing is written. Answers where the longest unbroken run of cells from the oldest one is: in bits 32 to 63 the
+ * place in that store where it starts, in bits 0 to 31 its length, both in cells. The cells are as they stand in the buffer, so mask off the
+ * bits above the mark, as RAFTERSHIM_CELL_BYTE and RAFTERSHIM_CELL_BREAK do. The answer is 0, an empty part, if nothing is held or the block
+ * is not a state that fits the stores. It is never refused.
  */
-uint64_t raftershim_show(const uint8_t *block, uint64_t block_len, const uint8_t *rx, uint64_t rx_len, const uint8_t *tx, uint64_t tx_len,
-                         uint32_t side);
+uint64_t raftershim_show_receive(const uint8_t *block, uint64_t block_len, const uint16_t *rx, uint64_t rx_len, const uint8_t *tx,
+                                 uint64_t tx_len);
+
+/* Shows the transmit store in the same way, in bytes. */
+uint64_t raftershim_show_transmit(const uint8_t *block, uint64_t block_len, const uint16_t *rx, uint64_t rx_len, const uint8_t *tx,
+                                  uint64_t tx_len);
 
 #ifdef __cplusplus
 }

@@ -13,7 +13,7 @@
  * written as 0 and do not count when a cell is read.
  *
  * The first byte of a block is the version of its layout, which is 129. A block with another first byte is not a state of a mailbox. So a
- * block of the bridge is none, whose version is 2, and a block of the mailbox is no state of the bridge.
+ * block of the bridge is none, whose version is 3, and a block of the mailbox is no state of the bridge.
  *
  * Every function but raftershim_mailbox_block_len and raftershim_mailbox_show answers one number of 64 bits, which RAFTERSHIM_KIND and
  * RAFTERSHIM_VALUE of raftershim.h read:

@@ -6,7 +6,9 @@
  * is taken lie among the bytes held, at most one before each of them and one after the last, so the list has room for all.
  *
  * A reset and a device clear throw the held bytes away unread: call gaps_thrown_away after each. The next reading is then told as
- * missing a byte, though it may be whole. Every other reading is told exactly, and none that misses a byte is told as whole.
+ * missing a byte, though it may be whole. A break cuts off the reading that it falls into, and no frame says so: call gaps_here after each.
+ * The reading that it falls into is then told as missing a byte, and if it falls between two readings, the one after it. Every other
+ * reading is told exactly, and none that misses a byte is told as whole.
  * After create set all of this to 0.
  */
 #ifndef GAPS_H
@@ -14,7 +16,7 @@
 
 #include "raftershim.h"
 
-/* The length of the receive store. */
+/* The length of the receive store, in cells. */
 #ifndef RECEIVE_LEN
 #define RECEIVE_LEN 8u
 #endif
@@ -37,7 +39,7 @@ static inline void gaps_pass(struct gaps *gaps, const uint8_t *block) {
     gaps->taken = taken;
 }
 
-/* Notes a gap after what is stored: for a byte that was lost on the way to the bridge, which counts it not. */
+/* Notes a gap after what is stored: for a byte that was lost on the way to the bridge, which counts it not, and for a break. */
 static inline void gaps_here(struct gaps *gaps, const uint8_t *block) {
     uint32_t stored = RAFTERSHIM_STORED(block);
     gaps_pass(gaps, block);

@@ -1,7 +1,7 @@
 /*
  * One reading at a time from a meter, and whether a byte is missing in it.
  *
- * The meter sends ten readings into a store of eight bytes and is not held off. Once the loop is late: the point of 2.5 comes when the
+ * The meter sends ten readings into a store of eight cells and is not held off. Once the loop is late: the point of 2.5 comes when the
  * store is full. The program prints 25 and says that a byte is missing there, and in no other reading. Its last line is the room that
  * was left before each reading, which the answers to the bytes tell.
  */
@@ -14,10 +14,11 @@
 static const char *const line[] = {"7\r\n",    "0.5\r\n",  "12.75\r\n2.", "5\r\n",   "2.5\r\n",
                                    "-1.5\r\n", "3.25\r\n", "4\r\n",       "88.8\r\n", "9.75\r\n"};
 
-static uint8_t block[RAFTERSHIM_BLOCK_LEN], rx[RECEIVE_LEN], tx[3];
+static uint8_t block[RAFTERSHIM_BLOCK_LEN], tx[3];
+static uint16_t rx[RECEIVE_LEN];
 static struct gaps gaps;
 
-#define LENT block, sizeof block, rx, sizeof rx, tx, sizeof tx
+#define LENT block, sizeof block, rx, RECEIVE_LEN, tx, sizeof tx
 
 /* A byte from the line; gives the room that is left after it. */
 static unsigned from_line(uint8_t byte) {

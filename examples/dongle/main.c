@@ -10,10 +10,11 @@
 
 #define MARGIN 8u
 
-static uint8_t block[RAFTERSHIM_BLOCK_LEN], rx[RECEIVE_LEN], tx[64];
+static uint8_t block[RAFTERSHIM_BLOCK_LEN], tx[64];
+static uint16_t rx[RECEIVE_LEN];
 static struct gaps gaps;
 
-#define LENT block, sizeof block, rx, sizeof rx, tx, sizeof tx
+#define LENT block, sizeof block, rx, RECEIVE_LEN, tx, sizeof tx
 
 /*
  * A byte that has come from the line. Where a port has lost one is not known: from then on a gap is noted before every byte that it gives

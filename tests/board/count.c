@@ -2,9 +2,10 @@
 #include "raftershim.h"
 
 #define ROUNDS 40
-#define LENT block, sizeof block, rx, sizeof rx, tx, sizeof tx
+#define LENT block, sizeof block, rx, 64, tx, 64
 
-static uint8_t block[RAFTERSHIM_BLOCK_LEN], rx[64], tx[64];
+static uint8_t block[RAFTERSHIM_BLOCK_LEN], tx[64];
+static uint16_t rx[64];
 
 /* No instruction of this function counts, only those of the calls. */
 __attribute__((noinline)) static void work(void) {

@@ -1,43 +1,11 @@
 /* Calls every C function and compares its answer, the block and the stores with what the paper says. */
-#include "raftershim.h"
+#include "bridge.h"
 
-#define BLOCK ((int)RAFTERSHIM_BLOCK_LEN)
-/* The longest store. A board with little memory runs the small form, with 64: all but what only the largest stores can show. */
-#ifndef MOST
-#define MOST 32768
-#endif
-
-static uint8_t block[BLOCK + 1], rx[MOST + 1], tx[MOST + 1];
-static uint64_t block_len = BLOCK, rx_len, tx_len;
-
-#define FIRST rx
-#define SECOND tx
-#include "compare.h"
-
-/* what the two calls answer that tell a room: done, and a frame */
-#define TAKEN(room) ROOM(room, DONE)
-#define OUT(room, c, d) ROOM(room, FRAME(c, d))
-
-#define B block, block_len
-#define R rx, rx_len
-#define T tx, tx_len
-
-static uint64_t create(uint64_t r, uint64_t t, uint32_t margin) {
-    rx_len = r;
-    tx_len = t;
-    return raftershim_create(B, R, T, margin);
-}
-static uint64_t reset(void) { return raftershim_reset(B, R, T); }
-static uint64_t writes(uint32_t n, uint32_t v) { return raftershim_write_register(B, R, T, n, v); }
-static uint64_t line(uint8_t b) { return raftershim_line_byte(B, R, T, b); }
-static uint64_t brk(void) { return raftershim_break(B, R, T); }
-static uint64_t key(void) { return raftershim_key(B, R, T); }
-static uint64_t next(void) { return raftershim_next_line_byte(B, R, T); }
-static uint64_t frame(uint32_t c, uint32_t d) { return raftershim_loop_frame(B, R, T, c << 8 | d); }
-static uint64_t show(uint32_t side) { return raftershim_show(B, R, T, side); }
-
-/* the header reads kind, value and room alike, whatever the other bits are */
+/* the header reads kind, value and room alike, whatever the other bits are, and of a cell the byte and the mark */
 static void reserved(void) {
+    IS(RAFTERSHIM_CELL_BYTE(0xFF35u), 53);
+    IS(RAFTERSHIM_CELL_BREAK(0xFF35u), 1);
+    IS(RAFTERSHIM_CELL_BREAK(0xFE35u), 0);
     IS(RAFTERSHIM_KIND(BYTE(50)), RAFTERSHIM_BYTE);
     IS(RAFTERSHIM_VALUE(BYTE(50)), 50);
     IS(RAFTERSHIM_KIND(~0ull << 24 | BYTE(50)), RAFTERSHIM_BYTE);
@@ -84,10 +52,10 @@ static void misfits(void) {
     REFUSED(2, key());
     REFUSED(2, next());
     REFUSED(2, frame(5, 129));
-    REFUSED(2, raftershim_loop_frame(B, R, T, 2048));
+    REFUSED(2, raftershim_loop_frame(LENT, 2048));
     keep();
-    IS(show(0), 0);
-    IS(show(1), 0);
+    IS(show_receive(), 0);
+    IS(show_transmit(), 0);
     IS(changed(), 0);
 }
 
@@ -161,22 +129,21 @@ static void holding(void) {
     IS(next(), NONE);
     for (uint8_t b = 6; b <= 8; b++) IS(line(b), TAKEN(8 - b));
     IS(line(9), TAKEN(0));
-    IS(show(0), PART(0, 8));
+    IS(show_receive(), PART(0, 8));
     for (int i = 0; i < 8; i++) IS(rx[i], (uint64_t)i + 1);
-    IS(show(1), 0);
-    IS(show(2), 0);
+    IS(show_transmit(), 0);
     IS(frame(5, 128), OUT(3, 5, 129));
     IS(frame(4, 64), OUT(3, 4, 64));
     IS(frame(5, 96), OUT(3, 0, 1));
     for (uint32_t d = 1; d <= 5; d++) IS(frame(0, d), OUT(3, 0, d + 1));
     IS(next(), BYTE(17));
-    IS(show(0), PART(6, 2));
+    IS(show_receive(), PART(6, 2));
     IS(line(10), TAKEN(5));
-    IS(show(0), PART(6, 2));
+    IS(show_receive(), PART(6, 2));
     IS(rx[0], 10);
     IS(frame(0, 6), OUT(3, 0, 7));
     IS(frame(0, 7), OUT(3, 0, 8));
-    IS(show(0), PART(0, 1));
+    IS(show_receive(), PART(0, 1));
     IS(frame(3, 8), OUT(3, 5, 65));
 }
 
@@ -186,11 +153,11 @@ static void listening(void) {
     IS(frame(5, 158), OUT(3, 5, 159));
     IS(frame(4, 32 + 30), OUT(3, 4, 32 + 30));
     IS(writes(10, 4), DONE);
-    IS(raftershim_loop_frame(B, R, T, 2047), OUT(3, 7, 255));
-    REFUSED(3, raftershim_loop_frame(B, R, T, 2048));
-    REFUSED(3, raftershim_loop_frame(B, R, T, 0xFFFFFFFFu));
+    IS(raftershim_loop_frame(LENT, 2047), OUT(3, 7, 255));
+    REFUSED(3, raftershim_loop_frame(LENT, 2048));
+    REFUSED(3, raftershim_loop_frame(LENT, 0xFFFFFFFFu));
     IS(frame(2, 65), OUT(0, 2, 65));
-    IS(show(1), PART(0, 3));
+    IS(show_transmit(), PART(0, 3));
     IS(tx[0], 65);
     IS(tx[1], 13);
     IS(tx[2], 10);
@@ -199,9 +166,9 @@ static void listening(void) {
     IS(next(), BYTE(13));
     REFUSED(4, frame(2, 66));
     IS(frame(0, 66), OUT(1, 0, 66));
-    IS(show(1), PART(2, 1));
+    IS(show_transmit(), PART(2, 1));
     IS(next(), BYTE(10));
-    IS(show(1), PART(0, 1));
+    IS(show_transmit(), PART(0, 1));
     IS(line(19), TAKEN(8));
     IS(next(), NONE);
     IS(line(17), TAKEN(8));
@@ -331,7 +298,7 @@ static void no_room_told(void) {
     IS(key(), DONE);
     IS(next(), BYTE(65));
     IS(next(), NONE);
-    REFUSED(3, raftershim_loop_frame(B, R, T, 2048));
+    REFUSED(3, raftershim_loop_frame(LENT, 2048));
     REFUSED(5, writes(3, 0));
     REFUSED(6, writes(0, 16));
     REFUSED(7, writes(11, 4));
@@ -343,7 +310,7 @@ static void no_room_told(void) {
     REFUSED(2, frame(6, 0));
     rx_len = 6;
     IS(frame(6, 0), OUT(2, 6, 0));
-    IS(show(0), PART(0, 1));
+    IS(show_receive(), PART(0, 1));
     IS(reset(), DONE);
     REFUSED(1, create(6, 7, 3));
 }

@@ -1,6 +1,6 @@
 /*
  * Holds examples/c/gaps.h to a history that is kept beside the bridge: every line byte, whether it found room, and which reading took it.
- * Line bytes, readings that end or do not, status polls, resets and device clears come in any order.
+ * Line bytes, breaks, readings that end or do not, status polls, resets and device clears come in any order.
  */
 #include <stdio.h>
 
@@ -11,14 +11,17 @@
 #define LF 10u
 #define STEPS 400000
 
-static uint8_t block[RAFTERSHIM_BLOCK_LEN], rx[RECEIVE_LEN], tx[3];
+static uint8_t block[RAFTERSHIM_BLOCK_LEN], tx[3];
+static uint16_t rx[RECEIVE_LEN];
 static struct gaps gaps;
 
-#define LENT block, sizeof block, rx, sizeof rx, tx, sizeof tx
+#define LENT block, sizeof block, rx, RECEIVE_LEN, tx, sizeof tx
 
-/* The history: the bytes that found room, whether one was lost before each, and how many were taken. */
+/* The history: the bytes that found room, whether one was lost or a break came before each, whether a break parts it from the next one that
+ * is held with it, and how many were taken. */
 static uint8_t stored[STEPS + 3];
 static uint8_t gap_before[STEPS + 3];
+static uint8_t broken[STEPS + 3];
 static uint32_t came, taken, reading_from;
 
 static uint32_t on_loop(uint32_t frame) {
@@ -32,16 +35,26 @@ static void from_line(uint8_t byte) {
     else gap_before[came] = 1;
 }
 
+static void line_breaks(void) {
+    raftershim_break(LENT);
+    gaps_here(&gaps, block);
+    if (came != taken) broken[came - 1u] = 1;
+    gap_before[came] = 1;
+}
+
 static int pair_at(uint32_t i) {
-    return i + 1u < came && stored[i] == CR && stored[i + 1u] == LF;
+    return i + 1u < came && stored[i] == CR && !broken[i] && stored[i + 1u] == LF;
 }
 
 /* Takes from the history what one reading takes, by the rule; whether it ended. */
 static int history_ends(void) {
     for (;;) {
         while (pair_at(taken)) taken += 2u;
-        if (pair_at(taken + 1u)) return taken += 3u, 1;
-        if (taken + 1u >= came || (taken + 2u == came && stored[taken + 1u] == CR)) return 0;
+        if (taken == came) return 0;
+        if (!broken[taken]) {
+            if (pair_at(taken + 1u)) return taken += 3u, 1;
+            if (taken + 1u == came || (taken + 2u == came && stored[taken + 1u] == CR && !broken[taken + 1u])) return 0;
+        }
         taken++;
     }
 }
@@ -88,9 +101,10 @@ static void throw_away(uint32_t way) {
     gap_before[came] = 1;
 }
 
-/* Everything but a reading, by the draw: a status poll, a line byte, bytes thrown away. Whether it was one of these. */
+/* Everything but a reading, by the draw: a status poll, a break, a line byte, bytes thrown away. Whether it was one of these. */
 static int no_reading(uint32_t draw) {
     if (draw < 8u) on_loop(on_loop(SEND_STATUS));
+    if (draw >= 8u && draw < 16u) line_breaks();
     if (draw < 200u) from_line((uint8_t)("12.5\r\n\r\n"[draw % 8u]));
     if (draw >= 253u) throw_away(draw - 253u);
     return draw < 200u || draw >= 253u;

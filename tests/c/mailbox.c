@@ -139,21 +139,22 @@ static void other_blocks(void) {
 
 /* a block of one product is no state of the other, by its length and by its version */
 static void other_product(void) {
-    static uint8_t rx[8], tx[3];
+    static uint16_t rx[8];
+    static uint8_t tx[3];
     begin(8, 3);
     for (block_len = BLOCK; block_len <= RAFTERSHIM_BLOCK_LEN; block_len += RAFTERSHIM_BLOCK_LEN - BLOCK) {
-        REFUSED(2, raftershim_line_byte(block, block_len, rx, sizeof rx, tx, sizeof tx, 50));
-        REFUSED(2, raftershim_loop_frame(block, block_len, rx, sizeof rx, tx, sizeof tx, 0x581));
-        IS(raftershim_show(block, block_len, rx, sizeof rx, tx, sizeof tx, 0), 0);
+        REFUSED(2, raftershim_line_byte(block, block_len, rx, 8, tx, sizeof tx, 50));
+        REFUSED(2, raftershim_loop_frame(block, block_len, rx, 8, tx, sizeof tx, 0x581));
+        IS(raftershim_show_receive(block, block_len, rx, 8, tx, sizeof tx), 0);
     }
     block_len = RAFTERSHIM_BLOCK_LEN;
-    GIVES(raftershim_create(block, block_len, rx, sizeof rx, tx, sizeof tx, 3), DONE);
+    GIVES(raftershim_create(block, block_len, rx, 8, tx, sizeof tx, 3), DONE);
     misfits();
     block_len = BLOCK;
     misfits();
     IS(block[0], RAFTERSHIM_VERSION);
     block_len = RAFTERSHIM_BLOCK_LEN;
-    IS(raftershim_line_byte(block, block_len, rx, sizeof rx, tx, sizeof tx, 50), ROOM(7, DONE));
+    IS(raftershim_line_byte(block, block_len, rx, 8, tx, sizeof tx, 50), ROOM(7, DONE));
     block_len = BLOCK;
 }
 

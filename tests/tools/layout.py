@@ -20,7 +20,7 @@ def run():
         room.finds(TOOL, "AT_REMOTE: the header has no such name", (HEADER, "#define RAFTERSHIM_AT_REMOTE 55u", "#define RAFTERSHIM_REMOTE 55u"))
         room.finds(TOOL, "AT_MORE: the header has 56 byte", (HEADER, "\n/* The talker phases.", "\n#define RAFTERSHIM_AT_MORE 56u /* byte: more */\n/*"))
         room.finds(TOOL, "BLOCK_LEN: the header has 57", (HEADER, "BLOCK_LEN 56u", "BLOCK_LEN 57u"))
-        room.finds(TOOL, "VERSION: the header has 2, the packing 3", (PACKING, "version = 2", "version = 3"))
+        room.finds(TOOL, "VERSION: the header has 3, the packing 4", (PACKING, "version = 3", "version = 4"))
         room.finds(TOOL, "AT_KEY: the header has no", (PACKING, "field 49 flag (λ s. s .notes .seen .key)", "field 49 flag (λ s. s AT_KEY)"))
         room.finds(TOOL, "AT_R10: the header has 36 byte, the packing 37 byte", (PACKING, "field 36 byte", "field 37 byte"))
         room.finds(TOOL, "AT_SOURCE: the header has 22 byte", (MAILBOX, "AT_SOURCE 21u", "AT_SOURCE 22u"))

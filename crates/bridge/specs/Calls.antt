@@ -1,4 +1,4 @@
--- The calls: what each answers, and the state and every byte of both stores after it.
+-- The calls: what each answers, and the state and every cell and byte of the stores after it.
 use Prim.Native.Nat.{ℕ}
 use mathlib.Core.Path.{_≡_}
 use mathlib.Core.Bool.{Bool, false, cond, not}

@@ -37,7 +37,8 @@ use Rattle.answers.specs.Answers.{said}
 use Rattle.laws.specs.Fitting.{Fits}
 use Rattle.places.specs.OneStore.{nextPlace, Write, anew, again, Placed}
 use Rattle.laws.specs.Bridges.{bridge}
-use Rattle.laws.specs.Observers.{holdsSome, accepted, added, empties}
+use Rattle.laws.specs.Observers.{accepted, added, empties}
+use Rattle.laws.specs.Worlds.{holdsSome}
 use Rattle.laws.specs.Observers as see
 use Rattle.laws.specs.StorePlaces.{writtenTo, Places}
 use Rattle.laws.proofs.Refusing.{by-refusal, fitting, frame-fitting}

@@ -14,7 +14,8 @@ use Rattle.answers.specs.Answers.{Said}
 use Rattle.state.specs.State.{withNotes}
 use Rattle.bridge.specs.Calls.{key, Call, World, world}
 use Rattle.laws.specs.Bridges.{Law, Saw}
-use Rattle.laws.specs.Observers.{any, taken, onOne, lost, breaks, holdsSome, empties}
+use Rattle.laws.specs.Observers.{any, taken, onOne, lost, breaks, empties}
+use Rattle.laws.specs.Worlds.{holdsSome}
 use Rattle.laws.specs.StatusWay.{sentAndBack}
 
 -- a break, a byte lost, a press of the MSRQ key

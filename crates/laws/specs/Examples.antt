@@ -5,7 +5,7 @@ use mathlib.Core.List.{List, [], _∷_, map}
 use Rattle.frame.specs.Frame.{controlOf, dataOf, made}
 use Rattle.reading.specs.declared.Rule.{Rule}
 use Rattle.reading.specs.Reading.{frames, leftOver}
-use Rattle.reading.specs.Received.{Received, receivedIn}
+use Rattle.reading.specs.Received.{Received, aByte, receivedIn}
 use Rattle.reading.specs.Steps.{cut}
 use Rattle.registers.specs.Table.{startRegisters}
 use Rattle.registers.specs.Writing.{written}
@@ -57,7 +57,7 @@ abbrev broken : ℕ → ℕ
 broken b = b + 256
 
 abbrev crlf : List ℕ → List Said → List ℕ → Example
-crlf xs fs rest = record { trial = held 13 10 xs; wanted = reads fs (receivedIn rest) }
+crlf xs fs rest = record { trial = held 13 10 xs; wanted = reads fs (map aByte rest) }
 
 -- the pair is 13, 10 where none is said, and R10 bit 3 is on
 unfoldable pub table : List Example
@@ -76,13 +76,15 @@ table =
     -- an empty line between two others is removed
     ∷ crlf (50 ∷ 13 ∷ 10 ∷ 13 ∷ 10 ∷ 46 ∷ 13 ∷ 10 ∷ []) (frame 2 50 ∷ frame 2 46 ∷ []) []
     -- a pair of two equal characters
-    ∷ record { trial = held 10 10 (50 ∷ 10 ∷ 10 ∷ 10 ∷ 46 ∷ 53 ∷ []); wanted = reads (frame 2 50 ∷ frame 0 10 ∷ frame 0 46 ∷ []) (receivedIn (53 ∷ [])) }
+    ∷ record { trial = held 10 10 (50 ∷ 10 ∷ 10 ∷ 10 ∷ 46 ∷ 53 ∷ []); wanted = reads (frame 2 50 ∷ frame 0 10 ∷ frame 0 46 ∷ []) (map aByte (53 ∷ [])) }
     -- a break is a wall: before a pair, which then closes an empty line; inside it; and where the other half may still come
     ∷ crlf (broken 50 ∷ 13 ∷ 10 ∷ []) (frame 0 50 ∷ []) []
     ∷ crlf (broken 13 ∷ 10 ∷ []) (frame 0 13 ∷ []) (10 ∷ [])
     ∷ crlf (50 ∷ broken 13 ∷ 10 ∷ []) (frame 0 50 ∷ frame 0 13 ∷ []) (10 ∷ [])
     ∷ crlf (50 ∷ broken 13 ∷ []) (frame 0 50 ∷ frame 0 13 ∷ []) []
     ∷ crlf (broken 50 ∷ []) (frame 0 50 ∷ []) []
+    ∷ crlf (broken 200 ∷ broken 13 ∷ 10 ∷ []) (frame 0 200 ∷ frame 0 13 ∷ []) (10 ∷ [])
+    ∷ record { trial = held 10 10 (50 ∷ broken 10 ∷ 10 ∷ []); wanted = reads (frame 0 50 ∷ frame 0 10 ∷ []) (map aByte (10 ∷ [])) }
     -- behind an indicator it goes with the last byte
     ∷ crlf (50 ∷ 13 ∷ broken 10 ∷ 46 ∷ []) (frame 2 50 ∷ []) (46 ∷ [])
     ∷ crlf (13 ∷ broken 10 ∷ []) [] []

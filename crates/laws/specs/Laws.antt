@@ -4,6 +4,7 @@ use Rattle.bridge.specs.Calls.{receive, transmit}
 use Rattle.laws.specs.Bridges.{Law, TellingLaw}
 use Rattle.laws.specs.Answering.{AnswersSo, RefusedExactly}
 use Rattle.laws.specs.StorePlaces.{Places, PlacesSince}
+use Rattle.laws.specs.NineBits.{NineBits}
 use Rattle.laws.specs.Fitting.{KeepsFit, CreateMakesFit, KeepsStores}
 use Rattle.laws.specs.Starting.{StartsSo, MarginRecorded, SizesStay, ResetGivesStart}
 use Rattle.laws.specs.Showing.{ShowsSo}
@@ -29,7 +30,7 @@ use Rattle.laws.specs.Rooms.{RoomTold, RoomHolds, RoomTakes}
 abbrev pub laws : List Law
 laws =
     AnswersSo ∷ RefusedExactly ∷ RefusedStays ∷ OneFrameOut ∷ ElevenBits ∷ ShowsSo
-    ∷ Places receive ∷ Places transmit ∷ PlacesSince receive ∷ PlacesSince transmit ∷ KeepsFit ∷ CreateMakesFit ∷ KeepsStores
+    ∷ Places receive ∷ Places transmit ∷ PlacesSince receive ∷ PlacesSince transmit ∷ NineBits ∷ KeepsFit ∷ CreateMakesFit ∷ KeepsStores
     ∷ StartsSo ∷ MarginRecorded ∷ SizesStay ∷ ResetGivesStart ∷ RegistersGo ∷ RoleGoes
     ∷ FramesRead ∷ UnheldBreaks ∷ NoneLost ∷ FramesSince ∷ SendRule ∷ NoneRemoved ∷ ReturnsJudged ∷ FramesPass ∷ EmptySendResumes
     ∷ Stays broken ∷ Stays overrun ∷ Stays pressed ∷ Alone broken ∷ Alone pressed

@@ -7,6 +7,7 @@ pub mod OneResult
 pub mod Answering
 pub mod Order
 pub mod StorePlaces
+pub mod NineBits
 pub mod Starting
 pub mod Showing
 pub mod Examples

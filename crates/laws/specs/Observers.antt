@@ -4,15 +4,15 @@ use Prim.Native.Nat.{ℕ}
 use mathlib.Core.Bool.{Bool, true, false, cond, _&&_, _||_, not}
 use mathlib.Core.List.{List, [], _∷_, map}
 use lib.Dec.{eqb, ltb}
-use lib.ListN.{length}
 use Rattle.frame.specs.Frame.{controlOf, dataOf, made, isData, isEnd, stripped, sameApart}
 use Rattle.registers.specs.Bits.{bit}
 use Rattle.role.specs.Role.{addressed, activeData, isActive}
-use Rattle.store.specs.Ring.{held, full}
+use Rattle.store.specs.Ring.{full}
 use Rattle.reading.specs.Received.{Received, aByte, aBreak}
 use Rattle.state.specs.declared.State.{State}
 use Rattle.answers.specs.Answers.{Said, done, none, byte, frame, refused, part, cell, lines, isRefusal}
 use Rattle.loopside.specs.Frames.{deviceClear}
+use Rattle.laws.specs.Worlds.{holdsSome}
 use Rattle.bridge.specs.Calls.{OnState, reset, lineBreak, nextLineByte, Call, create, show, on, onState, ofFrame, ofLineByte, ofWrite, is, World}
 
 -- ---- answers
@@ -120,10 +120,6 @@ lost c w a = cond (full (w .state .rx)) (arrived c w a) []
 -- a break is taken
 abbrev pub breaks : Call → World → Said → Bool
 breaks c w a = onOne lineBreak (taken a) false c
-
--- something is held in the receive store
-abbrev pub holdsSome : World → Bool
-holdsSome w = ltb 0 (length (held (w .rx) (w .state .rx)))
 
 -- a break is taken while something is held
 abbrev pub marks : Call → World → Said → Bool

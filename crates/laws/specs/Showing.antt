@@ -1,4 +1,4 @@
--- What a show returns, by the bytes held and the places that they stand in.
+-- What a show returns, by the cells or bytes held and the places that they stand in.
 use Prim.Native.Nat.{ℕ, _-_, min}
 use mathlib.Core.Path.{_≡_}
 use mathlib.Core.Bool.{false}
@@ -13,7 +13,7 @@ use Rattle.bridge.specs.Calls.{Store, show, storeOf, ringOf}
 use Rattle.laws.specs.Bridges.{Law, Saw}
 use Rattle.laws.specs.Fitting.{Fits}
 
--- Sizes and refusals, showing: the first of the bytes held, as many as stand before the end of the store
+-- Sizes and refusals, showing: the first of those held, as many as stand before the end of the store
 pub record Unbroken (s : List ℕ) (r : Ring) (xs : List ℕ) : Type 0 where
   pub first : xs ≡ take (length xs) (held s r)
   pub longest : length xs ≡ min (r .len) (length s - r .oldest)

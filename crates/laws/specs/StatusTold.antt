@@ -11,7 +11,7 @@ use Rattle.registers.specs.Bits.{bit}
 use Rattle.bridge.specs.Calls.{loopFrame, on, World}
 use Rattle.laws.specs.Bridges.{Law}
 use Rattle.laws.specs.Observers.{taken, asksStatus, statusSent, empties}
-use Rattle.laws.specs.Worlds.{heldCells, heldForLine, requested}
+use Rattle.laws.specs.Worlds.{heldCells, holdsSome, heldForLine, requested}
 use Rattle.laws.specs.Events.{Event, broken, overrun, pressed, bitOf, happens}
 use Rattle.laws.specs.StatusWay.{sentAndBack}
 
@@ -27,7 +27,7 @@ abbrev pub transmitNotFull : World → Bool
 transmitNotFull w = ltb (length (heldForLine w)) (length (w .tx))
 
 abbrev pub receiveNotEmpty : World → Bool
-receiveNotEmpty w = ltb 0 (length (heldCells w))
+receiveNotEmpty w = holdsSome w
 
 abbrev pub receiveFull : World → Bool
 receiveFull w = leb (length (w .rx)) (length (heldCells w))

@@ -2,6 +2,8 @@
 use Prim.Native.Nat.{ℕ, _-_}
 use mathlib.Core.Bool.{Bool}
 use mathlib.Core.List.{List}
+use lib.Dec.{ltb}
+use lib.ListN.{length}
 use Rattle.registers.specs.Bits.{bit}
 use Rattle.store.specs.Ring.{held}
 use Rattle.reading.specs.declared.Rule.{Rule}
@@ -13,6 +15,10 @@ use Rattle.bridge.specs.Calls.{World}
 -- the cells held in the receive store
 abbrev pub heldCells : World → List ℕ
 heldCells w = held (w .rx) (w .state .rx)
+
+-- something is held there
+abbrev pub holdsSome : World → Bool
+holdsSome w = ltb 0 (length (heldCells w))
 
 -- demand 3, what is held to be sent on the loop: bytes, and the breaks among them
 abbrev pub heldToSend : World → List Received

@@ -48,7 +48,7 @@ storedState s = storedWith s (putRing (s .rx))
 unfoldable pub lostState : State → State
 lostState s = lostMore (noted s withOverrun)
 
--- the state after a line byte, and the receive store's bytes
+-- the state after a line byte, and the receive store's cells: the cell of a byte is the byte
 unfoldable pub lineState : State → ℕ → State
 lineState s b = cond (isGoOrStop (s .regs) b) (flowed s b) (cond (full (s .rx)) (lostState s) (storedState s))
 

@@ -43,9 +43,9 @@ placeAfter cap p [] = p
 placeAfter cap p (anew b ∷ l) = placeAfter cap ((p + 1) % cap) l
 placeAfter cap p (again ∷ l) = placeAfter cap p l
 
--- what a mark makes of a byte
+-- what a mark makes of a cell
 module _ (mark : ℕ → ℕ) where
-  -- the byte at place p marked
+  -- the cell at place p marked
   abbrev pub markedAt : ℕ → List ℕ → List ℕ
   markedAt p s = set s p (mark (getD s p 0))
 

@@ -44,15 +44,15 @@ on-oldest r (x ∷ y ∷ z ∷ v ∷ xs) n a b c e p q s = rw (← e, p, q, s) (
 -- ---- the decision by the code's tests
 
 -- a break behind the first byte: no pair, and nothing to wait for
-walled : (on p : Bool) (d : Decision) → cond on (cond (p && false) Removed Data) Data ≡ cond (not on || true) Data d
-walled true true d = refl
-walled true false d = refl
-walled false p d = refl
+shut-off : (on p : Bool) (d : Decision) → cond on (cond (p && false) Removed Data) Data ≡ cond (not on || true) Data d
+shut-off true true d = refl
+shut-off true false d = refl
+shut-off false p d = refl
 
 -- none behind it
-unwalled : (on : Bool) (d : Decision) → cond on d Data ≡ cond (not on || false) Data d
-unwalled true d = refl
-unwalled false d = refl
+left-open : (on : Bool) (d : Decision) → cond on d Data ≡ cond (not on || false) Data d
+left-open true d = refl
+left-open false d = refl
 
 module _ (r : Rule) (a b c : Item) where
   -- the second is C00, and no break follows it
@@ -70,12 +70,12 @@ module _ (r : Rule) (a b c : Item) where
       Data)))))
 
   one : (t : Bool) → decision r (then (a .byte) t []) ≡ tests 1 t false
-  one true = walled (r .on) (eqb (a .byte) (r .c00)) _
-  one false = unwalled (r .on) _
+  one true = shut-off (r .on) (eqb (a .byte) (r .c00)) _
+  one false = left-open (r .on) _
 
   two : (t u : Bool) → decision r (then (a .byte) t (then (b .byte) u [])) ≡ tests 2 t u
-  two true u = walled (r .on) (eqb (a .byte) (r .c00)) _
-  two false u = unwalled (r .on) _ ∙ ap (cond (not (r .on) || false) Data) (go u (eqb (b .byte) (r .c00)) refl)
+  two true u = shut-off (r .on) (eqb (a .byte) (r .c00)) _
+  two false u = left-open (r .on) _ ∙ ap (cond (not (r .on) || false) Data) (go u (eqb (b .byte) (r .c00)) refl)
     where
       P : Bool
       P = eqb (a .byte) (r .c00) && eqb (b .byte) (r .c01)
@@ -89,8 +89,8 @@ module _ (r : Rule) (a b c : Item) where
       go false false e = rw e
 
   three : (t u v : Bool) (l : List Received) → decision r (then (a .byte) t (then (b .byte) u (then (c .byte) v l))) ≡ tests 3 t u
-  three true u v l = walled (r .on) (eqb (a .byte) (r .c00)) _
-  three false u v l = unwalled (r .on) _ ∙ ap (cond (not (r .on) || false) Data) (go u (eqb (b .byte) (r .c00)) refl)
+  three true u v l = shut-off (r .on) (eqb (a .byte) (r .c00)) _
+  three false u v l = left-open (r .on) _ ∙ ap (cond (not (r .on) || false) Data) (go u (eqb (b .byte) (r .c00)) refl)
     where
       P : Bool
       P = eqb (a .byte) (r .c00) && eqb (b .byte) (r .c01)

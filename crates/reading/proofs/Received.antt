@@ -1,6 +1,7 @@
 -- What is held, spread out into bytes and breaks, and what a part of it stands for. Assumes nothing.
-use Prim.Native.Nat.{ℕ, zero, suc, _+_, _-_, _%_, _/_, _≤_, _<_}
+use Prim.Native.Nat.{ℕ, zero, suc, _+_, _-_, _*_, _%_, _/_, _≤_, _<_}
 use native.Mathlib.Omega.{arith}
+use native.Mathlib.Nat.{mul-add-mod-self-left}
 use mathlib.Core.Path.{_≡_, refl, sym, ap, _∙_}
 use mathlib.Core.Bool.{Bool, true, false, cond}
 use mathlib.Core.Logic.{_⊎_, inl, inr, ⊎-elim}
@@ -9,7 +10,7 @@ use lib.Dec.{eqb}
 use lib.ListN.{length, drop, set, getD}
 use borrow.Author.Tests.{eq-eqb, ne-eqb}
 use Rattle.reading.specs.declared.Item.{Item}
-use Rattle.reading.specs.Received.{Received, aByte, aBreak, itemOf, markedCell, received, receivedIn, bytesIn, asHeld}
+use Rattle.reading.specs.Received.{Received, aByte, aBreak, itemOf, OnlyNineBits, markedCell, received, receivedIn, bytesIn, asHeld}
 
 -- as many bytes as items
 pub bytes-received : (xs : List Item) → bytesIn (received xs) ≡ length xs
@@ -87,6 +88,13 @@ pub map-drop : (n : ℕ) (xs : List ℕ) → map itemOf (drop n xs) ≡ drop n (
 map-drop zero xs = refl
 map-drop (suc n) [] = refl
 map-drop (suc n) (x ∷ xs) = map-drop n xs
+
+pub only-nine-bits : OnlyNineBits
+only-nine-bits n =
+    let low : n % 256 ≡ n % 512 % 256 = omega arith in
+    let parts : n / 256 ≡ 2 * (n / 512) + n % 512 / 256 = omega arith in
+    let high : n / 256 % 2 ≡ n % 512 / 256 % 2 = ap (λ k. k % 2) parts ∙ mul-add-mod-self-left 2 (n / 512) (n % 512 / 256) in
+    λ i. record { byte = low i; broken = eqb (high i) 1 }
 
 pub plain-byte : (b : ℕ) → b < 256 → itemOf b ≡ record { byte = b; broken = false }
 plain-byte b h =

@@ -2,7 +2,7 @@
 use Prim.Native.Nat.{ℕ}
 use mathlib.Core.Path.{_≡_, refl, sym, ap, _∙_}
 use mathlib.Core.Bool.{Bool, true, false, cond, _&&_, false≢true}
-use mathlib.Core.List.{List, [], _∷_, _++_, append-assoc}
+use mathlib.Core.List.{List, [], _∷_, _++_, append-assoc, append-nil}
 use Rattle.reading.specs.declared.Rule.{Rule}
 use Rattle.reading.specs.declared.Decision.{Decision}
 use Rattle.reading.specs.declared.Decision.the-variants.{Removed, End, Data, Wait}
@@ -136,6 +136,13 @@ module _ (r : Rule) where
       ∙ left-ahead C (lawful r) (xs ++ brk) ys
       ∙ ap (λ l. leftOver C (l ++ ys)) (at-break xs .left)
 
+  idle : (xs ys : List Received) → leftOver C xs ≡ [] → frames C (xs ++ (aBreak ∷ ys)) ≡ frames C (xs ++ ys)
+  unfolding dataFrames
+  idle xs ys e =
+      behind xs ys
+      ∙ ap (λ l. l ++ frames C ys) (at-break xs .reads ∙ ap (λ l. frames C xs ++ dataFrames l) e ∙ append-nil (frames C xs))
+      ∙ sym (frames-ahead C (lawful r) xs ys ∙ ap (λ l. frames C xs ++ frames C (l ++ ys)) e)
+
   -- two lists that are read alike
   record Alike (xs ys : List Received) : Type 0 where
     reads : frames C xs ≡ frames C ys
@@ -196,5 +203,9 @@ walled r =
       before = λ xs. at-break r xs .reads;
       left = λ xs. at-break r xs .left;
       behind = behind r;
+      rest = behind-left r;
+      idle = idle r;
+      twice = λ xs ys. behind r xs (aBreak ∷ ys) ∙ ap (λ l. frames (cut r) (xs ++ (aBreak ∷ [])) ++ l) (past r ys .0) ∙ sym (behind r xs ys);
+      first = λ ys. past r ys .0;
       once = once r;
     }

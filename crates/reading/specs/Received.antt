@@ -1,5 +1,6 @@
 -- What is held, as what came from the line: bytes and breaks, in order.
 use Prim.Native.Nat.{ℕ, zero, suc, _+_, _/_, _%_}
+use mathlib.Core.Path.{_≡_}
 use mathlib.Core.Bool.{cond}
 use mathlib.Core.List.{List, [], _∷_, map}
 use lib.Dec.{eqb}
@@ -15,6 +16,10 @@ pub data Received : Type 0 where
 -- the low eight bits are the byte, and bit 8 is the mark of a break that follows it
 abbrev pub itemOf : ℕ → Item
 itemOf n = record { byte = n % 256; broken = eqb (n / 256 % 2) 1 }
+
+-- no other bit is looked at
+abbrev pub OnlyNineBits : Type 0
+OnlyNineBits = (n : ℕ) → itemOf n ≡ itemOf (n % 512)
 
 -- the cell of a byte that a break follows
 abbrev pub markedCell : ℕ → ℕ

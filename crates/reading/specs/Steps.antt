@@ -1,5 +1,5 @@
--- The reading rule, over the bytes held and the breaks among them, oldest first; its steps stand in the order of the paper. A break is no byte,
--- so that no indicator has one in it or before it, and where one comes nothing waits for more.
+-- The reading rule, over the bytes held and the breaks among them, oldest first; its steps stand in the order of the paper. A break is no byte:
+-- no pair has one inside it, no byte is closed by a pair behind one, and where one comes nothing waits for more.
 use Prim.Native.Nat.{ℕ}
 use mathlib.Core.Bool.{Bool, true, false, cond, _&&_, _||_}
 use mathlib.Core.List.{List, [], _∷_}

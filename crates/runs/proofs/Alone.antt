@@ -54,8 +54,14 @@ unfolding notRefused outcome settledBy settled rxAfter txAfter breakState keySta
 notes w F reset = neither
 notes w F (write n v) = neither
 notes w F (lineByte b) = neither
-notes w F lineBreak =
-    (λ _. record { rest = ap (λ (rx : List ℕ). world (withNotes (w .state) (notRefused (on lineBreak) w .world .state .notes)) rx (w .tx)) (store-broken w F); seen = set-broken (w .state .notes .seen); again = set-broken (w .state .notes .again) }, λ h. absurd (false≢true h))
+notes w F lineBreak = (
+  λ _. record {
+    rest = ap (λ (rx : List ℕ). world (withNotes (w .state) (notRefused (on lineBreak) w .world .state .notes)) rx (w .tx)) (store-broken w F);
+    seen = set-broken (w .state .notes .seen);
+    again = set-broken (w .state .notes .again);
+  },
+  λ h. absurd (false≢true h),
+)
 notes w F key =
     (λ h. absurd (false≢true h), λ _. record { rest = refl; seen = set-pressed (w .state .notes .seen); again = set-pressed (w .state .notes .again) })
 notes w F nextLineByte = neither

@@ -32,8 +32,8 @@ use Rattle.loopside.specs.Sends.{ruleOf}
 use Rattle.answers.specs.Answers.{Said}
 use Rattle.bridge.specs.Calls.{lineByte, reset, write, lineBreak, key, nextLineByte, loopFrame, Call, create, show, on, World}
 use Rattle.laws.specs.Bridges.{ByteCall}
-use Rattle.laws.specs.Observers.{taken, isFlow, arrived, accepted, breaks, holdsSome, marks, bytesAndBreaks, bytesAndMarks, sent, changes}
-use Rattle.laws.specs.Worlds.{heldCells, heldToSend, reading}
+use Rattle.laws.specs.Observers.{taken, isFlow, arrived, accepted, breaks, marks, bytesAndBreaks, bytesAndMarks, sent, changes}
+use Rattle.laws.specs.Worlds.{heldCells, heldToSend, reading, holdsSome}
 use Rattle.laws.specs.Demands.{FramesRead, UnheldBreaks}
 use Rattle.runs.proofs.Shapes.{Seen, seen, Core, core, Fits, Shape, isStill, isBegun}
 use Rattle.runs.proofs.Shapes.{isWritten, isCleared, isStored, isLost, isBroken, isSent, isNone, isLeft, isHanded}

@@ -30,6 +30,7 @@ use Rattle.runs.proofs.Alone.{broken-alone, pressed-alone}
 use Rattle.runs.proofs.SendRule.{send-rule}
 use Rattle.runs.proofs.Since.{frames-since}
 use Rattle.runs.proofs.PlacesSince.{places-since}
+use Rattle.runs.proofs.NineBits.{nine-bits}
 use Rattle.runs.proofs.Cleared.{events-clear, not-invented, not-at-start}
 use Rattle.runs.proofs.Requests.{requests-go}
 use Rattle.runs.proofs.Holding.{holding-goes, forbidden-goes}
@@ -39,7 +40,7 @@ use Rattle.runs.proofs.Resuming.{empty-send-resumes}
 pub all-obeyed : OursObeysAll
 all-obeyed =
     answers-so also refused-exactly also refused-stays also one-frame-out also eleven-bits also shows-so
-    also places receive also places transmit also places-since receive also places-since transmit also keeps-fit also create-makes-fit also keeps-stores
+    also places receive also places transmit also places-since receive also places-since transmit also nine-bits also keeps-fit also create-makes-fit also keeps-stores
     also starts-so also margin-recorded also sizes-stay also reset-gives-start also registers-go also role-goes
     also frames-read also unheld-breaks also none-lost also frames-since also send-rule also none-removed also returns-judged also frames-pass also empty-send-resumes
     also events-stay broken also events-stay overrun also events-stay pressed also broken-alone also pressed-alone

@@ -33,6 +33,7 @@ pub mod StatusTold
 pub mod SendRule
 pub mod Since
 pub mod PlacesSince
+pub mod NineBits
 pub mod Cleared
 pub mod Requests
 pub mod Holding

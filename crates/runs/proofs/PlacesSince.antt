@@ -7,7 +7,8 @@ use Rattle.machine.specs.Machine.{Obeys}
 use Rattle.places.specs.OneStore.{anew, again}
 use Rattle.places.proofs.Filled.{filled-since}
 use Rattle.bridge.specs.Calls.{Store, receive, transmit, Call, World}
-use Rattle.laws.specs.Observers.{holdsSome, empties}
+use Rattle.laws.specs.Observers.{empties}
+use Rattle.laws.specs.Worlds.{holdsSome}
 use Rattle.laws.specs.StorePlaces.{writtenTo, filling, PlacesSince}
 use Rattle.laws.proofs.CallPlaces.{places}
 use Rattle.runs.proofs.Shapes.{Seen, Core, Shape, isStill, isBegun, isWritten, isCleared, isStored, isLost, isBroken, isSent, isNone, isLeft, isHanded}

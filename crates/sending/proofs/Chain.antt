@@ -62,7 +62,8 @@ further r q o n f less h e d =
     ∙ drop-again r (r .len - q .len) n f (omega arith)
     ∙ ap (dropRing r) (omega arith)
 
-pub left-again : (rule : Rule) (s : List ℕ) (r q o : Ring) → Fit s r → Left rule s r q → isRemoved (decision rule (receivedIn (held s q))) ≡ true → Dropped q 2 o → Left rule s r o
+pub left-again : (rule : Rule) (s : List ℕ) (r q o : Ring) → Fit s r → Left rule s r q →
+    isRemoved (decision rule (receivedIn (held s q))) ≡ true → Dropped q 2 o → Left rule s r o
 unfolding sendHeld
 left-again rule s r q o f l e d =
     let two : 2 ≤ q .len = pair-enough rule s q (l .fit) e in
@@ -119,7 +120,8 @@ module _ (rule : Rule) (s : List ℕ) (r q : Ring) (f : Fit s r) (l : Left rule 
       }
 
 -- after step 1 no pair is left at the front
-pub never-removed : (rule : Rule) (s : List ℕ) (q : Ring) (o : Sending) (r : Ring) → isRemoved (decision rule (receivedIn (held s q))) ≡ false → decision rule (receivedIn (held s q)) ≡ Removed → Sends rule s r o
+pub never-removed : (rule : Rule) (s : List ℕ) (q : Ring) (o : Sending) (r : Ring) →
+    isRemoved (decision rule (receivedIn (held s q))) ≡ false → decision rule (receivedIn (held s q)) ≡ Removed → Sends rule s r o
 never-removed rule s q o r stopped e = absurd (false≢true (sym stopped ∙ ap isRemoved e))
 
 -- ---- what the code looks at

@@ -8,7 +8,7 @@ use Rattle.codec.specs.Blocks.{isState, StartsWith}
 use Rattle.codec.proofs.Laws.{state-version, never-both}
 use Rattle.block.specs.Packed as bridge
 use Rattle.mailblock.specs.Packed as mailbox
-use Rattle.versions.specs.Versions.{NoMailboxInABridge, NoBridgeInAMailbox, OnlyVersion, NoOtherBridge, NoOtherMailbox}
+use Rattle.versions.specs.Versions.{NoMailboxInABridge, NoBridgeInAMailbox, OnlyVersion, NoOtherBridge, NoneOfBefore, NoOtherMailbox}
 
 pub no-mailbox-in-a-bridge : NoMailboxInABridge
 no-mailbox-in-a-bridge = never-both bridge.layout mailbox.layout bridge.version mailbox.version (λ s. refl) (λ s. refl) (λ e. omega (arith, e))
@@ -25,6 +25,9 @@ only-version layout version p b h = pick (isState layout b) refl
 
 pub no-other-bridge : NoOtherBridge
 no-other-bridge = only-version bridge.layout bridge.version (λ s. refl)
+
+pub none-of-before : NoneOfBefore
+none-of-before b h = no-other-bridge b (λ e. omega (arith, e))
 
 pub no-other-mailbox : NoOtherMailbox
 no-other-mailbox = only-version mailbox.layout mailbox.version (λ s. refl)

@@ -1,22 +1,27 @@
 -- Every bridge that takes a break wrongly, or reads over it, breaks a law. Assumes nothing.
 use native.Mathlib.Omega.{arith}
 use mathlib.Core.Path.{refl, ap}
-use mathlib.Core.Bool.{true≢false, false≢true}
+use mathlib.Core.Bool.{not, true≢false, false≢true}
+use mathlib.Core.Logic.{⊎-elim}
 use mathlib.Core.List.{List, [], _∷_}
+use borrow.Author.Tests.{lt-ltb}
 use Rattle.frame.specs.Frame.{made}
 use Rattle.answers.specs.Answers.{done, frame}
 use Rattle.state.specs.Conditions.{breakState}
-use Rattle.bridge.specs.Calls.{receive, World, on, lineByte, lineBreak, loopFrame}
+use Rattle.bridge.specs.Calls.{receive, transmit, World, on, lineByte, lineBreak, loopFrame}
 use Rattle.laws.specs.Demands.{FramesRead, UnheldBreaks}
 use Rattle.laws.specs.SendRule.{SendRule, NoneRemoved}
 use Rattle.laws.specs.StorePlaces.{Places}
+use Rattle.laws.specs.NineBits.{NineBits}
 use Rattle.laws.specs.Events.{broken, Alone}
-use Rattle.refuting.proofs.Apart.{lists-differ}
+use Rattle.refuting.proofs.Apart.{lists-differ, numbers-differ}
 use Rattle.refuting.proofs.StandsIn.{holds, no-round, goes-round}
-use Rattle.wrong.specs.Trials.{holdingFirst, brokenPair, brokenByte, brokenBefore, brokenAtTheEnd, upperBits, halfPair, sendData}
+use Rattle.wrong.specs.Trials.{holdingFirst, brokenPair, brokenByte, brokenBefore, brokenAtTheEnd, brokenEqualPair, upperBits, halfPair, oneToFour, sendData}
+use Rattle.wrong.specs.SmallWorlds.{holdingBytes}
 use Rattle.wrong.specs.Seeing.{having}
 use Rattle.wrong.specs.WrongSends.{commandEmpties}
-use Rattle.wrong.specs.WrongBreaks.{joinsAcross, wallInThePair, readsUpperBits, holdsBack}
+use Rattle.wrong.specs.WrongBreaks.{joinsAcross, wallInThePair, readsUpperBits, spansEqualPairs, holdsBack}
+use Rattle.wrong.specs.WrongBreaks.{keepsUpperBits, putsUpperBits, unmarksAgain, marksUnheld, marksByTheRule, marksBoth}
 use Rattle.wrong.specs.WrongBreaks.{marksTheOldest, markTakesAPlace, marksNothing, forgetsRound, dropsUndecided}
 use Rattle.wrong.specs.Broken.{Breaks}
 use Rattle.wrong.proofs.Computing.{computes}
@@ -71,7 +76,52 @@ holds-back-falls law =
     at (law (on (loopFrame sendData)) (holdingFirst 1 brokenByte) tt sendData refl
     (rw (holds brokenByte 0 1 refl, holds brokenByte 0 0 refl)) refl .first))
 
+-- 10, break, 10, where both characters are 10: nothing is sent, where 0,10 is the first frame
+pub spans-equal-pairs-falls : Breaks spansEqualPairs SendRule
+unfolding computes
+spans-equal-pairs-falls law =
+    lists-differ _ _ refl
+    (rw (holds (266 ∷ 10 ∷ 0 ∷ 0 ∷ []) 0 2 refl, holds (10 ∷ 10 ∷ 0 ∷ 0 ∷ []) 0 2 refl)
+    at (law (on (loopFrame sendData)) brokenEqualPair tt sendData refl
+    (rw (holds (266 ∷ 10 ∷ 0 ∷ 0 ∷ []) 0 2 refl, holds (10 ∷ 10 ∷ 0 ∷ 0 ∷ []) 0 2 refl)) refl .first))
+
 -- ---- what is written
+
+-- 50 and 13 are held, 13 with a bit above the ninth, which stays
+pub keeps-upper-bits-falls : Breaks keepsUpperBits NineBits
+unfolding computes
+keeps-upper-bits-falls law =
+    ⊎-elim (λ e. numbers-differ _ _ refl e) (λ h. true≢false (ap not (lt-ltb _ 512 h)))
+    (rw (holds upperBits 0 2 refl) at (law (on lineBreak) (holdingFirst 2 upperBits) tt tt 1))
+
+pub puts-upper-bits-falls : Breaks putsUpperBits NineBits
+unfolding computes
+puts-upper-bits-falls law =
+    ⊎-elim (λ e. numbers-differ _ _ refl e) (λ h. true≢false (ap not (lt-ltb _ 512 h)))
+    (rw (no-round 4 2 refl) at (law (on (lineByte 60)) (holdingFirst 2 halfPair) tt (omega arith) 2))
+
+-- 50, break: a break comes again, and the mark is gone
+pub unmarks-again-falls : Breaks unmarksAgain (Places receive)
+unfolding computes
+unmarks-again-falls law =
+    true≢false (ap (hasAt 0 50) (rw (holds brokenByte 0 1 refl) at (law (on lineBreak) (holdingFirst 1 brokenByte) tt .bytes)))
+
+-- nothing is held, and a mark stands at the last place
+pub marks-unheld-falls : Breaks marksUnheld (Places receive)
+unfolding computes
+marks-unheld-falls law =
+    true≢false (ap (hasAt 3 256) (rw (holds halfPair 0 0 refl) at (law (on lineBreak) (holdingFirst 0 halfPair) tt .bytes)))
+
+-- two bytes are held with R10 bit 3 off, and the mark stands nowhere
+pub marks-by-the-rule-falls : Breaks marksByTheRule (Places receive)
+unfolding computes
+marks-by-the-rule-falls law =
+    false≢true (ap (hasAt 1 306) (rw (holds oneToFour 0 2 refl) at (law (on lineBreak) (holdingBytes 2) tt .bytes)))
+
+-- place 0 of the transmit store is written
+pub marks-both-falls : Breaks marksBoth (Places transmit)
+unfolding computes
+marks-both-falls law = true≢false (ap (hasAt 0 256) (law (on lineBreak) (holdingFirst 0 halfPair) tt .bytes))
 
 -- 50 and 13 are held, and the mark stands at 50
 pub marks-the-oldest-falls : Breaks marksTheOldest (Places receive)

@@ -10,8 +10,10 @@ use Rattle.bridge.specs.Calls.{receive, write, show, on}
 use Rattle.laws.specs.Showing.{ShowsSo}
 use Rattle.laws.specs.Starting.{SizesStay}
 use Rattle.wrong.specs.SmallWorlds.{holdingBytes, misfitting, takesCommand}
-use Rattle.wrong.specs.Trials.{oneToFour}
-use Rattle.wrong.specs.WrongShows.{showsNothing, showsMisfits, clearsMargin, writesMargin, wide}
+use Rattle.refuting.proofs.Apart.{lists-differ}
+use Rattle.refuting.proofs.StandsIn.{holds}
+use Rattle.wrong.specs.Trials.{oneToFour, holdingFirst, brokenByte}
+use Rattle.wrong.specs.WrongShows.{showsNothing, showsMisfits, showsBytes, clearsMargin, writesMargin, wide}
 use Rattle.wrong.specs.Broken.{Breaks}
 use Rattle.wrong.proofs.Computing.{computes}
 use Rattle.wrong.proofs.Ends.{hasAt}
@@ -26,6 +28,13 @@ shows-nothing-falls law =
 pub shows-misfits-falls : Breaks showsMisfits ShowsSo
 unfolding computes
 shows-misfits-falls law = true≢false (ap (hasAt 0 49) (law (show receive) misfitting tt receive oneToFour refl refl .misfit refl))
+
+-- 50, break is held, and 50 is shown
+pub shows-bytes-falls : Breaks showsBytes ShowsSo
+unfolding computes
+shows-bytes-falls law =
+    lists-differ _ _ refl
+    (rw (holds brokenByte 0 1 refl) at (law (show receive) (holdingFirst 1 brokenByte) tt receive _ refl refl .part refl .first))
 
 pub clears-margin-falls : Breaks clearsMargin SizesStay
 unfolding computes

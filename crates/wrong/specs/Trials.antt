@@ -87,6 +87,10 @@ brokenBefore = 306 ∷ 13 ∷ 10 ∷ 0 ∷ []
 abbrev pub brokenAtTheEnd : World
 brokenAtTheEnd = having (λ s. withRx s (ring 4 3 1)) (fullOf (0 ∷ 0 ∷ 0 ∷ 306 ∷ []))
 
+-- the same inside a pair of two equal characters
+abbrev pub brokenEqualPair : World
+brokenEqualPair = having (λ s. withRegisters s (written (s .regs) 16 10)) (holdingFirst 2 (266 ∷ 10 ∷ 0 ∷ 0 ∷ []))
+
 -- a line in whose cells bits above the ninth are set
 abbrev pub upperBits : List ℕ
 upperBits = 50 ∷ 1037 ∷ 10 ∷ 0 ∷ []

@@ -1,5 +1,5 @@
 //! The crate on a chip without a divide instruction and without the standard library: a meter's ten
-//! readings, of which one has lost its point, through a store of eight bytes. The last line is the
+//! readings, of which one has lost its point, through a store of eight cells. The last line is the
 //! room that was left before each reading.
 //!
 //! `sh examples/run.sh` runs it on the emulated board. The C library of the board brings what an
@@ -48,7 +48,7 @@ fn print_reading(reading: Reading) {
     print(b"\n");
 }
 
-/// A room of a store of eight bytes has one digit.
+/// A room of a store of eight cells has one digit.
 fn print_rooms(rooms: [u16; LINE.len()]) {
     print(b"room before each reading:");
     for room in rooms {

@@ -7,7 +7,8 @@ use std::hash::{Hash, Hasher};
 pub struct Desk<M: Machine> {
     side: M::Side,
     block: Vec<u8>,
-    stores: [Vec<M::Cell>; 2],
+    one: Vec<M::One>,
+    other: Vec<M::Other>,
 }
 
 impl<M: Machine> Desk<M> {
@@ -16,19 +17,19 @@ impl<M: Machine> Desk<M> {
         Desk {
             side,
             block: vec![0; M::BLOCK],
-            stores: [(); 2].map(|()| vec![M::Cell::default(); store]),
+            one: vec![M::One::default(); store],
+            other: vec![M::Other::default(); store],
         }
     }
 
     #[inline(always)]
-    fn lent(&mut self) -> Lent<M::Cell> {
-        let [one, other] = &mut self.stores;
+    fn lent(&mut self) -> Lent<M::One, M::Other> {
         Lent {
             block: (self.block.as_mut_ptr(), self.block.len() as u64),
-            stores: [
-                (one.as_mut_ptr(), one.len() as u64),
-                (other.as_mut_ptr(), other.len() as u64),
-            ],
+            stores: (
+                (self.one.as_mut_ptr(), self.one.len() as u64),
+                (self.other.as_mut_ptr(), self.other.len() as u64),
+            ),
         }
     }
 
@@ -44,8 +45,8 @@ impl<M: Machine> Desk<M> {
     pub fn passed(&mut self, call: M::Call) -> (usize, [u64; 8]) {
         let (function, behind) = M::passed(&self.side, call);
         let lent = self.lent();
-        let [one, other] = lent.stores.map(|(store, len)| (store as u64, len));
-        let (block, len) = lent.block;
+        let ((block, len), (one, other)) = (lent.block, lent.stores);
+        let (one, other) = ((one.0 as u64, one.1), (other.0 as u64, other.1));
         let mut numbers = [block as u64, len, one.0, one.1, other.0, other.1, 0, 0];
         numbers[6..6 + behind.len()].copy_from_slice(&behind);
         (function, numbers)
@@ -53,7 +54,7 @@ impl<M: Machine> Desk<M> {
 
     /// Whether the block and both stores are those of another.
     pub fn same(&self, other: &Desk<M>) -> bool {
-        self.block == other.block && self.stores == other.stores
+        self.block == other.block && self.one == other.one && self.other == other.other
     }
 }
 
@@ -61,6 +62,7 @@ impl<M: Machine> Desk<M> {
 impl<M: Machine> Hash for Desk<M> {
     fn hash<H: Hasher>(&self, hasher: &mut H) {
         self.block.hash(hasher);
-        self.stores.hash(hasher);
+        self.one.hash(hasher);
+        self.other.hash(hasher);
     }
 }

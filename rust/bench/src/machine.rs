@@ -4,17 +4,27 @@ use std::fmt::Debug;
 use std::hash::Hash;
 
 /// Three buffers as C takes them: pointer and length.
-pub struct Lent<C> {
+pub struct Lent<A, B> {
     pub block: (*mut u8, u64),
-    pub stores: [(*mut C, u64); 2],
+    pub stores: ((*mut A, u64), (*mut B, u64)),
 }
+
+/// What a store is of.
+pub trait Cell: Copy + Default + PartialEq + Hash {}
+
+impl Cell for u8 {}
+
+impl Cell for u16 {}
 
 /// Implementations by name. A constant of an older Rust cannot hold them, for they are statics.
 pub type Sides<S> = &'static [(&'static str, &'static S)];
 
 /// A machine whose instructions are counted.
 pub trait Machine: 'static {
-    type Cell: Copy + Default + PartialEq + Hash;
+    /// What its first store is of.
+    type One: Cell;
+    /// What its second store is of.
+    type Other: Cell;
     type Call: Copy + Debug;
     /// The C functions of one implementation.
     type Side: Copy;
@@ -34,7 +44,7 @@ pub trait Machine: 'static {
     /// # Safety
     ///
     /// The three pointers are good for their lengths and the buffers are apart.
-    unsafe fn call(side: &Self::Side, lent: Lent<Self::Cell>, call: Self::Call) -> u64;
+    unsafe fn call(side: &Self::Side, lent: Lent<Self::One, Self::Other>, call: Self::Call) -> u64;
 
     /// The address of a call's function, and the numbers it takes behind the stores.
     fn passed(side: &Self::Side, call: Self::Call) -> (usize, Vec<u64>);

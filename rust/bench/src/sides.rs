@@ -1,21 +1,22 @@
 //! The C functions of a machine by pointer, from a table that says each once: every side is called
 //! by the same code.
 
-/// The calls of a machine, and its sides. A row of the table has the call, the function's field, its
-/// name in the archive and in the crates in plain Rust, what it may write of the block and the two
-/// stores, and the numbers that it takes behind them. After the table come those crates.
+/// The calls of a machine, and its sides. First comes what its two stores are of. A row of the table
+/// has the call, the function's field, its name in the archive and in the crates in plain Rust, what
+/// it may write of the block and the two stores, and the numbers that it takes behind them. After the
+/// table come those crates.
 macro_rules! sides {
-    ($cell:ty, $rows:tt, $($plain:ident = $boundary:path),*) => {
-        calls! { $cell, $rows }
-        archive! { $cell, $rows }
-        idle! { $cell, $rows }
-        $(plain! { $plain, $boundary, $cell, $rows })*
+    ([$a:ty, $b:ty], $rows:tt, $($plain:ident = $boundary:path),*) => {
+        calls! { [$a, $b], $rows }
+        archive! { $rows }
+        idle! { [$a, $b], $rows }
+        $(plain! { $plain, $boundary, [$a, $b], $rows })*
     };
 }
 
 /// The call with what it takes beside the block and the stores, and the functions by pointer.
 macro_rules! calls {
-    ($cell:ty, {$($call:ident $name:ident $raw:ident $in_crate:ident $block:tt $one:tt $other:tt
+    ([$a:ty, $b:ty], {$($call:ident $name:ident $raw:ident $in_crate:ident $block:tt $one:tt $other:tt
         ($($number:ident: $kind:ty),*);)*}) => {
         /// A call of the machine, with what it takes beside the block and the stores.
         #[derive(Clone, Copy, Debug)]
@@ -27,7 +28,7 @@ macro_rules! calls {
         #[derive(Clone, Copy)]
         pub struct Side {
             $(pub $name: unsafe extern "C" fn(
-                *$block u8, u64, *$one $cell, u64, *$other $cell, u64 $(, $kind)*
+                *$block u8, u64, *$one $a, u64, *$other $b, u64 $(, $kind)*
             ) -> u64,)*
         }
 
@@ -38,8 +39,8 @@ macro_rules! calls {
             ///
             /// The three pointers are good for their lengths and the buffers are apart.
             #[inline(always)]
-            pub unsafe fn call(&self, lent: crate::machine::Lent<$cell>, call: Call) -> u64 {
-                let [one, other] = lent.stores;
+            pub unsafe fn call(&self, lent: crate::machine::Lent<$a, $b>, call: Call) -> u64 {
+                let (one, other) = lent.stores;
                 match call {
                     $(Call::$call($($number),*) => (self.$name)(
                         lent.block.0, lent.block.1, one.0, one.1, other.0, other.1 $(, $number)*
@@ -61,7 +62,7 @@ macro_rules! calls {
 
 /// The proved functions.
 macro_rules! archive {
-    ($cell:ty, {$($call:ident $name:ident $raw:ident $in_crate:ident $block:tt $one:tt $other:tt
+    ({$($call:ident $name:ident $raw:ident $in_crate:ident $block:tt $one:tt $other:tt
         $numbers:tt;)*}) => {
         /// The proved one.
         pub static ARCHIVE: Side = Side { $($name: raftershim::raw::$raw,)* };
@@ -71,11 +72,11 @@ macro_rules! archive {
 /// Functions that answer 0 at once and leave everything as it was: what is counted with them is the
 /// work's own loop.
 macro_rules! idle {
-    ($cell:ty, {$($call:ident $name:ident $raw:ident $in_crate:ident $block:tt $one:tt $other:tt
+    ([$a:ty, $b:ty], {$($call:ident $name:ident $raw:ident $in_crate:ident $block:tt $one:tt $other:tt
         ($($number:ident: $kind:ty),*);)*}) => {
         mod idle {
             $(pub unsafe extern "C" fn $name(
-                _: *$block u8, _: u64, _: *$one $cell, _: u64, _: *$other $cell, _: u64
+                _: *$block u8, _: u64, _: *$one $a, _: u64, _: *$other $b, _: u64
                 $(, _: $kind)*
             ) -> u64 {
                 0
@@ -91,7 +92,7 @@ macro_rules! idle {
 /// calls the crate's own. All are unsafe for the one reason that the C functions are: every pointer
 /// must be good for its length, and the three buffers must not overlap.
 macro_rules! plain {
-    ($plain:ident, $boundary:path, $cell:ty, {$($call:ident $name:ident $raw:ident $in_crate:ident
+    ($plain:ident, $boundary:path, [$a:ty, $b:ty], {$($call:ident $name:ident $raw:ident $in_crate:ident
         $block:tt $one:tt $other:tt ($($number:ident: $kind:ty),*);)*}) => {
         pub mod $plain {
             use super::Side;
@@ -101,9 +102,9 @@ macro_rules! plain {
             $(unsafe extern "C" fn $name(
                 block: *$block u8,
                 block_len: u64,
-                one: *$one $cell,
+                one: *$one $a,
                 one_len: u64,
-                other: *$other $cell,
+                other: *$other $b,
                 other_len: u64,
                 $($number: $kind),*
             ) -> u64 {

@@ -1,7 +1,7 @@
 //! Blocks that are damaged or of another length, and stores of other lengths than recorded.
 
 use crate::implementation::Both;
-use crate::machine::{Cell, Machine};
+use crate::machine::{Cell, Machine, Stores};
 use crate::pair::Pair;
 use crate::random::Random;
 
@@ -53,25 +53,24 @@ fn more(random: &mut Random) -> isize {
 
 impl Damage {
     /// These two implementations on what is left of these buffers.
-    pub fn pair<M: Machine>(
-        &self,
-        both: Both<M>,
-        block: &[u8],
-        stores: [&[M::Cell]; 2],
-    ) -> Pair<M> {
+    pub fn pair<M: Machine>(&self, both: Both<M>, block: &[u8], stores: Stores<M>) -> Pair<M> {
         let mut block = block.to_vec();
-        let mut stores = stores.map(<[M::Cell]>::to_vec);
+        let (mut one, mut other) = (stores.0.to_vec(), stores.1.to_vec());
         match self {
             Damage::Places(places) => places.iter().for_each(|&(i, byte)| block[i] = byte),
             Damage::Whole(bytes) => block.copy_from_slice(bytes),
             Damage::Length(len) => block.resize(*len, 0),
             Damage::Stores(more) => {
-                for (store, more) in stores.iter_mut().zip(more) {
-                    let len = (store.len() as isize + more).max(0) as usize;
-                    store.resize(len, M::Cell::GUARD);
-                }
+                resize(&mut one, more[0]);
+                resize(&mut other, more[1]);
             }
         }
-        Pair::of(both, &block, [&stores[0], &stores[1]])
+        Pair::of(both, &block, (&one, &other))
     }
+}
+
+/// Makes a store so much longer, or shorter where it is negative.
+fn resize<C: Cell>(store: &mut Vec<C>, more: isize) {
+    let len = (store.len() as isize + more).max(0) as usize;
+    store.resize(len, C::GUARD);
 }

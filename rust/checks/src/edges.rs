@@ -1,13 +1,13 @@
 //! Blocks at their edges, of any machine.
 
 use crate::answer::refused;
-use crate::machine::Machine;
+use crate::machine::{Machine, Stores};
 use crate::pair::Pair;
 
 /// Whether these buffers hold a state that fits: then none of these calls is refused 2, and else
 /// every one is. Archive and model are compared at each, and when both stores are shown.
-pub fn fits<M: Machine>(block: &[u8], stores: [&[M::Cell]; 2], calls: &[M::Call]) -> bool {
-    let mut pair = Pair::<M>::holding(block, stores[0], stores[1]);
+pub fn fits<M: Machine>(block: &[u8], (one, other): Stores<M>, calls: &[M::Call]) -> bool {
+    let mut pair = Pair::<M>::holding(block, one, other);
     let misfits = calls.iter().map(|&call| pair.ask(call) == refused(2));
     let misfits: Vec<bool> = misfits.collect();
     let alike = misfits.iter().all(|&misfit| misfit == misfits[0]);

@@ -3,7 +3,7 @@
 use crate::answer::in_words;
 use crate::implementation::Both;
 use crate::lent::Lent;
-use crate::machine::{Machine, Made, Watcher};
+use crate::machine::{Machine, Made, Stores, Watcher};
 use crate::tally::Tally;
 use crate::written::{told, Written};
 use model::boundary::{kind, REFUSED};
@@ -48,15 +48,19 @@ const CELLS: usize = 6;
 
 /// Block and stores.
 #[derive(Clone, Copy, PartialEq, Eq, Hash)]
-struct Lasting<C> {
+struct Lasting<A, B> {
     block: [u8; BLOCK],
-    stores: [[C; CELLS]; 2],
+    one: [A; CELLS],
+    other: [B; CELLS],
 }
+
+/// Those of a machine.
+type Buffers<M> = Lasting<<M as Machine>::One, <M as Machine>::Other>;
 
 /// A state, and what the watcher of a run that led here knows.
 #[derive(Clone, Copy, PartialEq, Eq, Hash)]
 struct Node<M: Machine> {
-    lasting: Lasting<M::Cell>,
+    lasting: Lasting<M::One, M::Other>,
     watch: M::Watch,
 }
 
@@ -137,7 +141,8 @@ impl<M: Machine> Plan<'_, M> {
     fn first(&self) -> Node<M> {
         let mut lasting = Lasting {
             block: [0; BLOCK],
-            stores: [[M::Cell::default(); CELLS]; 2],
+            one: [M::One::default(); CELLS],
+            other: [M::Other::default(); CELLS],
         };
         let mut same = lasting;
         let [ours, theirs] = self.both;
@@ -156,21 +161,21 @@ impl<M: Machine> Plan<'_, M> {
     }
 
     /// The buffers that stand here.
-    fn lend<'b>(&self, lasting: &'b mut Lasting<M::Cell>) -> Lent<'b, M::Cell> {
-        let [one, other] = &mut lasting.stores;
+    fn lend<'b>(&self, lasting: &'b mut Buffers<M>) -> Lent<'b, M> {
         Lent {
             block: &mut lasting.block[..M::BLOCK_LEN],
-            stores: [&mut one[..self.lens[0]], &mut other[..self.lens[1]]],
+            one: &mut lasting.one[..self.lens[0]],
+            other: &mut lasting.other[..self.lens[1]],
         }
     }
 
-    fn stores<'b>(&self, lasting: &'b Lasting<M::Cell>) -> [&'b [M::Cell]; 2] {
-        let [one, other] = &lasting.stores;
-        [&one[..self.lens[0]], &other[..self.lens[1]]]
+    fn stores<'b>(&self, lasting: &'b Buffers<M>) -> Stores<'b, M> {
+        let [one, other] = self.lens;
+        (&lasting.one[..one], &lasting.other[..other])
     }
 
     /// The state that stands here: calls leave nothing else.
-    fn state(&self, lasting: &Lasting<M::Cell>) -> M::State {
+    fn state(&self, lasting: &Buffers<M>) -> M::State {
         M::state(&lasting.block[..M::BLOCK_LEN]).expect("a call leaves a state")
     }
 
@@ -191,7 +196,7 @@ impl<M: Machine> Plan<'_, M> {
             return Err(format!("{one} {ours}, {other} {theirs}"));
         }
         if next.lasting != same {
-            let place = next.lasting.first_difference::<M>(&same);
+            let place = next.lasting.first_difference(&same, M::STORES);
             return Err(format!("{one} and {other} differ: {place}"));
         }
         let quiet = M::shows(call) || kind(answer) == REFUSED;
@@ -210,22 +215,22 @@ impl<M: Machine> Plan<'_, M> {
     }
 }
 
-impl<C: PartialEq + fmt::Display> Lasting<C> {
-    /// Names the first place that differs.
-    fn first_difference<M: Machine>(&self, other: &Lasting<C>) -> String {
-        if let Some(place) = (0..BLOCK).find(|&i| self.block[i] != other.block[i]) {
-            let (ours, theirs) = (self.block[place], other.block[place]);
-            return format!("block place {place}: {ours} and {theirs}");
-        }
-        let places = (0..2).flat_map(|store| (0..CELLS).map(move |place| (store, place)));
-        let mut pairs = places.map(|(s, i)| (s, i, &self.stores[s][i], &other.stores[s][i]));
-        match pairs.find(|(_, _, ours, theirs)| ours != theirs) {
-            Some((store, place, ours, theirs)) => {
-                format!("{} place {place}: {ours} and {theirs}", M::STORES[store])
-            }
-            None => "nothing".into(),
-        }
+impl<A: PartialEq + fmt::Display, B: PartialEq + fmt::Display> Lasting<A, B> {
+    /// Names the first place that differs. The stores have these names.
+    fn first_difference(&self, others: &Lasting<A, B>, [one, other]: [&str; 2]) -> String {
+        let block = differing("block", &self.block, &others.block);
+        let found = block
+            .or_else(|| differing(one, &self.one, &others.one))
+            .or_else(|| differing(other, &self.other, &others.other));
+        found.unwrap_or_else(|| "nothing".into())
     }
+}
+
+/// Names the first place at which these differ.
+fn differing<C: PartialEq + fmt::Display>(name: &str, ours: &[C], theirs: &[C]) -> Option<String> {
+    let place = (0..ours.len()).find(|&i| ours[i] != theirs[i])?;
+    let (ours, theirs) = (&ours[place], &theirs[place]);
+    Some(format!("{name} place {place}: {ours} and {theirs}"))
 }
 
 impl<M: Machine> fmt::Display for Found<M> {

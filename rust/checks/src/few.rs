@@ -19,6 +19,11 @@ impl<C: Cell> Few<C> {
         self.len += 1;
     }
 
+    /// The last cell, to be changed.
+    pub fn last_mut(&mut self) -> Option<&mut C> {
+        self.cells[..usize::from(self.len)].last_mut()
+    }
+
     /// Removes the first cells; places behind the last cell are as they start.
     pub fn remove(&mut self, count: usize) {
         let left = self.cells().len() - count;

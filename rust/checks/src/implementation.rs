@@ -8,9 +8,9 @@ use crate::machine::Machine;
 pub struct Implementation<M: Machine> {
     pub name: &'static str,
     /// Creates a state in the block, with the number that the machine's create takes.
-    pub create: fn(Lent<M::Cell>, u32) -> u64,
+    pub create: fn(Lent<M>, u32) -> u64,
     /// Makes a call.
-    pub call: fn(Lent<M::Cell>, M::Call) -> u64,
+    pub call: fn(Lent<M>, M::Call) -> u64,
 }
 
 /// Two that are compared.

@@ -1,20 +1,21 @@
 //! The three buffers that a caller lends, with guards around each.
 
-use crate::machine::Cell;
+use crate::machine::{Cell, Machine, Stores};
 
 /// The three buffers of one call.
-pub struct Lent<'a, C> {
+pub struct Lent<'a, M: Machine> {
     pub block: &'a mut [u8],
-    pub stores: [&'a mut [C]; 2],
+    pub one: &'a mut [M::One],
+    pub other: &'a mut [M::Other],
 }
 
-impl<C> Lent<'_, C> {
+impl<M: Machine> Lent<'_, M> {
     /// The same buffers once more.
-    pub fn again(&mut self) -> Lent<'_, C> {
-        let [one, other] = &mut self.stores;
+    pub fn again(&mut self) -> Lent<'_, M> {
         Lent {
             block: self.block,
-            stores: [one, other],
+            one: self.one,
+            other: self.other,
         }
     }
 }
@@ -56,26 +57,28 @@ impl<C: Cell> Guarded<C> {
 
 /// Owns three buffers; two are equal if all places are, the guards too.
 #[derive(Clone, Debug, PartialEq, Eq)]
-pub struct Buffers<C: Cell> {
+pub struct Buffers<M: Machine> {
     block: Guarded<u8>,
-    stores: [Guarded<C>; 2],
+    one: Guarded<M::One>,
+    other: Guarded<M::Other>,
 }
 
-impl<C: Cell> Buffers<C> {
+impl<M: Machine> Buffers<M> {
     /// Buffers that hold these.
-    pub fn holding(block: &[u8], stores: [&[C]; 2]) -> Buffers<C> {
+    pub fn holding(block: &[u8], (one, other): Stores<M>) -> Buffers<M> {
         Buffers {
             block: Guarded::holding(block),
-            stores: stores.map(Guarded::holding),
+            one: Guarded::holding(one),
+            other: Guarded::holding(other),
         }
     }
 
     /// The buffers as a call takes them.
-    pub fn lend(&mut self) -> Lent<'_, C> {
-        let [one, other] = &mut self.stores;
+    pub fn lend(&mut self) -> Lent<'_, M> {
         Lent {
             block: self.block.lend(),
-            stores: [one.lend(), other.lend()],
+            one: self.one.lend(),
+            other: self.other.lend(),
         }
     }
 
@@ -83,22 +86,19 @@ impl<C: Cell> Buffers<C> {
         self.block.cells()
     }
 
-    pub fn stores(&self) -> [&[C]; 2] {
-        let [one, other] = &self.stores;
-        [one.cells(), other.cells()]
+    pub fn stores(&self) -> Stores<'_, M> {
+        (self.one.cells(), self.other.cells())
     }
 
-    /// Names the first place that differs from others with the same lengths. The stores have these
-    /// names.
-    pub fn first_difference(&self, others: &Buffers<C>, names: [&str; 2]) -> Option<String> {
+    /// Names the first place that differs from others with the same lengths.
+    pub fn first_difference(&self, others: &Buffers<M>) -> Option<String> {
         if self == others {
             return None;
         }
-        let [one, other] = &self.stores;
-        let [their_one, their_other] = &others.stores;
+        let [one, other] = M::STORES;
         let block = self.block.first_difference("block", &others.block);
         block
-            .or_else(|| one.first_difference(names[0], their_one))
-            .or_else(|| other.first_difference(names[1], their_other))
+            .or_else(|| self.one.first_difference(one, &others.one))
+            .or_else(|| self.other.first_difference(other, &others.other))
     }
 }

@@ -5,7 +5,7 @@ use crate::written::Beginning;
 use std::fmt::{self, Debug, Display};
 use std::hash::Hash;
 
-/// One cell of a store: a byte of the bridge's, 16 bits of the mailbox's.
+/// One cell of a store: a byte, or 16 bits.
 pub trait Cell: Copy + Debug + Default + Display + Eq + Hash + 'static {
     /// What stands around a store, where no call may write.
     const GUARD: Self;
@@ -21,7 +21,10 @@ impl Cell for u16 {
 
 /// A machine whose implementations are compared. The type itself is a name and holds nothing.
 pub trait Machine: Copy + Debug + Eq + Hash + 'static {
-    type Cell: Cell;
+    /// What its first store is of.
+    type One: Cell;
+    /// What its second store is of.
+    type Other: Cell;
     /// A call on a state, its three buffers aside.
     type Call: Copy + Debug + Display + 'static;
     /// What a block means.
@@ -57,8 +60,11 @@ pub trait Machine: Copy + Debug + Eq + Hash + 'static {
     fn forget_counts(_block: &mut [u8]) {}
 
     /// Writes how a run begins.
-    fn begins(beginning: &Beginning<Self::Cell>, f: &mut fmt::Formatter) -> fmt::Result;
+    fn begins(beginning: &Beginning<Self>, f: &mut fmt::Formatter) -> fmt::Result;
 }
+
+/// Both stores of a machine.
+pub type Stores<'a, M> = (&'a [<M as Machine>::One], &'a [<M as Machine>::Other]);
 
 /// A call that was made.
 pub struct Made<'a, M: Machine> {
@@ -67,20 +73,20 @@ pub struct Made<'a, M: Machine> {
     pub answer: u64,
     pub after: &'a M::State,
     /// Both stores after it.
-    pub stores: [&'a [M::Cell]; 2],
+    pub stores: Stores<'a, M>,
 }
 
 /// A history that goes along with a run, and the laws that it holds the run to.
 pub trait Watcher<M: Machine>: Sized {
     /// A run that starts at any state that fits, with these stores.
-    fn starting(state: &M::State, stores: [&[M::Cell]; 2]) -> Self;
+    fn starting(state: &M::State, stores: Stores<M>) -> Self;
 
     /// Takes note of a call and holds what it left to the laws. Gives a bit for each of the
     /// machine's rows that the call counts in.
     fn note(&mut self, made: &Made<M>) -> Result<u32, String>;
 
     /// Holds the end of a run to what only shows there.
-    fn check(&self, _state: &M::State, _stores: [&[M::Cell]; 2]) -> Result<(), String> {
+    fn check(&self, _state: &M::State, _stores: Stores<M>) -> Result<(), String> {
         Ok(())
     }
 }

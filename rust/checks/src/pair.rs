@@ -3,7 +3,7 @@
 use crate::answer::in_words;
 use crate::implementation::{Both, Implementation};
 use crate::lent::Buffers;
-use crate::machine::Machine;
+use crate::machine::{Machine, Stores};
 use crate::written::{told, Written};
 use model::boundary::{kind, REFUSED};
 
@@ -11,8 +11,8 @@ use model::boundary::{kind, REFUSED};
 pub struct Pair<M: Machine> {
     ours: Implementation<M>,
     theirs: Implementation<M>,
-    our_buffers: Buffers<M::Cell>,
-    their_buffers: Buffers<M::Cell>,
+    our_buffers: Buffers<M>,
+    their_buffers: Buffers<M>,
     /// What they were asked so far.
     written: Written<M>,
 }
@@ -25,22 +25,27 @@ impl<M: Machine> Pair<M> {
 
     /// As `create`, by these two implementations.
     pub fn created(both: Both<M>, lens: [usize; 2], number: u32) -> Pair<M> {
-        let stores = lens.map(|len| vec![M::Cell::default(); len]);
-        let blank = vec![0; M::BLOCK_LEN];
-        let mut pair = Pair::of(both, &blank, [&stores[0], &stores[1]]);
+        let mut pair = Pair::blank(both, lens);
         pair.written = Written::created(lens, number);
         let created = pair.recreate(number);
         assert_eq!(created, Ok(0), "the sizes are obeyed");
         pair
     }
 
+    /// These two on a block that is no state, and on stores of these lengths.
+    pub fn blank(both: Both<M>, lens: [usize; 2]) -> Pair<M> {
+        let one = vec![M::One::default(); lens[0]];
+        let other = vec![M::Other::default(); lens[1]];
+        Pair::of(both, &vec![0; M::BLOCK_LEN], (&one, &other))
+    }
+
     /// Archive and model on buffers that hold these, whatever they mean.
-    pub fn holding(block: &[u8], one: &[M::Cell], other: &[M::Cell]) -> Pair<M> {
-        Pair::of(M::BOTH, block, [one, other])
+    pub fn holding(block: &[u8], one: &[M::One], other: &[M::Other]) -> Pair<M> {
+        Pair::of(M::BOTH, block, (one, other))
     }
 
     /// As `holding`, by these two implementations.
-    pub fn of(both: Both<M>, block: &[u8], stores: [&[M::Cell]; 2]) -> Pair<M> {
+    pub fn of(both: Both<M>, block: &[u8], stores: Stores<M>) -> Pair<M> {
         let [ours, theirs] = both;
         let buffers = Buffers::holding(block, stores);
         Pair {
@@ -102,7 +107,7 @@ impl<M: Machine> Pair<M> {
 
     fn same_buffers(&self, sentence: &str) -> Result<(), String> {
         let theirs = &self.their_buffers;
-        match self.our_buffers.first_difference(theirs, M::STORES) {
+        match self.our_buffers.first_difference(theirs) {
             None => Ok(()),
             Some(place) => Err(self.told(&format!("{sentence}{place}"))),
         }
@@ -129,7 +134,7 @@ impl<M: Machine> Pair<M> {
     }
 
     /// The buffers of the first implementation; those of the other are equal.
-    pub fn buffers(&self) -> &Buffers<M::Cell> {
+    pub fn buffers(&self) -> &Buffers<M> {
         &self.our_buffers
     }
 }

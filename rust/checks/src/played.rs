@@ -30,8 +30,7 @@ fn created<M: Machine>(
     lens: [usize; 2],
     number: u32,
 ) -> Result<(Pair<M>, u64), String> {
-    let stores = lens.map(|len| vec![M::Cell::default(); len]);
-    let mut pair = Pair::of(both, &vec![0; M::BLOCK_LEN], [&stores[0], &stores[1]]);
+    let mut pair = Pair::blank(both, lens);
     let answer = pair.recreate(number)?;
     Ok((pair, answer))
 }

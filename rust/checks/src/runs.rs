@@ -4,7 +4,7 @@ use crate::damage::damage;
 use crate::draw::{Difference, Draws};
 use crate::drive::{drive, make_all, steps, What};
 use crate::implementation::Both;
-use crate::machine::Machine;
+use crate::machine::{Machine, Stores};
 use crate::pair::Pair;
 use crate::random::Random;
 use crate::tally::Tally;
@@ -34,13 +34,13 @@ pub trait Drawable: Machine {
 pub struct Drawn<M: Machine> {
     pub state: M::State,
     pub block: Vec<u8>,
-    pub stores: [Vec<M::Cell>; 2],
+    pub one: Vec<M::One>,
+    pub other: Vec<M::Other>,
 }
 
 impl<M: Machine> Drawn<M> {
-    pub fn stores(&self) -> [&[M::Cell]; 2] {
-        let [one, other] = &self.stores;
-        [one, other]
+    pub fn stores(&self) -> Stores<'_, M> {
+        (&self.one, &self.other)
     }
 }
 
@@ -48,6 +48,15 @@ impl<M: Machine> fmt::Debug for Drawn<M> {
     fn fmt(&self, f: &mut fmt::Formatter) -> fmt::Result {
         write!(f, "{:?}", self.state)
     }
+}
+
+/// A store of cells with any bits, also those that do not count; four from each number drawn.
+pub fn cells(random: &mut Random, len: usize) -> Vec<u16> {
+    let four = |_| {
+        let number = random.number();
+        [0, 16, 32, 48].map(|shift| (number >> shift) as u16)
+    };
+    (0..len).step_by(4).flat_map(four).take(len).collect()
 }
 
 /// The place of the oldest cell of a ring, and how many it holds: mostly near full or near empty.

@@ -1,22 +1,22 @@
 //! What was asked, written down so that it can be had again.
 
-use crate::machine::Machine;
+use crate::machine::{Machine, Stores};
 use std::fmt;
 
 /// The beginning of a run and its calls so far. It is printed with a call in each line.
 #[derive(Clone, Debug)]
 pub struct Written<M: Machine> {
-    beginning: Beginning<M::Cell>,
+    beginning: Beginning<M>,
     calls: Vec<M::Call>,
 }
 
 /// How a run begins.
 #[derive(Clone, Debug)]
-pub enum Beginning<C> {
+pub enum Beginning<M: Machine> {
     /// With create on fresh stores of these lengths, and the number that create takes.
     Created([usize; 2], u32),
     /// With what these hold, whatever it means: the block and the stores.
-    Holding(Vec<u8>, [Vec<C>; 2]),
+    Holding(Vec<u8>, Vec<M::One>, Vec<M::Other>),
 }
 
 impl<M: Machine> Written<M> {
@@ -26,12 +26,12 @@ impl<M: Machine> Written<M> {
     }
 
     /// A run that begins with these buffers, whatever they mean.
-    pub fn holding(block: &[u8], stores: [&[M::Cell]; 2]) -> Written<M> {
-        let stores = stores.map(<[M::Cell]>::to_vec);
-        Written::beginning(Beginning::Holding(block.to_vec(), stores))
+    pub fn holding(block: &[u8], (one, other): Stores<M>) -> Written<M> {
+        let (one, other) = (one.to_vec(), other.to_vec());
+        Written::beginning(Beginning::Holding(block.to_vec(), one, other))
     }
 
-    fn beginning(beginning: Beginning<M::Cell>) -> Written<M> {
+    fn beginning(beginning: Beginning<M>) -> Written<M> {
         Written {
             beginning,
             calls: Vec::new(),

@@ -6,6 +6,7 @@ use model::boundary::{kind, value, REFUSED};
 use raftershim_checks::answer::{framed, refused, with_room, DONE};
 use raftershim_checks::bridge::archive;
 use raftershim_checks::bridge::call::{frame, Call};
+use raftershim_checks::bridge::rule::BREAK;
 use raftershim_checks::bridge::Pair;
 use raftershim_checks::edges::every_byte_at_every_value;
 
@@ -91,18 +92,84 @@ fn every_frame_and_frames_that_do_not_exist() {
 }
 
 #[test]
-fn sides_that_do_not_exist() {
+fn each_store_is_shown_by_its_own_call() {
     let mut pair = Pair::create(4, 3, 1);
+    for _ in 0..2 {
+        pair.expect(Call::ShowReceive, 0);
+        pair.expect(Call::ShowTransmit, 0);
+    }
     pair.expect(frame(5, 129), with_room(3, framed(5, 130)));
     pair.expect(frame(4, 33), with_room(3, framed(4, 33)));
     pair.expect(frame(0, 65), with_room(2, framed(0, 65)));
+    pair.expect(Call::ShowReceive, 0);
+    pair.expect(Call::ShowTransmit, 1);
     pair.expect(Call::Line(50), with_room(3, DONE));
-    let mut neither = 0;
-    for side in (0..300).chain([1 << 8, 1 << 16, 1 << 16 | 1, 1 << 31, u32::MAX]) {
-        pair.expect(Call::Show(side), u64::from(side < 2));
-        neither += usize::from(side >= 2);
+    pair.expect(Call::Line(51), with_room(2, DONE));
+    pair.expect(Call::ShowReceive, 2);
+    pair.expect(Call::ShowTransmit, 1);
+    // A mark is no cell of its own.
+    pair.expect(Call::Break, DONE);
+    pair.expect(Call::ShowReceive, 2);
+    println!("edges, show: {} answers as written", pair.asked());
+}
+
+/// A talker that finds ends of lines and holds so many cells, which are these.
+fn talker_holding<const N: usize>(cells: [u16; N]) -> Pair {
+    let mut pair = Pair::create(4, 3, 1);
+    for call in [Call::Register(10, 8), frame(5, 129), frame(4, 65)] {
+        pair.ask(call);
     }
-    println!("edges, show: 2 sides, {neither} that are neither");
+    for byte in 0..N {
+        pair.ask(Call::Line(byte as u8));
+    }
+    let (mut rx, tx) = ([7; 4], pair.buffers().stores().1);
+    rx[..N].copy_from_slice(&cells);
+    Pair::holding(pair.buffers().block(), &rx, tx)
+}
+
+/// A frame that goes on while the transmit store is empty, which has three places.
+fn out(control: u64, data: u64) -> u64 {
+    with_room(3, framed(control, data))
+}
+
+#[test]
+fn every_cell_is_read_by_its_nine_bits() {
+    let mut cells = 0;
+    for cell in 0..=u16::MAX {
+        let byte = cell & 255;
+        let mut pair = talker_holding([cell]);
+        // It waits unless a break follows it, and the break that comes then decides it.
+        let data = out(0, byte.into());
+        let first = if cell & BREAK == 0 { out(5, 64) } else { data };
+        let mut again = talker_holding([cell]);
+        pair.expect(frame(5, 96), first);
+        again.expect(Call::Break, DONE);
+        // What is written has nothing above the mark, and nothing else is written.
+        assert_eq!(again.buffers().stores().0, [BREAK | byte, 7, 7, 7]);
+        again.expect(frame(5, 96), data);
+        cells += 1;
+    }
+    println!("edges, cells: {cells} read by their nine bits, before and after a break");
+}
+
+#[test]
+fn bits_above_the_mark_make_and_part_no_pair() {
+    let (data, end) = (out(0, 50), out(2, 50));
+    let mut sends = 0;
+    for bits in (0..128).map(|bits| bits << 9) {
+        // No mark; one behind the 50, behind the 13, and behind the 10.
+        for (marks, due) in [
+            ([0, 0, 0], end),
+            ([1, 0, 0], data),
+            ([0, 1, 0], data),
+            ([0, 0, 1], end),
+        ] {
+            let cells = [50 | marks[0] << 8, 13 | marks[1] << 8, 10 | marks[2] << 8];
+            talker_holding(cells.map(|cell| cell | bits)).expect(frame(5, 96), due);
+            sends += 1;
+        }
+    }
+    println!("edges, pairs: {sends} sends with other bits above the marks");
 }
 
 #[test]
@@ -157,14 +224,13 @@ fn another_version_is_refused_by_every_call_but_create() {
         good.ask(call);
     }
     let (buffers, mut others) = (good.buffers(), 0);
-    let [rx, tx] = buffers.stores();
+    let (rx, tx) = buffers.stores();
     for version in (0..=255).filter(|&version| version != VERSION) {
         let mut block = buffers.block().to_vec();
         block[0] = version;
         let mut pair = Pair::holding(&block, rx, tx);
-        for side in 0..2 {
-            pair.expect(Call::Show(side), 0);
-        }
+        pair.expect(Call::ShowReceive, 0);
+        pair.expect(Call::ShowTransmit, 0);
         for call in [
             Call::Reset,
             Call::Register(10, 8),

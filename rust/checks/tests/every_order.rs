@@ -15,7 +15,7 @@ use raftershim_checks::played::play;
 use raftershim_checks::tally::Tally;
 use raftershim_checks::written::script_in;
 use script::Script;
-use Call::{Break, Frame, Key, Line, Next, Register, Reset, Show};
+use Call::{Break, Frame, Key, Line, Next, Register, Reset, ShowReceive, ShowTransmit};
 use Letter::{Back, Make};
 
 /// A correct return, one with another service bit, and two damaged ones.
@@ -72,7 +72,7 @@ fn run(
 #[test]
 fn reading_off() {
     let bytes = [Line(13), Line(10), Line(50)];
-    let calls = [SEND, FINISH, OTHER_COMMAND, Next, Show(0)];
+    let calls = [SEND, FINISH, OTHER_COMMAND, Next, ShowReceive];
     let start = [Register(10, 8), ASSIGN, TALK];
     let found = run(
         "reading off",
@@ -87,7 +87,7 @@ fn reading_off() {
 #[test]
 fn reading_off_a_pair_of_equal_bytes() {
     let start = [Register(10, 8), Register(16, 10), ASSIGN, TALK];
-    let calls = [Line(10), Line(50), SEND, FINISH, Next, Show(0)];
+    let calls = [Line(10), Line(50), SEND, FINISH, Next, ShowReceive];
     let found = run(
         "reading off, pair 10, 10, store 6",
         (6, 2),
@@ -132,7 +132,7 @@ fn listening() {
         Line(19),
         Next,
         SEND,
-        Show(1),
+        ShowTransmit,
     ];
     let found = run(
         "listening",
@@ -243,7 +243,7 @@ fn holding_off_with_more_room() {
 #[test]
 fn reading_off_with_more_room() {
     let bytes = [Line(13), Line(10), Line(50)];
-    let calls = [SEND, SEND_STATUS, FINISH, OTHER_COMMAND, Next, Show(0)];
+    let calls = [SEND, SEND_STATUS, FINISH, OTHER_COMMAND, Next, ShowReceive];
     let start = [Register(10, 8), ASSIGN, TALK];
     let calls = [&bytes[..], &calls].concat();
     let name = "reading off and status, store 6";
@@ -284,8 +284,8 @@ fn all_together() {
         Register(11, 8),
         Register(21, 17),
         Reset,
-        Show(0),
-        Show(1),
+        ShowReceive,
+        ShowTransmit,
     ];
     let calls = [&line[..], &roles, &frames, &writes, &more].concat();
     let found = run("all together", (6, 2), &[], &calls, first_states());

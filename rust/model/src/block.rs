@@ -1,7 +1,8 @@
 //! The block of bytes in which the state travels between calls.
 //!
 //! The first byte is the version. Fields follow each other without gaps, numbers low byte first, a
-//! flag as 1 or 0.
+//! flag as 1 or 0. A block of version 2 has the same fields and speaks of a receive store of bytes, so
+//! it is none of ours.
 
 use crate::{Bridge, Registers, Ring};
 
@@ -9,7 +10,7 @@ use crate::{Bridge, Registers, Ring};
 pub const LEN: usize = 56;
 
 /// What the first byte of every block is.
-pub const VERSION: u8 = 2;
+pub const VERSION: u8 = 3;
 
 /// The block of a state; lengths, margin and places are cut to two bytes.
 #[inline]
@@ -213,7 +214,7 @@ mod tests {
         let mut spoilt = 0;
         for place in 0..LEN {
             let mut block = numbered();
-            block[place] = 3;
+            block[place] = 4;
             let back = unpack(&block).map(|bridge| pack(&bridge));
             assert!(back.is_none() || back == Some(block));
             spoilt += usize::from(back.is_none());

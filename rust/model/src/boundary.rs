@@ -5,7 +5,7 @@
 //! is left where the call tells it; the other bits are reserved and 0 for now. What a call refuses
 //! leaves the block and both stores as they were. Nothing is allocated.
 
-use crate::{block, Answer, Bridge, WithRoom};
+use crate::{block, Answer, Bridge, Ring, WithRoom};
 
 /// Kind: done, and nothing to hand out.
 pub const DONE: u64 = 0;
@@ -55,7 +55,7 @@ pub fn word(answer: Answer) -> u64 {
 }
 
 /// Makes a state in the block. Refusal 1 also for a block of another length than its own.
-pub fn create(block: &mut [u8], rx: &[u8], tx: &[u8], margin: u32) -> u64 {
+pub fn create(block: &mut [u8], rx: &[u16], tx: &[u8], margin: u32) -> u64 {
     if block.len() != block::LEN {
         return word(Answer::Refused(1));
     }
@@ -84,55 +84,61 @@ fn on_state<T: Into<WithRoom>>(block: &mut [u8], call: impl FnOnce(&mut Bridge) 
 }
 
 /// Gives the block what create gives for the same sizes and margin.
-pub fn reset(block: &mut [u8], rx: &[u8], tx: &[u8]) -> u64 {
+pub fn reset(block: &mut [u8], rx: &[u16], tx: &[u8]) -> u64 {
     on_state(block, |bridge| bridge.reset(rx, tx))
 }
 
 /// Writes a register.
-pub fn write_register(block: &mut [u8], rx: &[u8], tx: &[u8], number: u32, value: u32) -> u64 {
+pub fn write_register(block: &mut [u8], rx: &[u16], tx: &[u8], number: u32, value: u32) -> u64 {
     on_state(block, |bridge| bridge.write_register(rx, tx, number, value))
 }
 
 /// Takes a byte from the line, and tells the room of the receive store.
-pub fn line_byte(block: &mut [u8], rx: &mut [u8], tx: &[u8], byte: u8) -> u64 {
+pub fn line_byte(block: &mut [u8], rx: &mut [u16], tx: &[u8], byte: u8) -> u64 {
     on_state(block, |bridge| bridge.line_byte(rx, tx, byte))
 }
 
 /// Takes a break.
-pub fn line_break(block: &mut [u8], rx: &[u8], tx: &[u8]) -> u64 {
+pub fn line_break(block: &mut [u8], rx: &mut [u16], tx: &[u8]) -> u64 {
     on_state(block, |bridge| bridge.take_break(rx, tx))
 }
 
 /// Takes a press of the MSRQ key.
-pub fn key(block: &mut [u8], rx: &[u8], tx: &[u8]) -> u64 {
+pub fn key(block: &mut [u8], rx: &[u16], tx: &[u8]) -> u64 {
     on_state(block, |bridge| bridge.take_key(rx, tx))
 }
 
 /// Gives the next line byte, or none.
-pub fn next_line_byte(block: &mut [u8], rx: &[u8], tx: &[u8]) -> u64 {
+pub fn next_line_byte(block: &mut [u8], rx: &[u16], tx: &[u8]) -> u64 {
     on_state(block, |bridge| bridge.next_line_byte(rx, tx))
 }
 
 /// Takes a loop frame and gives the one that goes on, and tells the room of the transmit store.
-pub fn loop_frame(block: &mut [u8], rx: &[u8], tx: &mut [u8], frame: u32) -> u64 {
+pub fn loop_frame(block: &mut [u8], rx: &[u16], tx: &mut [u8], frame: u32) -> u64 {
     on_state(block, |bridge| bridge.loop_frame(rx, tx, frame))
 }
 
-/// Shows a store: where its part starts in bits 32 to 63, how long it is in bits 0 to 31, and 0 for
-/// an empty part.
-pub fn show(block: &[u8], rx: &[u8], tx: &[u8], side: u32) -> u64 {
-    let bridge = match block::unpack(block) {
-        Some(bridge) => bridge,
-        None => return 0,
-    };
-    let part = bridge.show(rx, tx, side);
-    if part.is_empty() {
-        return 0;
+/// Shows the receive store: where its part starts in bits 32 to 63, how long it is in bits 0 to 31,
+/// both in cells, and 0 for an empty part.
+pub fn show_receive(block: &[u8], rx: &[u16], tx: &[u8]) -> u64 {
+    match block::unpack(block) {
+        Some(bridge) => part(bridge.receive, bridge.show_receive(rx, tx).len()),
+        None => 0,
     }
-    let ring = if side == 0 {
-        bridge.receive
-    } else {
-        bridge.transmit
-    };
-    (ring.oldest as u64) << 32 | part.len() as u64
+}
+
+/// Shows the transmit store in the same way, in bytes.
+pub fn show_transmit(block: &[u8], rx: &[u16], tx: &[u8]) -> u64 {
+    match block::unpack(block) {
+        Some(bridge) => part(bridge.transmit, bridge.show_transmit(rx, tx).len()),
+        None => 0,
+    }
+}
+
+/// The number that stands for a part of this length from the oldest place on.
+fn part(ring: Ring, len: usize) -> u64 {
+    match len {
+        0 => 0,
+        len => (ring.oldest as u64) << 32 | len as u64,
+    }
 }

@@ -1,13 +1,22 @@
-//! A plain model of the whole bridge, written from the paper alone.
+//! A plain model of the whole bridge, written from the paper and its change requests alone.
 //!
 //! It is a second opinion: one struct, one function per call, no cleverness. Quoted sentences are
-//! the paper's. Both stores are lent at every call; a call that never writes a store borrows it
+//! theirs. Both stores are lent at every call; a call that never writes a store borrows it
 //! unchangeably, so the signatures already say which call may write what.
+//!
+//! The receive store is of 16-bit cells, "the byte and its break mark together", and the transmit
+//! store of bytes.
 
 #![forbid(unsafe_code)]
 
 pub mod block;
 pub mod boundary;
+mod reading;
+mod ring;
+
+pub use ring::Ring;
+
+use reading::{cell, marked, reading, Reading};
 
 /// What a call answers.
 #[derive(Clone, Copy, Debug, PartialEq, Eq)]
@@ -30,7 +39,7 @@ pub enum Answer {
 #[derive(Clone, Copy, Debug, PartialEq, Eq)]
 pub struct WithRoom {
     pub answer: Answer,
-    /// How many bytes the store can still take after the call. A refusal tells no room.
+    /// How much the store can still take after the call, in bytes or cells. A refusal tells no room.
     pub room: Option<usize>,
 }
 
@@ -90,13 +99,6 @@ pub struct Registers {
     pub c: [u8; 6],
 }
 
-/// Which places of a store hold bytes: `held` of them, from `oldest` on, round after the last.
-#[derive(Clone, Copy, Debug, PartialEq, Eq)]
-pub struct Ring {
-    pub oldest: usize,
-    pub held: usize,
-}
-
 /// The state that the caller keeps.
 #[derive(Clone, Copy, Debug, PartialEq, Eq)]
 pub struct Bridge {
@@ -148,55 +150,6 @@ pub struct Bridge {
     pub lost: u32,
     /// Data frames sent from the receive store.
     pub sent: u32,
-}
-
-/// What the reading rule says about the oldest bytes.
-enum Reading {
-    Pair,
-    Wait,
-    Data(u8),
-    EndByte(u8),
-}
-
-impl Ring {
-    const EMPTY: Ring = Ring { oldest: 0, held: 0 };
-
-    fn fits(&self, len: usize) -> bool {
-        self.oldest < len && self.held <= len
-    }
-
-    /// The held byte with this index, 0 being the oldest.
-    fn look(&self, store: &[u8], index: usize) -> Option<u8> {
-        if index < self.held {
-            Some(store[(self.oldest + index) % store.len()])
-        } else {
-            None
-        }
-    }
-
-    /// How many bytes a store of this length can still take.
-    fn room(&self, len: usize) -> usize {
-        len - self.held
-    }
-
-    /// "each later one to the place after the one before, and nothing else in a store is written"
-    fn put(&mut self, store: &mut [u8], byte: u8) {
-        let place = (self.oldest + self.held) % store.len();
-        store[place] = byte;
-        self.held += 1;
-    }
-
-    /// Removing writes nothing, and an emptied store keeps its next place.
-    fn remove(&mut self, len: usize, count: usize) {
-        self.oldest = (self.oldest + count) % len;
-        self.held -= count;
-    }
-
-    /// "the longest unbroken run of bytes from the oldest one"
-    fn run<'a>(&self, store: &'a [u8]) -> &'a [u8] {
-        let end = usize::min(self.oldest + self.held, store.len());
-        &store[self.oldest..end]
-    }
 }
 
 /// "Margin m is 1 to 1,024. The receive store has 2m+2 to 32,768 bytes, the transmit store 3 to
@@ -291,39 +244,11 @@ impl Registers {
         }
         Ok(new)
     }
-
-    /// The reading rule on the oldest byte and the two that follow it.
-    fn reading(&self, oldest: Option<u8>, second: Option<u8>, third: Option<u8>) -> Reading {
-        let (c00, c01) = (self.c[0], self.c[1]);
-        let byte = match oldest {
-            Some(byte) => byte,
-            None => return Reading::Wait,
-        };
-        // "R10 bit 3 off: each byte is one data frame."
-        if self.r10 & 8 == 0 {
-            return Reading::Data(byte);
-        }
-        // "1. The next two bytes are C00, C01: removed, nothing sent. One byte left and it is
-        // C00: undecided, wait." (The second half is part of step 3.)
-        if byte == c00 && second == Some(c01) {
-            return Reading::Pair;
-        }
-        // "2. Else, C00, C01 follow the byte: an end byte; all three go."
-        if second == Some(c00) && third == Some(c01) {
-            return Reading::EndByte(byte);
-        }
-        // "3. Else, nothing follows, or only C00: undecided, wait."
-        if second.is_none() || (second == Some(c00) && third.is_none()) {
-            return Reading::Wait;
-        }
-        // "4. Else a data frame; the byte goes."
-        Reading::Data(byte)
-    }
 }
 
 impl Bridge {
     /// Creates a bridge for these stores, which it does not write; `Err` is refusal 1.
-    pub fn create(rx: &[u8], tx: &[u8], margin: u32) -> Result<Bridge, Answer> {
+    pub fn create(rx: &[u16], tx: &[u8], margin: u32) -> Result<Bridge, Answer> {
         if !sizes_obeyed(rx.len(), tx.len(), margin as usize) {
             return Err(Answer::Refused(1));
         }
@@ -379,7 +304,7 @@ impl Bridge {
     }
 
     /// "Reset gives what create gives for the same sizes and margin; neither writes a store."
-    pub fn reset(&mut self, rx: &[u8], tx: &[u8]) -> Answer {
+    pub fn reset(&mut self, rx: &[u16], tx: &[u8]) -> Answer {
         if !self.fits(rx.len(), tx.len()) {
             return Answer::Refused(2);
         }
@@ -388,7 +313,7 @@ impl Bridge {
     }
 
     /// Writes a register: 0 to 12 are R00 to R12, 16 to 21 are C00 to C05.
-    pub fn write_register(&mut self, rx: &[u8], tx: &[u8], number: u32, value: u32) -> Answer {
+    pub fn write_register(&mut self, rx: &[u16], tx: &[u8], number: u32, value: u32) -> Answer {
         if !self.fits(rx.len(), tx.len()) {
             return Answer::Refused(2);
         }
@@ -410,12 +335,12 @@ impl Bridge {
     }
 
     /// Takes a byte from the line, and tells the room of the receive store.
-    pub fn line_byte(&mut self, rx: &mut [u8], tx: &[u8], byte: u8) -> WithRoom {
+    pub fn line_byte(&mut self, rx: &mut [u16], tx: &[u8], byte: u8) -> WithRoom {
         let answer = self.take_line_byte(rx, tx, byte);
         WithRoom::of(answer, || self.receive.room(rx.len()))
     }
 
-    fn take_line_byte(&mut self, rx: &mut [u8], tx: &[u8], byte: u8) -> Answer {
+    fn take_line_byte(&mut self, rx: &mut [u16], tx: &[u8], byte: u8) -> Answer {
         if !self.fits(rx.len(), tx.len()) {
             return Answer::Refused(2);
         }
@@ -434,7 +359,7 @@ impl Bridge {
             self.overrun_again = true;
             self.lost = self.lost.wrapping_add(1);
         } else {
-            self.receive.put(rx, byte);
+            self.receive.put(rx, cell(byte));
             self.stored = self.stored.wrapping_add(1);
             // "Holding off begins, only with R11 bit 3 on, when a stored byte leaves m free or
             // fewer"
@@ -447,20 +372,25 @@ impl Bridge {
     }
 
     /// "A break sets bit 4 [...], and apart from a request and the note that it happened again
-    /// [...] changes nothing else."
-    pub fn take_break(&mut self, rx: &[u8], tx: &[u8]) -> Answer {
+    /// [...] changes nothing else", but for the mark: "a break writes it into the newest held cell,
+    /// and nothing else into a store".
+    pub fn take_break(&mut self, rx: &mut [u16], tx: &[u8]) -> Answer {
         if !self.fits(rx.len(), tx.len()) {
             return Answer::Refused(2);
         }
         let before = self.enabled_and_holding();
+        // "a break with nothing held needs no mark"
+        if let Some(newest) = self.receive.newest(rx) {
+            *newest = marked(*newest);
+        }
         self.break_seen = true;
         self.break_again = true;
         self.begin_request(before);
         Answer::Done
     }
 
-    /// As a break, for the MSRQ key and bit 7.
-    pub fn take_key(&mut self, rx: &[u8], tx: &[u8]) -> Answer {
+    /// As a break, for the MSRQ key and bit 7; a press leaves no mark.
+    pub fn take_key(&mut self, rx: &[u16], tx: &[u8]) -> Answer {
         if !self.fits(rx.len(), tx.len()) {
             return Answer::Refused(2);
         }
@@ -472,7 +402,7 @@ impl Bridge {
     }
 
     /// Gives the next line byte, or none.
-    pub fn next_line_byte(&mut self, rx: &[u8], tx: &[u8]) -> Answer {
+    pub fn next_line_byte(&mut self, rx: &[u16], tx: &[u8]) -> Answer {
         if !self.fits(rx.len(), tx.len()) {
             return Answer::Refused(2);
         }
@@ -501,13 +431,13 @@ impl Bridge {
     }
 
     /// Takes a loop frame, and tells the room of the transmit store.
-    pub fn loop_frame(&mut self, rx: &[u8], tx: &mut [u8], frame: u32) -> WithRoom {
+    pub fn loop_frame(&mut self, rx: &[u16], tx: &mut [u8], frame: u32) -> WithRoom {
         let answer = self.take_frame(rx, tx, frame);
         WithRoom::of(answer, || self.transmit.room(tx.len()))
     }
 
     /// "Each frame taken gives exactly one frame out."
-    fn take_frame(&mut self, rx: &[u8], tx: &mut [u8], frame: u32) -> Answer {
+    fn take_frame(&mut self, rx: &[u16], tx: &mut [u8], frame: u32) -> Answer {
         if !self.fits(rx.len(), tx.len()) {
             return Answer::Refused(2);
         }
@@ -544,7 +474,7 @@ impl Bridge {
     }
 
     /// Does what the frame asks, and gives the frame that goes out.
-    fn taken(&mut self, rx: &[u8], tx: &mut [u8], frame: u16) -> u16 {
+    fn taken(&mut self, rx: &[u16], tx: &mut [u8], frame: u16) -> u16 {
         let data = (frame & 255) as u8;
         // "Data frames sent (status too) or passed, and identify frames, get the service bit if a
         // request showed before the call, and otherwise keep theirs."
@@ -570,18 +500,21 @@ impl Bridge {
         }
     }
 
-    /// Shows the receive store (side 0) or the transmit store (side 1): "the longest unbroken run
-    /// of bytes from the oldest one, [...] and an empty part if nothing is held, the state misfits
-    /// or the side is neither".
-    pub fn show<'a>(&self, rx: &'a [u8], tx: &'a [u8], side: u32) -> &'a [u8] {
+    /// Shows the receive store, by its cells: "the longest unbroken run of bytes from the oldest
+    /// one, [...] and an empty part if nothing is held, the state misfits".
+    pub fn show_receive<'a>(&self, rx: &'a [u16], tx: &[u8]) -> &'a [u16] {
         if !self.fits(rx.len(), tx.len()) {
             return &rx[..0];
         }
-        match side {
-            0 => self.receive.run(rx),
-            1 => self.transmit.run(tx),
-            _ => &rx[..0],
+        self.receive.run(rx)
+    }
+
+    /// Shows the transmit store in the same way, by its bytes.
+    pub fn show_transmit<'a>(&self, rx: &[u16], tx: &'a [u8]) -> &'a [u8] {
+        if !self.fits(rx.len(), tx.len()) {
+            return &tx[..0];
         }
+        self.transmit.run(tx)
     }
 
     /// "20, or 4 when listener: device clear."
@@ -658,7 +591,7 @@ impl Bridge {
     }
 
     /// Takes a ready frame and gives the frame that goes out for it.
-    fn ready(&mut self, rx: &[u8], data: u8, service: u16) -> u16 {
+    fn ready(&mut self, rx: &[u16], data: u8, service: u16) -> u16 {
         match data {
             // "Ready 128+n, n at most 30, when unassigned: we take n and send 128+n+1."
             128..=158 if self.address == UNASSIGNED => {
@@ -682,7 +615,7 @@ impl Bridge {
     }
 
     /// "A data frame taken while ours is under way is its return."
-    fn returned(&mut self, rx: &[u8], frame: u16, service: u16) -> u16 {
+    fn returned(&mut self, rx: &[u16], frame: u16, service: u16) -> u16 {
         // "Compared without the service bit: equal gives the next frame, or 5,64 if none, if
         // finishing, or if it was status; unequal gives 5,65."
         if frame & !SERVICE != self.under_way & !SERVICE {
@@ -714,10 +647,9 @@ impl Bridge {
 
     /// A send from the receive store. "Each first applies step 1 as often as it holds, also when
     /// no frame follows; nothing more is removed after its frame."
-    fn send(&mut self, rx: &[u8], service: u16) -> u16 {
+    fn send(&mut self, rx: &[u16], service: u16) -> u16 {
         let frame = loop {
-            let look = |index| self.receive.look(rx, index);
-            match self.registers.reading(look(0), look(1), look(2)) {
+            match reading(&self.registers, self.receive, rx) {
                 Reading::Pair => self.receive.remove(rx.len(), 2),
                 Reading::Wait => break None,
                 Reading::Data(byte) => {

@@ -1,4 +1,5 @@
-//! The paper's examples, its list of slips and the whole-run demands, as calls on the model.
+//! The paper's examples, its list of slips, the whole-run demands and what a break does, as calls on
+//! the model.
 
 use raftershim_model::boundary::{self, room};
 use raftershim_model::{block, Answer, Bridge, WithRoom};
@@ -9,7 +10,7 @@ use Answer::{Byte, Done, Frame, NoByte, Refused};
 #[derive(Clone, Debug, PartialEq)]
 struct World {
     bridge: Bridge,
-    rx: Vec<u8>,
+    rx: Vec<u16>,
     tx: Vec<u8>,
 }
 
@@ -81,10 +82,10 @@ impl World {
         next
     }
 
-    /// The bytes held in the receive store, oldest first.
-    fn held(&self) -> Vec<u8> {
+    /// The cells held in the receive store, oldest first, as far as they count.
+    fn held(&self) -> Vec<u16> {
         let ring = self.bridge.receive;
-        let place = |i| self.rx[(ring.oldest + i) % self.rx.len()];
+        let place = |i| self.rx[(ring.oldest + i) % self.rx.len()] & 511;
         (0..ring.held).map(place).collect()
     }
 
@@ -113,9 +114,23 @@ impl World {
 /// Address 1, addressed to talk.
 const TALK: [Call; 2] = [Call::Loop(0x581), Call::Loop(0x441)];
 
-/// The frames of the reading rule for these bytes, read from the front; a second writing of the
-/// rule, for whole sequences.
-fn frames_of(rule_on: bool, pair: [u8; 2], mut bytes: &[u8]) -> Vec<u16> {
+/// The mark of a cell whose byte a break follows. Alone it is a break, where rows say what came.
+const BREAK: u16 = 256;
+
+/// The frames of the reading rule for these cells; a second writing of the rule, for whole
+/// sequences: each piece between two breaks is read by itself, and only in the last can bytes wait.
+fn frames_of(rule_on: bool, pair: [u8; 2], cells: &[u16]) -> Vec<u16> {
+    let pieces = cells.split_inclusive(|cell| cell & BREAK != 0);
+    let frames = pieces.flat_map(|piece| {
+        let ended = piece.last().map_or(false, |last| last & BREAK != 0);
+        let bytes: Vec<u8> = piece.iter().map(|cell| *cell as u8).collect();
+        frames_of_piece(rule_on, pair, &bytes, ended)
+    });
+    frames.collect()
+}
+
+/// The frames of bytes without a break between them; `ended` says whether one follows the last.
+fn frames_of_piece(rule_on: bool, pair: [u8; 2], mut bytes: &[u8], ended: bool) -> Vec<u16> {
     let mut frames = Vec::new();
     while let Some((&first, rest)) = bytes.split_first() {
         if rule_on && bytes.starts_with(&pair) {
@@ -123,7 +138,7 @@ fn frames_of(rule_on: bool, pair: [u8; 2], mut bytes: &[u8]) -> Vec<u16> {
         } else if rule_on && rest.starts_with(&pair) {
             frames.push(f(2, u16::from(first)));
             bytes = &rest[2..];
-        } else if rule_on && (rest.is_empty() || rest == &pair[..1]) {
+        } else if rule_on && !ended && (rest.is_empty() || rest == &pair[..1]) {
             break;
         } else {
             frames.push(f(0, u16::from(first)));
@@ -133,48 +148,100 @@ fn frames_of(rule_on: bool, pair: [u8; 2], mut bytes: &[u8]) -> Vec<u16> {
     frames
 }
 
+/// A pair, what came on the line, the frames, and the cells that are left.
+type Row<'a> = ([u32; 2], &'a [u16], &'a [(u16, u16)], &'a [u16]);
+
+/// The rows of the paper.
+const ROWS: [Row; 10] = [
+    ([13, 10], &[], &[], &[]),
+    ([13, 10], &[50], &[], &[50]),
+    ([13, 10], &[50, 13], &[], &[50, 13]),
+    ([13, 10], &[50, 46], &[(0, 50)], &[46]),
+    ([13, 10], &[50, 13, 10], &[(2, 50)], &[]),
+    ([13, 10], &[13, 10], &[], &[]),
+    ([13, 10], &[50, 13, 46], &[(0, 50), (0, 13)], &[46]),
+    ([13, 10], &[13, 13, 10], &[(2, 13)], &[]),
+    (
+        [13, 10],
+        &[50, 13, 10, 13, 10, 46, 13, 10],
+        &[(2, 50), (2, 46)],
+        &[],
+    ),
+    (
+        [10, 10],
+        &[50, 10, 10, 10, 46, 53],
+        &[(2, 50), (0, 10), (0, 46)],
+        &[53],
+    ),
+];
+
+/// Rows with breaks: between a byte and a pair, within a pair, behind one, several at one place, and
+/// where nothing is held.
+const ROWS_WITH_BREAKS: [Row; 16] = [
+    ([13, 10], &[BREAK], &[], &[]),
+    ([13, 10], &[BREAK, 50], &[], &[50]),
+    ([13, 10], &[50, BREAK], &[(0, 50)], &[]),
+    ([13, 10], &[50, BREAK, BREAK], &[(0, 50)], &[]),
+    ([13, 10], &[50, BREAK, 13, 10], &[(0, 50)], &[]),
+    ([13, 10], &[13, BREAK, 10], &[(0, 13)], &[10]),
+    ([13, 10], &[50, 13, BREAK], &[(0, 50), (0, 13)], &[]),
+    ([13, 10], &[50, 13, BREAK, 10], &[(0, 50), (0, 13)], &[10]),
+    ([13, 10], &[50, 13, 10, BREAK], &[(2, 50)], &[]),
+    ([13, 10], &[50, 13, 10, BREAK, 13, 10], &[(2, 50)], &[]),
+    ([13, 10], &[13, 10, BREAK, 46, 53], &[(0, 46)], &[53]),
+    ([13, 10], &[13, BREAK, 13, 10, 46], &[(0, 13)], &[46]),
+    (
+        [13, 10],
+        &[50, 13, BREAK, 10, 13, 10],
+        &[(0, 50), (0, 13), (2, 10)],
+        &[],
+    ),
+    (
+        [13, 10],
+        &[50, 46, BREAK, 53, BREAK, 13, BREAK],
+        &[(0, 50), (0, 46), (0, 53), (0, 13)],
+        &[],
+    ),
+    ([10, 10], &[10, BREAK, 10], &[(0, 10)], &[10]),
+    (
+        [10, 10],
+        &[50, 10, BREAK, 10, 10, 53],
+        &[(0, 50), (0, 10)],
+        &[53],
+    ),
+];
+
+/// What comes on the line: a byte, or a break.
+fn came(item: u16) -> Call {
+    match item {
+        BREAK => Call::Break,
+        byte => Call::Line(byte as u8),
+    }
+}
+
+/// Lets a row come, reads it out, and holds frames and cells to it.
+fn held_to((pair, items, frames, left): Row) {
+    let registers = [
+        Call::Write(10, 8),
+        Call::Write(16, pair[0]),
+        Call::Write(17, pair[1]),
+    ];
+    let mut world = World::after(64, 64, 8, &[&registers[..], &TALK].concat());
+    for &item in items {
+        assert_eq!(world.call(came(item)), Done);
+    }
+    let frames: Vec<u16> = frames.iter().map(|&(c, d)| f(c, d)).collect();
+    let cells = world.held();
+    assert_eq!(frames_of(true, pair.map(|c| c as u8), &cells), frames);
+    assert_eq!(world.read_out(), frames, "{items:?}");
+    assert_eq!(world.held(), left, "{items:?}");
+    assert_eq!(world.bridge.sent as usize, frames.len());
+}
+
 #[test]
 fn proved_rows() {
-    type Row<'a> = ([u32; 2], &'a [u8], &'a [(u16, u16)], &'a [u8]);
-    let rows: [Row; 10] = [
-        ([13, 10], &[], &[], &[]),
-        ([13, 10], &[50], &[], &[50]),
-        ([13, 10], &[50, 13], &[], &[50, 13]),
-        ([13, 10], &[50, 46], &[(0, 50)], &[46]),
-        ([13, 10], &[50, 13, 10], &[(2, 50)], &[]),
-        ([13, 10], &[13, 10], &[], &[]),
-        ([13, 10], &[50, 13, 46], &[(0, 50), (0, 13)], &[46]),
-        ([13, 10], &[13, 13, 10], &[(2, 13)], &[]),
-        (
-            [13, 10],
-            &[50, 13, 10, 13, 10, 46, 13, 10],
-            &[(2, 50), (2, 46)],
-            &[],
-        ),
-        (
-            [10, 10],
-            &[50, 10, 10, 10, 46, 53],
-            &[(2, 50), (0, 10), (0, 46)],
-            &[53],
-        ),
-    ];
-    let mut count = 0;
-    for (pair, bytes, frames, left) in rows {
-        let registers = [
-            Call::Write(10, 8),
-            Call::Write(16, pair[0]),
-            Call::Write(17, pair[1]),
-        ];
-        let mut world = World::after(64, 64, 8, &[&registers[..], &TALK].concat());
-        for &byte in bytes {
-            assert_eq!(world.call(Call::Line(byte)), Done);
-        }
-        let frames: Vec<u16> = frames.iter().map(|&(c, d)| f(c, d)).collect();
-        assert_eq!(world.read_out(), frames, "{bytes:?}");
-        assert_eq!(world.held(), left, "{bytes:?}");
-        assert_eq!(world.bridge.sent as usize, frames.len());
-        count += 1;
-    }
+    ROWS.into_iter().for_each(held_to);
+    let mut count = ROWS.len();
 
     let mut world = World::new(64, 64, 8);
     assert_eq!(world.bridge.address, UNASSIGNED);
@@ -182,6 +249,12 @@ fn proved_rows() {
     assert_eq!(world.bridge.address, 30);
     count += 1;
     println!("{count} P rows");
+}
+
+#[test]
+fn rows_with_breaks() {
+    ROWS_WITH_BREAKS.into_iter().for_each(held_to);
+    println!("{} rows with breaks", ROWS_WITH_BREAKS.len());
 }
 
 #[test]
@@ -606,7 +679,7 @@ fn misfit_states_are_refused_and_left_alone() {
     let mut count = 0;
     for spoil in SPOILERS {
         let mut world = World::after(4, 3, 1, &[Call::Line(50)]);
-        assert_eq!(world.bridge.show(&world.rx, &world.tx, 0), [50]);
+        assert_eq!(world.bridge.show_receive(&world.rx, &world.tx), [50]);
         spoil(&mut world.bridge);
         let before = world.clone();
         for call in CALLS {
@@ -614,10 +687,10 @@ fn misfit_states_are_refused_and_left_alone() {
             assert_eq!(world, before);
             count += 1;
         }
-        for side in 0..3 {
-            assert!(world.bridge.show(&world.rx, &world.tx, side).is_empty());
-            count += 1;
-        }
+        let (rx, tx) = (&world.rx, &world.tx);
+        assert!(world.bridge.show_receive(rx, tx).is_empty());
+        assert!(world.bridge.show_transmit(rx, tx).is_empty());
+        count += 2;
     }
     println!("{} misfits, {count} calls refused or empty", SPOILERS.len());
 }
@@ -628,6 +701,9 @@ fn show_is_the_unbroken_run() {
     let mut count = 0;
     for step in 0..40_u8 {
         world.call(Call::Line(100 + step));
+        if step % 5 == 0 {
+            world.call(Call::Break);
+        }
         if step % 3 != 0 {
             world.call(if world.bridge.talker == ACTIVE_DATA {
                 Call::Echo
@@ -635,12 +711,11 @@ fn show_is_the_unbroken_run() {
                 offer(5, 96)
             });
         }
-        let shown = world.bridge.show(&world.rx, &world.tx, 0);
+        let shown = world.bridge.show_receive(&world.rx, &world.tx);
         let ring = world.bridge.receive;
         assert_eq!(shown.len(), ring.held.min(4 - ring.oldest));
         assert_eq!(shown, &world.held()[..shown.len()]);
-        assert!(world.bridge.show(&world.rx, &world.tx, 1).is_empty());
-        assert!(world.bridge.show(&world.rx, &world.tx, 2).is_empty());
+        assert!(world.bridge.show_transmit(&world.rx, &world.tx).is_empty());
         count += 1;
     }
     println!("{count} parts shown");
@@ -649,8 +724,8 @@ fn show_is_the_unbroken_run() {
 /// What a run's observer keeps, from the calls, the worlds before them and the answers alone.
 #[derive(Clone)]
 struct History {
-    /// Bytes held at the start, then all accepted.
-    accepted: Vec<u8>,
+    /// Bytes and breaks held at the start, then all accepted, as cells.
+    accepted: Vec<u16>,
     /// Data frames sent from the receive store, the service bit aside.
     sent: Vec<u16>,
     /// Bytes held for the line at the start, then all added.
@@ -692,6 +767,7 @@ impl History {
             Call::Echo => bridge.under_way,
             Call::Damage => bridge.under_way ^ 1,
             Call::Line(byte) => return self.note_line(before, byte, found),
+            Call::Break => return self.note_break(found),
             Call::Next => {
                 if let (Byte(byte), true) = (answer, bridge.holding == bridge.stop_sent_last) {
                     self.handed_out.push(byte);
@@ -706,6 +782,15 @@ impl History {
         }
     }
 
+    /// A break follows the byte that was accepted last, whether that is still held or not. Before
+    /// the first there is nothing that it could part.
+    fn note_break(&mut self, found: &mut Found) {
+        if let Some(last) = self.accepted.last_mut() {
+            *last |= BREAK;
+            found.breaks += 1;
+        }
+    }
+
     /// A line byte: accepted, or lost, and then news is owed.
     fn note_line(&mut self, before: &World, byte: u8, found: &mut Found) {
         let bridge = &before.bridge;
@@ -716,7 +801,7 @@ impl History {
         self.in_spell = if bridge.holding { self.in_spell + 1 } else { 0 };
         self.no_loss_promised &= self.in_spell <= bridge.margin;
         if bridge.receive.held < before.rx.len() {
-            self.accepted.push(byte);
+            self.accepted.push(byte.into());
         } else {
             assert!(!self.no_loss_promised);
             self.news_owed = true;
@@ -761,7 +846,7 @@ impl History {
     fn check(&self, world: &World) {
         let registers = &world.bridge.registers;
         let pair = [registers.c[0], registers.c[1]];
-        let frames = |bytes: &[u8]| frames_of(registers.r10 & 8 != 0, pair, bytes);
+        let frames = |cells: &[u16]| frames_of(registers.r10 & 8 != 0, pair, cells);
         let sent_then_held = [self.sent.clone(), frames(&world.held())].concat();
         assert_eq!(sent_then_held, frames(&self.accepted));
         assert!(world.bridge.overrun_seen || !self.news_owed);
@@ -777,6 +862,7 @@ struct Found {
     refused: u32,
     sent: u32,
     losses: u32,
+    breaks: u32,
     news: u32,
 }
 
@@ -839,7 +925,7 @@ fn every_order_while_talking() {
         let mut found = Found::default();
         explore(&world, &History::starting(&world), &alphabet, 5, &mut found);
         println!("from {:?}: {found:?}", world.held());
-        assert!(found.refused > 0 && found.sent > 0);
+        assert!(found.refused > 0 && found.sent > 0 && found.breaks > 0);
     }
 }
 
@@ -948,27 +1034,33 @@ fn drawn_state(n: &mut Numbers) -> Bridge {
     b
 }
 
+/// A call with numbers drawn from a little more than their range.
+fn drawn_call(n: &mut Numbers) -> Call {
+    match n.below(10) {
+        0 => Call::Reset,
+        1 => Call::Write(n.below(23) as u32, n.below(20) as u32),
+        2 => Call::Line(n.below(5) as u8),
+        3 => Call::Break,
+        4 => Call::Key,
+        5 => Call::Next,
+        6 => Call::Echo,
+        7 => Call::Damage,
+        8 => offer(5, 96 + n.below(2) as u16),
+        _ => Call::Loop(n.below(2060) as u32),
+    }
+}
+
 #[test]
 fn every_call_ends_on_drawn_states() {
     let mut n = Numbers(0x2545_f491_4f6c_dd1d);
     let mut count = [0, 0, 0];
     for _ in 0..200_000 {
         let bridge = drawn_state(&mut n);
-        let rx: Vec<u8> = (0..4).map(|_| n.below(4) as u8).collect();
+        // Few bytes, so that they meet, with any bits above them.
+        let rx: Vec<u16> = (0..4).map(|_| n.below(1 << 16) as u16 & 0xff03).collect();
         let tx: Vec<u8> = (0..3).map(|_| n.below(4) as u8).collect();
         let mut world = World { bridge, rx, tx };
-        let call = match n.below(10) {
-            0 => Call::Reset,
-            1 => Call::Write(n.below(23) as u32, n.below(20) as u32),
-            2 => Call::Line(n.below(5) as u8),
-            3 => Call::Break,
-            4 => Call::Key,
-            5 => Call::Next,
-            6 => Call::Echo,
-            7 => Call::Damage,
-            8 => offer(5, 96 + n.below(2) as u16),
-            _ => Call::Loop(n.below(2060) as u32),
-        };
+        let call = drawn_call(&mut n);
         let before = world.clone();
         let fits = before.bridge.fits(4, 3);
         match world.call(call) {
@@ -985,8 +1077,10 @@ fn every_call_ends_on_drawn_states() {
                 count[2] += 1;
             }
         }
-        let shown = world.bridge.show(&world.rx, &world.tx, n.below(3) as u32);
-        assert!(fits || shown.is_empty());
+        let (rx, tx) = (&world.rx, &world.tx);
+        let nothing = world.bridge.show_receive(rx, tx).is_empty()
+            && world.bridge.show_transmit(rx, tx).is_empty();
+        assert!(fits || nothing);
     }
     let [misfit, refused, taken] = count;
     println!("{misfit} misfits, {refused} other refusals, {taken} calls taken");
@@ -1066,4 +1160,88 @@ fn the_number_of_an_answer_has_the_room_in_bits_32_to_47() {
     assert_eq!((number, room(number)), (3 << 32 | 3 << 16 | 0x582, 3));
     let number = boundary::loop_frame(&mut lent, &rx, &mut tx, 2048);
     assert_eq!((number, room(number)), (4 << 16 | 3, 0));
+}
+
+#[test]
+fn a_break_marks_the_newest_held_cell_and_writes_nothing_else() {
+    let mut world = World::after(4, 3, 1, &[&[Call::Write(10, 8)], &TALK[..]].concat());
+    // Nothing is held: nothing is written, though a byte stood there.
+    world.rx = vec![7, 8, 9, 0xabcd];
+    assert_eq!(world.call(Call::Break), Done);
+    assert_eq!(world.rx, [7, 8, 9, 0xabcd]);
+    // The newest cell gets the mark, once and whole, also when the store is full.
+    for (byte, cells) in [
+        (50, [50 | BREAK, 8, 9, 0xabcd]),
+        (13, [50 | BREAK, 13 | BREAK, 9, 0xabcd]),
+        (10, [50 | BREAK, 13 | BREAK, 10 | BREAK, 0xabcd]),
+        (255, [50 | BREAK, 13 | BREAK, 10 | BREAK, 255 | BREAK]),
+    ] {
+        assert_eq!(world.call(Call::Line(byte)), Done);
+        for _ in 0..2 {
+            assert_eq!(world.call(Call::Break), Done);
+            assert_eq!(world.rx, cells);
+        }
+    }
+    // A mark takes no room, and a byte that is lost has none.
+    assert_eq!((world.bridge.receive.held, world.bridge.lost), (4, 0));
+    assert_eq!(world.call(Call::Line(51)), Done);
+    let before = world.rx.clone();
+    assert_eq!(world.call(Call::Break), Done);
+    assert_eq!(world.rx, before);
+    assert_eq!(world.read_out(), [50, 13, 10, 255]);
+    // The store has come round: the newest cell is at place 0, and is written afresh without a mark.
+    assert_eq!(world.call(Call::Line(52)), Done);
+    assert_eq!(world.rx[0], 52);
+    assert_eq!(world.call(Call::Break), Done);
+    assert_eq!(world.rx[0], 52 | BREAK);
+}
+
+#[test]
+fn the_low_nine_bits_of_a_cell_count_and_no_other() {
+    let pairs = [&[Call::Write(10, 8)], &TALK[..]].concat();
+    for off in [false, true] {
+        let mut world = World::after(8, 3, 3, &pairs);
+        for item in [50, 13, 10, 46, 13, BREAK, 10] {
+            world.call(came(item));
+        }
+        for cell in &mut world.rx {
+            *cell |= 0xfe00;
+        }
+        if off {
+            world.call(Call::Write(10, 0));
+        }
+        // The newest cell is byte and mark exactly after a break, and its bits above go.
+        world.call(Call::Break);
+        assert_eq!(world.rx[5], 10 | BREAK);
+        assert_eq!(world.rx[4], 0xfe00 | BREAK | 13);
+        let due: &[u16] = match off {
+            true => &[50, 13, 10, 46, 13, 10],
+            false => &[f(2, 50), 46, 13, 10],
+        };
+        assert_eq!(world.read_out(), due);
+    }
+}
+
+#[test]
+fn a_block_of_the_version_before_is_no_state() {
+    let (mut rx, mut tx) = ([0; 4], [0; 3]);
+    let mut lent = [0; block::LEN];
+    assert_eq!(boundary::create(&mut lent, &rx, &tx, 1), 0);
+    boundary::line_byte(&mut lent, &mut rx, &tx, 50);
+    assert_eq!((lent[0], boundary::show_receive(&lent, &rx, &tx)), (3, 1));
+    lent[0] = 2;
+    let before = (lent, rx, tx);
+    let answers = [
+        boundary::reset(&mut lent, &rx, &tx),
+        boundary::write_register(&mut lent, &rx, &tx, 10, 8),
+        boundary::line_byte(&mut lent, &mut rx, &tx, 51),
+        boundary::line_break(&mut lent, &mut rx, &tx),
+        boundary::key(&mut lent, &rx, &tx),
+        boundary::next_line_byte(&mut lent, &rx, &tx),
+        boundary::loop_frame(&mut lent, &rx, &mut tx, 0x581),
+    ];
+    assert_eq!(answers, [4 << 16 | 2; 7]);
+    assert_eq!(boundary::show_receive(&lent, &rx, &tx), 0);
+    assert_eq!(boundary::show_transmit(&lent, &rx, &tx), 0);
+    assert_eq!((lent, rx, tx), before);
 }

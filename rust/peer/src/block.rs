@@ -4,7 +4,7 @@
 pub type Block = [u8; 56];
 
 /// What the first byte of our blocks is.
-const OURS: u8 = 2;
+const OURS: u8 = 3;
 
 /// The places of the fields; a number of several bytes starts there, low byte first.
 const VERSION: usize = 0;

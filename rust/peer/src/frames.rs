@@ -20,7 +20,7 @@ const DAMAGED: u16 = 5 << 8 | 65;
 
 /// Takes a loop frame and gives the one that goes on. No condition comes to hold by a frame, so no
 /// request begins: a frame only takes from the receive store and adds to the transmit store.
-pub fn loop_frame(block: &mut [u8], rx: &[u8], tx: &mut [u8], frame: u32) -> u64 {
+pub fn loop_frame(block: &mut [u8], rx: &[u16], tx: &mut [u8], frame: u32) -> u64 {
     match fitting(block, rx.len(), tx.len()) {
         Some(block) => taken(block, rx, tx, frame),
         None => MISFIT,
@@ -28,7 +28,7 @@ pub fn loop_frame(block: &mut [u8], rx: &[u8], tx: &mut [u8], frame: u32) -> u64
 }
 
 #[inline(always)]
-fn taken(block: &mut Block, rx: &[u8], tx: &mut [u8], frame: u32) -> u64 {
+fn taken(block: &mut Block, rx: &[u16], tx: &mut [u8], frame: u32) -> u64 {
     if frame > 2047 {
         return REFUSED | 3;
     }
@@ -67,7 +67,7 @@ fn store(block: &mut Block, tx: &mut [u8], frame: u16) -> bool {
 
 /// Takes the return of our frame.
 #[inline]
-fn returned(block: &mut Block, rx: &[u8], frame: u16, service: u16) -> u16 {
+fn returned(block: &mut Block, rx: &[u16], frame: u16, service: u16) -> u16 {
     let under_way = word(block, UNDER_WAY);
     if (frame ^ under_way) & !SERVICE != 0 {
         end_sending(block);
@@ -88,7 +88,7 @@ fn returned(block: &mut Block, rx: &[u8], frame: u16, service: u16) -> u16 {
 
 /// Sends the next data frame, or ends the sending.
 #[inline]
-fn send_frame(block: &mut Block, rx: &[u8], service: u16) -> u16 {
+fn send_frame(block: &mut Block, rx: &[u16], service: u16) -> u16 {
     match send(block, rx) {
         Some(frame) => {
             put_under_way(block, DATA, frame);
@@ -125,7 +125,7 @@ fn end_sending(block: &mut Block) {
 
 /// Takes a ready frame.
 #[inline]
-fn ready(block: &mut Block, rx: &[u8], data: u8, service: u16) -> u16 {
+fn ready(block: &mut Block, rx: &[u16], data: u8, service: u16) -> u16 {
     match data {
         96 if block[PHASE] == ADDRESSED => return send_frame(block, rx, service),
         97 if block[PHASE] == ADDRESSED => return send_status(block, service),

@@ -5,7 +5,7 @@
 //! looks for one. It answers as the C functions do, with the same checks, and nothing is promised.
 //!
 //! - `block` has the places of the fields, and tells whether a block is a state that fits;
-//! - `ring` puts, takes and shows bytes of a store, and `sending` reads frames off it;
+//! - `ring` puts, takes and shows what a store holds, and `sending` reads frames off it;
 //! - `requests` has the status byte, and `frames` takes the frames of the loop.
 
 #![forbid(unsafe_code)]
@@ -20,7 +20,8 @@ pub use frames::loop_frame;
 
 use block::*;
 use requests::Watch;
-use ring::{RECEIVE, TRANSMIT};
+use ring::{Ring, RECEIVE, TRANSMIT};
+use sending::MARK;
 
 /// The answers: a kind in bits 16 to 23 above its value. Where a call tells the room that is left, it
 /// is in bits 32 to 47.
@@ -43,7 +44,7 @@ fn with_room(answer: u64, room: u16) -> u64 {
 }
 
 /// Makes a state in the block.
-pub fn create(block: &mut [u8], rx: &[u8], tx: &[u8], margin: u32) -> u64 {
+pub fn create(block: &mut [u8], rx: &[u16], tx: &[u8], margin: u32) -> u64 {
     match <&mut Block>::try_from(block) {
         Ok(block) if sizes_obeyed(rx.len(), tx.len(), margin) => {
             start(block, rx.len(), tx.len(), margin as u16);
@@ -54,7 +55,7 @@ pub fn create(block: &mut [u8], rx: &[u8], tx: &[u8], margin: u32) -> u64 {
 }
 
 /// Gives the block what create gives for the same sizes and margin.
-pub fn reset(block: &mut [u8], rx: &[u8], tx: &[u8]) -> u64 {
+pub fn reset(block: &mut [u8], rx: &[u16], tx: &[u8]) -> u64 {
     on_fitting(block, rx, tx, |block| {
         let margin = word(block, MARGIN);
         start(block, rx.len(), tx.len(), margin);
@@ -63,7 +64,7 @@ pub fn reset(block: &mut [u8], rx: &[u8], tx: &[u8]) -> u64 {
 }
 
 /// Writes a register.
-pub fn write_register(block: &mut [u8], rx: &[u8], tx: &[u8], number: u32, value: u32) -> u64 {
+pub fn write_register(block: &mut [u8], rx: &[u16], tx: &[u8], number: u32, value: u32) -> u64 {
     on_fitting(block, rx, tx, |block| written(block, number, value))
 }
 
@@ -100,7 +101,7 @@ fn written(block: &mut Block, number: u32, value: u32) -> u64 {
 }
 
 /// Takes a byte from the line.
-pub fn line_byte(block: &mut [u8], rx: &mut [u8], tx: &[u8], byte: u8) -> u64 {
+pub fn line_byte(block: &mut [u8], rx: &mut [u16], tx: &[u8], byte: u8) -> u64 {
     match fitting(block, rx.len(), tx.len()) {
         Some(block) => taken(block, rx, byte),
         None => MISFIT,
@@ -108,7 +109,7 @@ pub fn line_byte(block: &mut [u8], rx: &mut [u8], tx: &[u8], byte: u8) -> u64 {
 }
 
 #[inline(always)]
-fn taken(block: &mut Block, rx: &mut [u8], byte: u8) -> u64 {
+fn taken(block: &mut Block, rx: &mut [u16], byte: u8) -> u64 {
     let protocol = block[R11] == BIT_3;
     if protocol && (byte == block[GO] || byte == block[STOP]) {
         block[FORBIDDEN] = (byte == block[STOP]).into();
@@ -121,7 +122,7 @@ fn taken(block: &mut Block, rx: &mut [u8], byte: u8) -> u64 {
         block[OVERRUN_AGAIN] = 1;
         count(block, LOST);
     } else {
-        RECEIVE.put(block, rx, byte);
+        RECEIVE.put(block, rx, byte.into());
         free -= 1;
         count(block, STORED);
         if protocol && free <= word(block, MARGIN) {
@@ -132,13 +133,21 @@ fn taken(block: &mut Block, rx: &mut [u8], byte: u8) -> u64 {
     with_room(DONE, free)
 }
 
-/// Takes a break.
-pub fn line_break(block: &mut [u8], rx: &[u8], tx: &[u8]) -> u64 {
-    on_fitting(block, rx, tx, |block| noted(block, BREAK_SEEN, BREAK_AGAIN))
+/// Takes a break, and marks the newest cell held.
+pub fn line_break(block: &mut [u8], rx: &mut [u16], tx: &[u8]) -> u64 {
+    match fitting(block, rx.len(), tx.len()) {
+        Some(block) => {
+            if let Some(cell) = RECEIVE.newest(block, rx) {
+                *cell = *cell & 255 | MARK;
+            }
+            noted(block, BREAK_SEEN, BREAK_AGAIN)
+        }
+        None => MISFIT,
+    }
 }
 
 /// Takes a press of the MSRQ key.
-pub fn key(block: &mut [u8], rx: &[u8], tx: &[u8]) -> u64 {
+pub fn key(block: &mut [u8], rx: &[u16], tx: &[u8]) -> u64 {
     on_fitting(block, rx, tx, |block| noted(block, KEY_SEEN, KEY_AGAIN))
 }
 
@@ -153,7 +162,7 @@ fn noted(block: &mut Block, seen: usize, again: usize) -> u64 {
 }
 
 /// Gives the next line byte, or none.
-pub fn next_line_byte(block: &mut [u8], rx: &[u8], tx: &[u8]) -> u64 {
+pub fn next_line_byte(block: &mut [u8], rx: &[u16], tx: &[u8]) -> u64 {
     on_fitting(block, rx, tx, |block| given(block, tx))
 }
 
@@ -175,21 +184,32 @@ fn given(block: &mut Block, tx: &[u8]) -> u64 {
 
 /// Makes a call that writes neither store, on a block that is a state that fits them.
 #[inline(always)]
-fn on_fitting(block: &mut [u8], rx: &[u8], tx: &[u8], call: impl FnOnce(&mut Block) -> u64) -> u64 {
+fn on_fitting(
+    block: &mut [u8],
+    rx: &[u16],
+    tx: &[u8],
+    call: impl FnOnce(&mut Block) -> u64,
+) -> u64 {
     match fitting(block, rx.len(), tx.len()) {
         Some(block) => call(block),
         None => MISFIT,
     }
 }
 
-/// Shows a store: where its part starts above how long it is, and 0 for an empty part.
-pub fn show(block: &[u8], rx: &[u8], tx: &[u8], side: u32) -> u64 {
+/// Shows the receive store: where its part starts above how long it is, and 0 for an empty part.
+pub fn show_receive(block: &[u8], rx: &[u16], tx: &[u8]) -> u64 {
+    shown(block, rx, tx, RECEIVE)
+}
+
+/// Shows the transmit store in the same way.
+pub fn show_transmit(block: &[u8], rx: &[u16], tx: &[u8]) -> u64 {
+    shown(block, rx, tx, TRANSMIT)
+}
+
+#[inline(always)]
+fn shown(block: &[u8], rx: &[u16], tx: &[u8], ring: Ring) -> u64 {
     match <&Block>::try_from(block) {
-        Ok(block) if fits(block, rx.len(), tx.len()) => match side {
-            0 => RECEIVE.shown(block),
-            1 => TRANSMIT.shown(block),
-            _ => 0,
-        },
+        Ok(block) if fits(block, rx.len(), tx.len()) => ring.shown(block),
         _ => 0,
     }
 }

@@ -1,4 +1,5 @@
-//! A ring of bytes on a lent store: its length, oldest place and number of bytes are in the block.
+//! A ring of bytes or cells on a lent store: its length, oldest place and how many it holds are in
+//! the block.
 
 use crate::block::{set_word, word, Block};
 
@@ -47,31 +48,39 @@ impl Ring {
         self.len(block) == self.held(block)
     }
 
-    /// Puts a byte behind the newest; there is room.
+    /// Puts one behind the newest; there is room.
     #[inline(always)]
-    pub fn put(self, block: &mut Block, store: &mut [u8], byte: u8) {
+    pub fn put<T>(self, block: &mut Block, store: &mut [T], value: T) {
         let held = self.held(block);
         let place = round(self.oldest(block) + usize::from(held), store.len());
-        store[place] = byte;
+        store[place] = value;
         set_word(block, self.0 + 4, held + 1);
     }
 
-    /// Takes the oldest byte; there is one.
+    /// The newest one, to be changed, if any is held.
     #[inline(always)]
-    pub fn take(self, block: &mut Block, store: &[u8]) -> u8 {
+    pub fn newest<'a, T>(self, block: &Block, store: &'a mut [T]) -> Option<&'a mut T> {
+        let before = usize::from(self.held(block)).checked_sub(1)?;
+        let place = round(self.oldest(block) + before, store.len());
+        Some(&mut store[place])
+    }
+
+    /// Takes the oldest one; there is one.
+    #[inline(always)]
+    pub fn take<T: Copy>(self, block: &mut Block, store: &[T]) -> T {
         let oldest = self.oldest(block);
         self.keep(block, round(oldest + 1, store.len()), self.held(block) - 1);
         store[oldest]
     }
 
-    /// Holds so many bytes from this place on.
+    /// Holds so many from this place on.
     #[inline(always)]
     pub fn keep(self, block: &mut Block, oldest: usize, held: u16) {
         set_word(block, self.0 + 2, oldest as u16);
         set_word(block, self.0 + 4, held);
     }
 
-    /// Where the unbroken run from the oldest byte starts, above its length.
+    /// Where the unbroken run from the oldest one starts, above its length.
     pub fn shown(self, block: &Block) -> u64 {
         let oldest = word(block, self.0 + 2);
         match u16::min(self.held(block), self.len(block) - oldest) {

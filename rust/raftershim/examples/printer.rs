@@ -1,7 +1,7 @@
 // A printer on the line: the loop sends it two lines, and is told busy while it is slow.
 use raftershim::{Address, Bridge, Frame, Refusal, Register, Stores};
 
-type Printer = Bridge<[u8; 64], [u8; 8]>;
+type Printer = Bridge<[u16; 64], [u8; 8]>;
 
 fn main() -> Result<(), Refusal> {
     let stores = Stores {

@@ -1,7 +1,7 @@
 // Status polling: the bridge asks for service when a byte is lost, and the status byte says why.
 use raftershim::{Address, Bridge, Frame, LineByte, Refusal, Register, StatusByte, Stores};
 
-type Polled = Bridge<[u8; 4], [u8; 3]>;
+type Polled = Bridge<[u16; 4], [u8; 3]>;
 
 fn main() -> Result<(), Refusal> {
     let stores = Stores {

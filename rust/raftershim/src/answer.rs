@@ -77,12 +77,12 @@ impl Answer {
     }
 
     /// The room that is in the word of 64 bits that a C function of the bridge answered: how many
-    /// bytes more a store can hold after the call.
+    /// bytes more a store can hold after the call. A byte takes a cell in the receive store.
     ///
     /// It is bits 32 to 47 of the word, whatever its other bits are. Of `raftershim_line_byte` it is
     /// that of the receive store, and of `raftershim_loop_frame` that of the transmit store. A refusal
-    /// and all other functions tell none, and then it is 0. It is not for what `raftershim_show`
-    /// answers.
+    /// and all other functions tell none, and then it is 0. It is not for what the functions answer
+    /// that show a store.
     ///
     /// ```
     /// use raftershim::Answer;

@@ -3,13 +3,15 @@
 use core::fmt;
 
 use crate::lend::{self, done, lend, part};
+use crate::WithRoom;
 use crate::BLOCK_LEN;
-use crate::{Answer, BadSize, Frame, LineByte, Refusal, Register, Saved, Side, State, WithRoom};
+use crate::{Answer, BadSize, Frame, HeldByte, LineByte, Refusal, Register, Saved, Side, State};
 
 /// The two stores of a bridge, by name so that they cannot be exchanged unseen.
 ///
-/// Each is an array, a vector, a borrowed slice, or anything else that lends its bytes, the same
-/// ones at every call.
+/// Each is an array, a vector, a borrowed slice, or anything else that lends its places, the same
+/// ones at every call. The receive store lends cells of 16 bits, each of which is a [`HeldByte`] as a
+/// number, and the transmit store bytes.
 ///
 /// ```
 /// use raftershim::{Bridge, Stores};
@@ -20,7 +22,7 @@ use crate::{Answer, BadSize, Frame, LineByte, Refusal, Register, Saved, Side, St
 /// ```
 #[derive(Clone, Copy, Default, PartialEq, Eq, Hash)]
 pub struct Stores<R, T> {
-    /// The receive store, line to loop: twice the margin plus 2 to 32768 bytes.
+    /// The receive store, line to loop: twice the margin plus 2 to 32768 cells.
     pub receive: R,
     /// The transmit store, loop to line: 3 to 32768 bytes.
     pub transmit: T,
@@ -64,9 +66,22 @@ macro_rules! call {
     };
 }
 
+/// Makes a call that writes nothing, and gives its word.
+macro_rules! look {
+    ($bridge:expr, $function:ident) => {
+        lend!(
+            as_ptr,
+            &$bridge.block,
+            $bridge.receive_store(),
+            $bridge.transmit_store(),
+            $function
+        )
+    };
+}
+
 impl<R, T> Bridge<R, T>
 where
-    R: AsRef<[u8]> + AsMut<[u8]>,
+    R: AsRef<[u16]> + AsMut<[u16]>,
     T: AsRef<[u8]> + AsMut<[u8]>,
 {
     /// Creates a bridge on these stores, with this margin, which is 1 to 1024. It writes neither
@@ -155,8 +170,8 @@ where
         (self.saved(), self.stores)
     }
 
-    /// The whole receive store, line to loop, with all its places. What it holds is for
-    /// [`show`](Bridge::show) to say.
+    /// The whole receive store, line to loop, with all its cells. What it holds is for
+    /// [`show_receive`](Bridge::show_receive) to say.
     ///
     /// ```
     /// use raftershim::{Bridge, LineByte, Stores};
@@ -166,12 +181,12 @@ where
     /// assert_eq!(bridge.receive_store(), [50, 7, 7, 7]);
     /// # Ok::<(), raftershim::Refusal>(())
     /// ```
-    pub fn receive_store(&self) -> &[u8] {
+    pub fn receive_store(&self) -> &[u16] {
         self.stores.receive.as_ref()
     }
 
     /// The whole transmit store, loop to line, with all its places. What it holds is for
-    /// [`show`](Bridge::show) to say.
+    /// [`show_transmit`](Bridge::show_transmit) to say.
     ///
     /// ```
     /// use raftershim::{Bridge, Stores};
@@ -210,7 +225,7 @@ where
         }
     }
 
-    /// How many bytes more a store can hold. The answers of
+    /// How many bytes more a store can hold; in the receive store each takes a cell. The answers of
     /// [`line_byte_and_room`](Bridge::line_byte_and_room) and
     /// [`loop_frame_and_room`](Bridge::loop_frame_and_room) tell it too, so that an app that shows it
     /// need not ask after each of them.
@@ -290,12 +305,12 @@ where
     /// Refusal 2.
     ///
     /// ```
-    /// use raftershim::{Bridge, LineByte, Side, Stores};
+    /// use raftershim::{Bridge, LineByte, Stores};
     ///
     /// let mut bridge = Bridge::create(Stores { receive: [0; 64], transmit: [0; 64] }, 8)?;
     /// assert_eq!(bridge.line_byte(50)?, LineByte::Stored);
     /// assert_eq!(bridge.line_byte(17)?, LineByte::Go);
-    /// assert_eq!(bridge.show(Side::Receive), [50]);
+    /// assert_eq!(bridge.state()?.receive.held, 1);
     /// # Ok::<(), raftershim::Refusal>(())
     /// ```
     #[must_use = "whether the byte is lost is in the answer"]
@@ -340,18 +355,33 @@ where
         Ok(WithRoom { answer, room })
     }
 
-    /// Takes a break on the line.
+    /// Takes a break on the line. The status byte tells it, and the newest byte held gets the mark
+    /// that a break follows it. The mark takes no room, several breaks at one place are one mark, and
+    /// with nothing held there is none.
+    ///
+    /// A break parts the ends of lines: CR before it and LF after it are no end of line, and a byte
+    /// before it gets no end of line that comes after it. What waited to be decided waits no longer,
+    /// and each such byte becomes a data frame. No frame says that there was a break: to the loop 1,
+    /// break, 2 and an end of line are the data of one line. A [`Meter`](crate::Meter) tells the two
+    /// apart.
     ///
     /// # Errors
     ///
     /// Refusal 2.
     ///
     /// ```
-    /// use raftershim::{Bridge, Stores};
+    /// use raftershim::{Address, Bridge, Frame, LineByte, Register, Stores};
     ///
     /// let mut bridge = Bridge::create(Stores { receive: [0; 64], transmit: [0; 64] }, 8)?;
+    /// bridge.write_register(Register::R10, Register::R10_FIND_LINE_END)?;
+    /// assert_eq!(bridge.line_byte(b'\r')?, LineByte::Stored);
     /// bridge.line_break()?;
+    /// assert_eq!(bridge.line_byte(b'\n')?, LineByte::Stored);
     /// assert!(bridge.state()?.seen_break);
+    ///
+    /// bridge.loop_frame(Frame::auto_address(Address::FIRST))?;
+    /// bridge.loop_frame(Frame::talk_address(Address::FIRST))?;
+    /// assert_eq!(bridge.loop_frame(Frame::SEND_DATA)?, Frame::data_byte(b'\r'));
     /// # Ok::<(), raftershim::Refusal>(())
     /// ```
     #[must_use = "a refused break is not noted"]
@@ -467,26 +497,48 @@ where
         Ok(WithRoom { answer, room })
     }
 
-    /// Shows a store: the longest unbroken run of bytes from the oldest one, as a part of the
-    /// store. The part is empty if nothing is held, or if a store no longer lends the length that
-    /// it had.
+    /// Shows what the receive store holds: the longest unbroken run of its cells from the oldest one
+    /// on, the oldest first. It is empty if nothing is held, or if a store no longer lends the length
+    /// that it had.
     ///
     /// ```
-    /// use raftershim::{Bridge, LineByte, Side, Stores};
+    /// use raftershim::{Bridge, HeldByte, LineByte, Stores};
     ///
     /// let mut bridge = Bridge::create(Stores { receive: [0; 64], transmit: [0; 64] }, 8)?;
     /// assert_eq!(bridge.line_byte(50)?, LineByte::Stored);
+    /// bridge.line_break()?;
     /// assert_eq!(bridge.line_byte(46)?, LineByte::Stored);
-    /// assert_eq!(bridge.show(Side::Receive), [50, 46]);
+    /// let held: Vec<HeldByte> = bridge.show_receive().collect();
+    /// let two = HeldByte { byte: 50, then_break: true };
+    /// assert_eq!(held, [two, HeldByte { byte: 46, then_break: false }]);
     /// # Ok::<(), raftershim::Refusal>(())
     /// ```
-    pub fn show(&self, side: Side) -> &[u8] {
-        let (rx, tx) = (self.receive_store(), self.transmit_store());
-        let word = lend!(as_ptr, &self.block, rx, tx, raftershim_show, side as u32);
-        match side {
-            Side::Receive => part(rx, word),
-            Side::Transmit => part(tx, word),
-        }
+    pub fn show_receive(
+        &self,
+    ) -> impl DoubleEndedIterator<Item = HeldByte> + ExactSizeIterator + Clone + '_ {
+        let word = look!(self, raftershim_show_receive);
+        let shown = part(self.receive_store(), word);
+        shown.iter().copied().map(HeldByte::from)
+    }
+
+    /// Shows what the transmit store holds: the longest unbroken run of bytes from the oldest one, as
+    /// a part of the store. The part is empty if nothing is held, or if a store no longer lends the
+    /// length that it had.
+    ///
+    /// ```
+    /// use raftershim::{Address, Bridge, Frame, Stores};
+    ///
+    /// let mut bridge = Bridge::create(Stores { receive: [0; 64], transmit: [0; 64] }, 8)?;
+    /// bridge.loop_frame(Frame::auto_address(Address::FIRST))?;
+    /// bridge.loop_frame(Frame::listen_address(Address::FIRST))?;
+    /// bridge.loop_frame(Frame::data_byte(50))?;
+    /// bridge.loop_frame(Frame::end_byte(46))?;
+    /// assert_eq!(bridge.show_transmit(), [50, 46]);
+    /// # Ok::<(), raftershim::Refusal>(())
+    /// ```
+    pub fn show_transmit(&self) -> &[u8] {
+        let word = look!(self, raftershim_show_transmit);
+        part(self.transmit_store(), word)
     }
 }
 
@@ -499,7 +551,7 @@ impl<R, T> fmt::Debug for Bridge<R, T> {
     }
 }
 
-impl<R: AsRef<[u8]>, T: AsRef<[u8]>> fmt::Debug for Stores<R, T> {
+impl<R: AsRef<[u16]>, T: AsRef<[u8]>> fmt::Debug for Stores<R, T> {
     /// The lengths; the stores may be long.
     fn fmt(&self, f: &mut fmt::Formatter<'_>) -> fmt::Result {
         f.debug_struct("Stores")

@@ -2,8 +2,9 @@
 //! mailbox between an HP-IL loop and an HP-IB bus.
 //!
 //! A [`Bridge`] is one device on the loop. It has a receive store, which takes bytes from the line
-//! to the loop, and a transmit store, which takes bytes from the loop to the line. A [`Mailbox`] is
-//! one device on the loop and one on the bus, and has a store for each way between them. What every
+//! to the loop, and a transmit store, which takes bytes from the loop to the line. The receive store
+//! has a cell of 16 bits for each byte, with a mark where a break follows it. A [`Mailbox`] is one
+//! device on the loop and one on the bus, and has a store for each way between them. What every
 //! call answers is proved; the proved code comes as a static archive of C functions, and this crate
 //! calls them. No call is unsafe, and none panics. The C functions themselves are in [`raw`].
 //!
@@ -116,6 +117,7 @@ mod answer;
 mod bridge;
 mod frame;
 mod gaps;
+mod held;
 mod lend;
 mod line;
 mod mailbox;
@@ -133,6 +135,7 @@ mod status;
 pub use answer::{Answer, Answered, LineByte, WithRoom};
 pub use bridge::{Bridge, Stores};
 pub use frame::{Address, Frame};
+pub use held::HeldByte;
 pub use mailbox::{
     BusByte, BusCommand, BusLines, BusSide, LoopPoll, LoopSide, MailByte, Mailbox, MailboxState,
     Waiting, Way, Ways,

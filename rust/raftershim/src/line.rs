@@ -20,6 +20,8 @@ pub(crate) struct Line<X> {
     /// The first byte of the line after all these, and, if that has ended too, whether a byte is
     /// missing in it.
     next: Option<(u8, Option<bool>)>,
+    /// Whether a byte of the line under way was read.
+    begun: bool,
     /// Whether a byte of the line under way is missing.
     missing: bool,
 }
@@ -34,6 +36,7 @@ impl<X: AsRef<[u8]> + AsMut<[u8]>> Line<X> {
             told: false,
             without_text: 0,
             next: None,
+            begun: false,
             missing,
         }
     }
@@ -45,6 +48,7 @@ impl<X: AsRef<[u8]> + AsMut<[u8]>> Line<X> {
 
     /// The next byte of the line under way.
     pub(crate) fn put(&mut self, byte: u8) {
+        self.begun = true;
         if self.has_news() {
             self.next = Some((byte, None));
         } else {
@@ -62,6 +66,7 @@ impl<X: AsRef<[u8]> + AsMut<[u8]>> Line<X> {
 
     /// The line under way has ended with its end byte; `missing` is said of the next one.
     pub(crate) fn end(&mut self, missing: bool) {
+        self.begun = false;
         let ended = Some(core::mem::replace(&mut self.missing, missing));
         match &mut self.next {
             Some((_, next_ended)) => *next_ended = ended,
@@ -75,8 +80,20 @@ impl<X: AsRef<[u8]> + AsMut<[u8]>> Line<X> {
         if !self.has_news() && self.len > 0 {
             return self.end(missing);
         }
+        self.begun = false;
         self.without_text += usize::from(self.missing);
         self.missing = missing;
+    }
+
+    /// The line under way is cut off by a break, so its end is missing. It is told if a byte of it
+    /// was read; `missing` is said of the next one.
+    pub(crate) fn cut(&mut self, missing: bool) {
+        if self.begun {
+            self.missing = true;
+            self.end(missing);
+        } else {
+            self.drop(missing);
+        }
     }
 
     /// The line under way is not told; `missing` is said of the next one.
@@ -86,6 +103,7 @@ impl<X: AsRef<[u8]> + AsMut<[u8]>> Line<X> {
             (None, None) => self.len = 0,
             _ => {}
         }
+        self.begun = false;
         self.missing = missing;
     }
 

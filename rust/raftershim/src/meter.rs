@@ -4,14 +4,14 @@ use core::fmt;
 
 use crate::gaps::{place, Gaps};
 use crate::line::Line;
-use crate::{Address, BadSize, Bridge, Frame, LineByte, Reading, Refusal, Register, Side, State};
-use crate::{Stores, WithRoom};
+use crate::{Address, BadSize, Bridge, Frame, HeldByte, LineByte, Reading, Refusal, Register};
+use crate::{Side, State, Stores, WithRoom};
 
 /// The two buffers in which a [`Meter`] notes what it needs. What they hold at first does not
 /// matter.
 #[derive(Clone, Copy, Default, PartialEq, Eq, Hash)]
 pub struct Notes<G, X> {
-    /// Where bytes are missing: at least a bit for each byte of the receive store, so 8 bytes for a
+    /// Where bytes are missing: at least a bit for each cell of the receive store, so 8 bytes for a
     /// store of 64.
     pub gaps: G,
     /// The text of the reading under way. A reading that is longer is told as
@@ -31,10 +31,14 @@ pub struct Notes<G, X> {
 /// # Which reading has a gap
 ///
 /// The line is cut after each end of line, which is C00 followed by C01, that came through to the
-/// bridge. A reading is what came on the line between two cuts. It is [`Reading::Whole`] exactly if
-/// every byte of it is in its text or in its end of line, and otherwise [`Reading::Gap`]. Go and
-/// stop are no bytes of a reading. This comes to the following.
+/// bridge, and at each break. A reading is what came on the line between two cuts. It is
+/// [`Reading::Whole`] exactly if it has its end of line and every other byte of it is in its text,
+/// and otherwise [`Reading::Gap`]. Go and stop are no bytes of a reading. This comes to the
+/// following.
 ///
+/// - A break cuts off the reading that it falls into, as when the meter is restarted. That is told as
+///   a gap with the text that came, and what comes after the break is a reading of its own. If none of
+///   its text came, it is not given. A break between two readings changes neither.
 /// - A byte lost within a reading is missing in that reading and in no other.
 /// - A byte lost right after an end of line is missing in the reading that follows.
 /// - If a byte of the end of line is lost, two readings run into one, which has a gap.
@@ -43,13 +47,14 @@ pub struct Notes<G, X> {
 /// - A reset or a device clear throws away what the bridge holds. Readings that ended in it are
 ///   gone. The one that it cuts in two has a gap; the one after that has none.
 /// - Data frames that the app takes by [`loop_frame`](Meter::loop_frame) are missing in the reading
-///   that they belong to. A reading whose end the app has so taken is not given.
+///   that they belong to. A reading whose end, or whose last byte before a break, the app has so taken
+///   is not given.
 /// - A reading that is longer than the text has a gap.
 /// - A byte that the serial port lost was never seen here, so the app says where it is missing, by
 ///   [`line_gap`](Meter::line_gap).
 ///
-/// Neither status polls nor breaks nor keys change any of this. R10, C00 and C01 count as they are
-/// when a byte is read. Write them only when all is read.
+/// Neither status polls nor keys change any of this. R10, C00 and C01 count as they are when a byte is
+/// read. Write them only when all is read.
 ///
 /// ```
 /// use raftershim::{Meter, Notes, Reading, Stores};
@@ -73,7 +78,7 @@ pub struct Meter<R, T, G, X> {
 
 impl<R, T, G, X> Meter<R, T, G, X>
 where
-    R: AsRef<[u8]> + AsMut<[u8]>,
+    R: AsRef<[u16]> + AsMut<[u16]>,
     T: AsRef<[u8]> + AsMut<[u8]>,
     G: AsRef<[u8]> + AsMut<[u8]>,
     X: AsRef<[u8]> + AsMut<[u8]>,
@@ -360,14 +365,39 @@ where
         Ok(())
     }
 
-    /// Takes a break on the line, as [`Bridge::line_break`] does.
+    /// Takes a break on the line, as [`Bridge::line_break`] does. It cuts off the reading that it falls
+    /// into, which is told as a gap and not joined with the next one.
     ///
     /// # Errors
     ///
     /// Refusal 2.
+    ///
+    /// ```
+    /// use raftershim::{Meter, Notes, Reading, Stores};
+    ///
+    /// let stores = Stores { receive: [0; 64], transmit: [0; 64] };
+    /// let mut meter = Meter::create(stores, Notes { gaps: [0; 8], text: [0; 32] }, 8)?;
+    /// // The meter is restarted between the two characters of an end of line.
+    /// meter.line_bytes(b"12\r")?;
+    /// meter.line_break()?;
+    /// meter.line_bytes(b"3.5\r\n")?;
+    /// assert!(matches!(meter.reading()?, Reading::Gap(text) if text.as_bytes() == b"12\r"));
+    /// assert!(matches!(meter.reading()?, Reading::Whole(text) if text.as_bytes() == b"3.5"));
+    /// # Ok::<(), raftershim::Refusal>(())
+    /// ```
     #[must_use = "a refused break is not noted"]
     pub fn line_break(&mut self) -> Result<(), Refusal> {
-        self.bridge.line_break()
+        let before = self.bridge.state()?;
+        self.bridge.line_break()?;
+        match before.receive.held {
+            0 => self.line.cut(false),
+            // A byte lost before the break is missing in what the break cuts off, which is no reading
+            // in any case. So the bit of a marked cell is about what is lost after the break.
+            _ => {
+                self.gaps.take(newest(&before));
+            }
+        }
+        Ok(())
     }
 
     /// Takes a press of the MSRQ key, as [`Bridge::key`] does.
@@ -531,7 +561,8 @@ where
     }
 
     /// A send has taken bytes off: first the ends of lines that came by themselves, then what
-    /// became the frame that was sent. That is a byte, and for an end byte its end of line too.
+    /// became the frame that was sent. That is a byte, and for an end byte its end of line too. A
+    /// break after the last byte of an end of line has nothing to cut off.
     fn read_off(&mut self, before: &State, gone: usize, sent: Option<Frame>, reader: Reader) {
         let alone = match sent {
             None => gone,
@@ -540,6 +571,7 @@ where
         };
         for index in 0..gone {
             let missing = self.gaps.take(place(before, index));
+            let cut = self.held(before, index).then_break;
             let ends = match sent {
                 Some(frame) if index >= alone => frame.is_end() && index + 1 == gone,
                 _ => index % 2 == 1,
@@ -550,12 +582,19 @@ where
                 (Some(_), Reader::App) => self.line.lacks(true),
             }
             match (ends, reader) {
-                (false, _) => self.line.lacks(missing),
+                (false, _) if !cut => self.line.lacks(missing),
+                (_, Reader::App) => self.line.drop(missing),
+                (false, Reader::Meter) => self.line.cut(missing),
                 (true, Reader::Meter) if index < alone => self.line.end_alone(missing),
                 (true, Reader::Meter) => self.line.end(missing),
-                (true, Reader::App) => self.line.drop(missing),
             }
         }
+    }
+
+    /// What was held at this index, 0 being the oldest: a byte that is gone is still in the store.
+    fn held(&self, before: &State, index: usize) -> HeldByte {
+        let cell = self.bridge.receive_store().get(place(before, index));
+        HeldByte::from(cell.copied().unwrap_or_default())
     }
 
     /// A byte is missing after the newest one that came: after the newest held, or if none is held,
@@ -577,25 +616,24 @@ where
         (0..held).for_each(|index| {
             self.gaps.take(place(before, index));
         });
-        match self.after_last_end(before) {
+        match self.after_last_cut(before) {
             None => self.line.lacks(true),
             Some(bytes) => self.line.drop(bytes > 0 || after_last),
         }
     }
 
-    /// How many of the bytes held stand after the last end of line among them, if there is one.
-    fn after_last_end(&self, state: &State) -> Option<usize> {
-        if state.registers.r10 & Register::R10_FIND_LINE_END == 0 {
-            return None;
-        }
+    /// How many of the bytes held stand after the last end of line or break among them, if there is
+    /// one.
+    fn after_last_cut(&self, state: &State) -> Option<usize> {
+        let finds = state.registers.r10 & Register::R10_FIND_LINE_END != 0;
         let (c00, c01) = (state.registers.c00, state.registers.c01);
         let (mut after, mut first_seen) = (None, false);
         for index in 0..usize::from(state.receive.held) {
-            let byte = self.bridge.receive_store().get(place(state, index));
-            if first_seen && byte == Some(&c01) {
+            let HeldByte { byte, then_break } = self.held(state, index);
+            if then_break || first_seen && byte == c01 {
                 (after, first_seen) = (Some(0), false);
             } else {
-                (after, first_seen) = (after.map(|bytes| bytes + 1), byte == Some(&c00));
+                (after, first_seen) = (after.map(|bytes| bytes + 1), finds && byte == c00);
             }
         }
         after

@@ -12,14 +12,17 @@
 //! # Safety
 //!
 //! A function that takes buffers takes three, each as a pointer and a length: the block and two
-//! stores. Those of the bridge are the receive store `rx` and the transmit store `tx`, of bytes;
-//! those of the mailbox are `to_bus` and `to_loop`, of cells of 16 bits. A length has 64 bits on
-//! every target and counts bytes of a block or a bridge's store, and cells of a mailbox's store. A
-//! pointer is not null, is aligned, and is good for reading its length, and for writing it where it
-//! is a `*mut`. The three do not overlap, and nobody else uses them during the call. Nothing is
-//! asked of what the buffers hold: a block that is not a state, or does not fit the stores, is
-//! refused. A bridge or a mailbox goes on from call to call only if the three are the same at every
-//! call and untouched in between.
+//! stores. Those of the bridge are the receive store `rx`, of cells of 16 bits, and the transmit
+//! store `tx`, of bytes; those of the mailbox are `to_bus` and `to_loop`, of cells of 16 bits. A
+//! length has 64 bits on every target and counts bytes, or cells where a store has cells. A pointer
+//! is not null, is aligned, and is good for reading its length, and for writing it where it is a
+//! `*mut`. The three do not overlap, and nobody else uses them during the call. Nothing is asked of
+//! what the buffers hold: a block that is not a state, or does not fit the stores, is refused. A
+//! bridge or a mailbox goes on from call to call only if the three are the same at every call and
+//! untouched in between.
+//!
+//! A cell of the receive store is a [`HeldByte`](crate::HeldByte) as a number, one of the mailbox's
+//! stores a [`MailByte`](crate::MailByte).
 //!
 //! ```
 //! use raftershim::{raw, Answer, BLOCK_LEN};
@@ -74,7 +77,7 @@ extern "C" {
     pub fn raftershim_create(
         block: *mut u8,
         block_len: u64,
-        rx: *const u8,
+        rx: *const u16,
         rx_len: u64,
         tx: *const u8,
         tx_len: u64,
@@ -103,7 +106,7 @@ extern "C" {
     pub fn raftershim_reset(
         block: *mut u8,
         block_len: u64,
-        rx: *const u8,
+        rx: *const u16,
         rx_len: u64,
         tx: *const u8,
         tx_len: u64,
@@ -130,7 +133,7 @@ extern "C" {
     pub fn raftershim_write_register(
         block: *mut u8,
         block_len: u64,
-        rx: *const u8,
+        rx: *const u16,
         rx_len: u64,
         tx: *const u8,
         tx_len: u64,
@@ -159,14 +162,15 @@ extern "C" {
     pub fn raftershim_line_byte(
         block: *mut u8,
         block_len: u64,
-        rx: *mut u8,
+        rx: *mut u16,
         rx_len: u64,
         tx: *const u8,
         tx_len: u64,
         byte: u8,
     ) -> u64;
 
-    /// Takes a break on the line. Answers done, or refusal 2.
+    /// Takes a break on the line. If the receive store holds anything, its newest cell becomes its
+    /// byte and 256, the mark. Answers done, or refusal 2.
     ///
     /// # Safety
     ///
@@ -180,14 +184,15 @@ extern "C" {
     /// // SAFETY: the three are separate arrays of these lengths.
     /// let word = unsafe {
     ///     raftershim_create(b, 56, r, 4, t, 3, 1);
+    ///     raftershim_line_byte(b, 56, r, 4, t, 3, 50);
     ///     raftershim_break(b, 56, r, 4, t, 3)
     /// };
-    /// assert_eq!((word, block[47]), (0, 1));
+    /// assert_eq!((word, block[47], rx[0]), (0, 1, 256 + 50));
     /// ```
     pub fn raftershim_break(
         block: *mut u8,
         block_len: u64,
-        rx: *mut u8,
+        rx: *mut u16,
         rx_len: u64,
         tx: *const u8,
         tx_len: u64,
@@ -214,7 +219,7 @@ extern "C" {
     pub fn raftershim_key(
         block: *mut u8,
         block_len: u64,
-        rx: *const u8,
+        rx: *const u16,
         rx_len: u64,
         tx: *const u8,
         tx_len: u64,
@@ -241,7 +246,7 @@ extern "C" {
     pub fn raftershim_next_line_byte(
         block: *mut u8,
         block_len: u64,
-        rx: *const u8,
+        rx: *const u16,
         rx_len: u64,
         tx: *const u8,
         tx_len: u64,
@@ -269,17 +274,17 @@ extern "C" {
     pub fn raftershim_loop_frame(
         block: *mut u8,
         block_len: u64,
-        rx: *const u8,
+        rx: *const u16,
         rx_len: u64,
         tx: *mut u8,
         tx_len: u64,
         frame: u32,
     ) -> u64;
 
-    /// Shows a store: side 0 is the receive store, side 1 the transmit store. Answers where the
-    /// longest unbroken run of bytes from the oldest one is: in bits 32 to 63 the place where it
-    /// starts, in bits 0 to 31 its length. The answer is 0 if nothing is held, the block is not a
-    /// state that fits the stores, or the side is neither. It writes nothing and is never refused.
+    /// Shows the receive store. Answers where the longest unbroken run of cells from the oldest one
+    /// is: in bits 32 to 63 the place where it starts, in bits 0 to 31 its length, both in cells. The
+    /// answer is 0 if nothing is held, or the block is not a state that fits the stores. It writes
+    /// nothing and is never refused.
     ///
     /// # Safety
     ///
@@ -294,17 +299,43 @@ extern "C" {
     /// let word = unsafe {
     ///     raftershim_create(b, 56, r, 4, t, 3, 1);
     ///     raftershim_line_byte(b, 56, r, 4, t, 3, 50);
-    ///     raftershim_show(b, 56, r, 4, t, 3, 0)
+    ///     raftershim_show_receive(b, 56, r, 4, t, 3)
     /// };
     /// assert_eq!(word, 1);
     /// ```
-    pub fn raftershim_show(
+    pub fn raftershim_show_receive(
         block: *const u8,
         block_len: u64,
-        rx: *const u8,
+        rx: *const u16,
         rx_len: u64,
         tx: *const u8,
         tx_len: u64,
-        side: u32,
+    ) -> u64;
+
+    /// Shows the transmit store in the same way, in bytes.
+    ///
+    /// # Safety
+    ///
+    /// The three buffers are as the page of the module says.
+    ///
+    /// ```
+    /// use raftershim::raw::*;
+    ///
+    /// let (mut block, rx, tx) = ([0; 56], [0; 4], [0; 3]);
+    /// let (b, r, t) = (block.as_mut_ptr(), rx.as_ptr(), tx.as_ptr());
+    /// // SAFETY: the three are separate arrays of these lengths.
+    /// let word = unsafe {
+    ///     raftershim_create(b, 56, r, 4, t, 3, 1);
+    ///     raftershim_show_transmit(b, 56, r, 4, t, 3)
+    /// };
+    /// assert_eq!(word, 0);
+    /// ```
+    pub fn raftershim_show_transmit(
+        block: *const u8,
+        block_len: u64,
+        rx: *const u16,
+        rx_len: u64,
+        tx: *const u8,
+        tx_len: u64,
     ) -> u64;
 }

@@ -23,7 +23,8 @@ use core::fmt;
 pub enum Reading<'a> {
     /// The reading has ended, and every byte that came on the line for it is in its text.
     Whole(Text<'a>),
-    /// The reading has ended, and a byte is missing in its text. Never speak it as a number.
+    /// The reading has ended, and a byte is missing in its text, or a break has cut it off. Never
+    /// speak it as a number.
     Gap(Text<'a>),
     /// The reading has not ended: this is its text so far. The next call goes on with it.
     NotEnded(Text<'a>),

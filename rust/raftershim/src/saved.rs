@@ -7,20 +7,23 @@ use crate::{Refusal, BLOCK_LEN, MAILBOX_BLOCK_LEN};
 /// The saved state of a bridge: its block, whose first byte is the version of the layout.
 ///
 /// Save it together with both stores. [`Bridge::restore`](crate::Bridge::restore) puts the three
-/// together again.
+/// together again. What was saved with version 2 is not taken: its receive store had bytes, and has
+/// cells since.
 ///
 /// ```
 /// use raftershim::{Bridge, Refusal, Saved, Stores};
 ///
 /// let bridge = Bridge::create(Stores { receive: [0; 64], transmit: [0; 64] }, 8)?;
 /// let saved = bridge.saved();
-/// let file: Vec<u8> = saved.as_bytes().to_vec();
+/// let mut file: Vec<u8> = saved.as_bytes().to_vec();
 /// assert_eq!(saved.version(), Saved::VERSION);
 /// assert_eq!(Saved::try_from(file.as_slice()), Ok(saved));
 /// assert_eq!(Saved::try_from(&file[1..]), Err(Refusal::MISFIT));
+/// file[0] = 2;
+/// assert_eq!(Saved::try_from(file.as_slice()), Err(Refusal::MISFIT));
 /// # Ok::<(), Refusal>(())
 /// ```
-pub type Saved = SavedBlock<BLOCK_LEN, 2>;
+pub type Saved = SavedBlock<BLOCK_LEN, 3>;
 
 /// The saved state of a mailbox: its block, whose first byte is the version of the layout.
 ///

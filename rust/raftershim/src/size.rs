@@ -34,9 +34,9 @@ pub enum Size {
 
 /// Refusal 1: the first size that is broken, what was given, and its limits.
 ///
-/// The margin is 1 to 1024. The receive store has twice the margin plus 2 to 32768 bytes, the
-/// transmit store 3 to 32768. Gap marks have at least a bit for each byte of the receive store. A
-/// store of a mailbox has 1 to 32768 cells, and its address on the bus is 0 to 30. It becomes a
+/// The margin is 1 to 1024. The receive store has twice the margin plus 2 to 32768 cells, the
+/// transmit store 3 to 32768 bytes. Gap marks have at least a bit for each cell of the receive store.
+/// A store of a mailbox has 1 to 32768 cells, and its address on the bus is 0 to 30. It becomes a
 /// [`Refusal`] where one is asked for.
 ///
 /// ```

@@ -126,8 +126,8 @@ pub struct Registers {
     pub c05: u8,
 }
 
-/// Which places of a store hold bytes, or cells of a mailbox. Places run from 0 and come round
-/// after the last.
+/// Which places of a store hold bytes, or cells with bytes. Places run from 0 and come round after
+/// the last.
 ///
 /// ```
 /// use raftershim::{Bridge, LineByte, Stores};

@@ -5,9 +5,9 @@ use raftershim::{
     Talker,
 };
 
-type Small = Meter<[u8; 8], [u8; 3], [u8; 1], [u8; 16]>;
+type Small = Meter<[u16; 8], [u8; 3], [u8; 1], [u8; 16]>;
 
-const STORES: Stores<[u8; 8], [u8; 3]> = Stores {
+const STORES: Stores<[u16; 8], [u8; 3]> = Stores {
     receive: [0; 8],
     transmit: [0; 3],
 };
@@ -121,6 +121,91 @@ fn a_byte_that_the_port_lost_when_all_is_read_is_missing_in_what_is_under_way() 
     assert_eq!(meter.line_gap(), Ok(()));
     assert_eq!(meter.line_bytes(b"3\r\n4\r\n"), Ok(0));
     assert_eq!([read(&mut meter), read(&mut meter)], ["gap 3", "whole 4"]);
+}
+
+#[test]
+fn a_reading_that_a_break_cuts_off_is_not_joined_with_the_next() {
+    let mut meter = meter();
+    // Within the text, between the two characters of the end of line, and before them.
+    for (before, cut) in [("12", "gap 12"), ("12\r", "gap 12\r"), ("1", "gap 1")] {
+        assert_eq!(meter.line_bytes(before.as_bytes()), Ok(0));
+        assert_eq!(meter.line_break(), Ok(()));
+        assert_eq!(meter.line_bytes(b"3.5\r\n"), Ok(0));
+        assert_eq!([read(&mut meter), read(&mut meter)], [cut, "whole 3.5"]);
+    }
+    // The late line feed is a byte of the reading that it comes in.
+    assert_eq!(meter.line_bytes(b"2\r"), Ok(0));
+    assert_eq!(meter.line_break(), Ok(()));
+    assert_eq!(meter.line_bytes(b"\n3\r\n"), Ok(0));
+    assert_eq!(
+        [read(&mut meter), read(&mut meter)],
+        ["gap 2\r", "whole \n3"]
+    );
+}
+
+#[test]
+fn a_break_when_all_is_read_cuts_off_what_is_under_way() {
+    let mut meter = meter();
+    // A byte that may be an end byte is kept back while ends of lines are found.
+    meter.write_register(Register::R10, 0).unwrap();
+    assert_eq!(meter.line_bytes(b"2"), Ok(0));
+    assert_eq!(read(&mut meter), "not ended 2");
+    let finding = Register::R10_FIND_LINE_END;
+    meter.write_register(Register::R10, finding).unwrap();
+    assert_eq!(meter.line_break(), Ok(()));
+    assert_eq!(meter.line_bytes(b"5\r\n"), Ok(0));
+    assert_eq!([read(&mut meter), read(&mut meter)], ["gap 2", "whole 5"]);
+}
+
+#[test]
+fn a_break_between_two_readings_changes_neither() {
+    let mut meter = meter();
+    assert_eq!(meter.line_break(), Ok(()));
+    assert_eq!(meter.line_bytes(b"1\r\n"), Ok(0));
+    assert_eq!(meter.line_break(), Ok(()));
+    assert_eq!(meter.line_break(), Ok(()));
+    assert_eq!(meter.line_bytes(b"2\r\n"), Ok(0));
+    assert_eq!([read(&mut meter), read(&mut meter)], ["whole 1", "whole 2"]);
+    assert_eq!(meter.line_break(), Ok(()));
+    assert_eq!(meter.line_bytes(b"3\r\n"), Ok(0));
+    assert_eq!(read(&mut meter), "whole 3");
+}
+
+#[test]
+fn a_byte_lost_before_a_break_is_of_what_is_cut_off_and_one_lost_after_it_of_the_next() {
+    let mut meter = meter();
+    assert_eq!(meter.line_bytes(b"1"), Ok(0));
+    assert_eq!(meter.line_gap(), Ok(()));
+    assert_eq!(meter.line_break(), Ok(()));
+    assert_eq!(meter.line_bytes(b"2\r\n"), Ok(0));
+    assert_eq!([read(&mut meter), read(&mut meter)], ["gap 1", "whole 2"]);
+    // Nothing came of what is cut off here, so it is not told.
+    assert_eq!(meter.line_bytes(b"3\r\n"), Ok(0));
+    assert_eq!(meter.line_gap(), Ok(()));
+    assert_eq!(meter.line_break(), Ok(()));
+    assert_eq!(meter.line_bytes(b"4\r\n"), Ok(0));
+    assert_eq!([read(&mut meter), read(&mut meter)], ["whole 3", "whole 4"]);
+    assert_eq!(meter.line_bytes(b"5\r\n"), Ok(0));
+    assert_eq!(meter.line_break(), Ok(()));
+    assert_eq!(meter.line_gap(), Ok(()));
+    assert_eq!(meter.line_bytes(b"6\r\n"), Ok(0));
+    assert_eq!([read(&mut meter), read(&mut meter)], ["whole 5", "gap 6"]);
+}
+
+#[test]
+fn a_reset_throws_away_what_a_break_cut_off() {
+    let mut meter = meter();
+    assert_eq!(meter.line_bytes(b"12"), Ok(0));
+    assert_eq!(meter.line_break(), Ok(()));
+    meter.reset().unwrap();
+    assert_eq!(meter.line_bytes(b"3\r\n"), Ok(0));
+    assert_eq!(read(&mut meter), "whole 3");
+    assert_eq!(meter.line_bytes(b"4"), Ok(0));
+    assert_eq!(meter.line_break(), Ok(()));
+    assert_eq!(meter.line_bytes(b"5"), Ok(0));
+    meter.reset().unwrap();
+    assert_eq!(meter.line_bytes(b"6\r\n"), Ok(0));
+    assert_eq!(read(&mut meter), "gap 6");
 }
 
 #[test]

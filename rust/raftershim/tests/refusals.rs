@@ -1,20 +1,20 @@
 //! Each refusal comes from the call and for the cause that the rules name, and changes nothing.
 
 use raftershim::{
-    raw, Address, Answer, Answered, BadSize, Bridge, Frame, LineByte, Refusal, Register, Saved,
-    Side, Size, Stores, BLOCK_LEN,
+    raw, Address, Answer, Answered, BadSize, Bridge, Frame, HeldByte, LineByte, Refusal, Register,
+    Saved, Side, Size, Stores, BLOCK_LEN,
 };
 use std::cell::Cell;
 use std::rc::Rc;
 
-type Small = Bridge<[u8; 8], [u8; 3]>;
+type Small = Bridge<[u16; 8], [u8; 3]>;
 type Call<R, T> = fn(&mut Bridge<R, T>) -> Answered;
 
 fn small() -> Small {
     Bridge::create(small_stores(), 3).unwrap()
 }
 
-fn small_stores() -> Stores<[u8; 8], [u8; 3]> {
+fn small_stores() -> Stores<[u16; 8], [u8; 3]> {
     Stores {
         receive: [0; 8],
         transmit: [0; 3],
@@ -35,7 +35,7 @@ fn refused<A>(
 /// Every call that may be refused, with arguments that a fitting state takes.
 fn calls<R, T>() -> [(&'static str, Call<R, T>); 7]
 where
-    R: AsRef<[u8]> + AsMut<[u8]>,
+    R: AsRef<[u16]> + AsMut<[u16]>,
     T: AsRef<[u8]> + AsMut<[u8]>,
 {
     [
@@ -123,7 +123,7 @@ fn damage_is_refused_when_the_bridge_is_put_together() {
         assert_eq!(refused, Refusal::MISFIT, "byte {place}");
     }
     let whole = Bridge::restore(saved, stores).unwrap();
-    assert_eq!(whole.show(Side::Receive), [50]);
+    assert!(whole.show_receive().eq([50].map(HeldByte::from)));
 }
 
 #[test]
@@ -181,17 +181,17 @@ fn putting_together_judges_as_every_call_does() {
     assert!(misfits > 0 && misfits < BLOCK_LEN * 256);
 }
 
-/// A store that lends as many of its bytes as its owner says at the moment.
-struct Shrinking(Vec<u8>, Rc<Cell<usize>>);
+/// A store that lends as many of its cells as its owner says at the moment.
+struct Shrinking(Vec<u16>, Rc<Cell<usize>>);
 
-impl AsRef<[u8]> for Shrinking {
-    fn as_ref(&self) -> &[u8] {
+impl AsRef<[u16]> for Shrinking {
+    fn as_ref(&self) -> &[u16] {
         &self.0[..self.1.get()]
     }
 }
 
-impl AsMut<[u8]> for Shrinking {
-    fn as_mut(&mut self) -> &mut [u8] {
+impl AsMut<[u16]> for Shrinking {
+    fn as_mut(&mut self) -> &mut [u16] {
         &mut self.0[..self.1.get()]
     }
 }
@@ -210,10 +210,11 @@ fn a_store_that_lends_another_length_is_refused_everywhere() {
         }
         assert_eq!(bridge.state(), Err(Refusal::MISFIT));
         assert_eq!(bridge.room(Side::Transmit), Err(Refusal::MISFIT));
-        assert!(bridge.show(Side::Receive).is_empty());
+        assert_eq!(bridge.show_receive().len(), 0);
+        assert!(bridge.show_transmit().is_empty());
     }
     length.set(8);
-    assert_eq!(bridge.show(Side::Receive), [50]);
+    assert!(bridge.show_receive().eq([50].map(HeldByte::from)));
     assert_eq!(bridge.state().map(|state| state.stored), Ok(1));
 }
 

@@ -5,7 +5,7 @@ use raftershim::{
     WithRoom, BLOCK_LEN,
 };
 
-type Small = Bridge<[u8; 6], [u8; 7]>;
+type Small = Bridge<[u16; 6], [u8; 7]>;
 
 fn small() -> Small {
     let stores = Stores {

@@ -15,7 +15,7 @@ mailbox 64 64 7: make a mailbox with these lengths of the stores to the bus and 
 
 These are calls of both.
 reset: give it the state that it was made with.
-restore 2 8 0 and so on: put it together again from the bytes of a saved block, on its stores as they are. A bridge has 56, a mailbox 41.
+restore 3 8 0 and so on: put it together again from the bytes of a saved block, on its stores as they are. A bridge has 56, a mailbox 41.
 frame 5,96: take a loop frame, control and data. One number, as in frame 1376, is a frame too.
 state: say the state, a fact a line.
 
@@ -30,6 +30,7 @@ break: take a break on the line.
 key: take a press of the MSRQ key.
 next: give the next line byte.
 show receive, or show transmit: say the longest unbroken run of bytes held there, from the oldest one.
+A byte of the receive store that a break follows is as in 53 break.
 
 These are calls of the mailbox.
 command UNL: take a command of the bus. It is UNL, UNT, SPE, SPD, DCL, SDC, PPC, PPD, PPU, or a number.

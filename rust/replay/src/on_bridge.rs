@@ -2,10 +2,10 @@
 
 use crate::facts::facts;
 use crate::say::Said;
-use raftershim::{BadSize, Frame, MailByte, Refusal, Register, Saved, Side, Stores};
+use raftershim::{BadSize, Frame, Refusal, Register, Saved, Stores};
 
 /// A bridge with its stores.
-pub type Bridge = raftershim::Bridge<Vec<u8>, Vec<u8>>;
+pub type Bridge = raftershim::Bridge<Vec<u16>, Vec<u8>>;
 
 /// Creates a bridge on stores of these lengths, with this margin.
 pub fn create(receive: u32, transmit: u32, margin: u32) -> Result<Bridge, BadSize> {
@@ -61,12 +61,10 @@ pub fn pass_and_room(bridge: &mut Bridge, frame: u32) -> Said {
 
 /// Shows a store.
 pub fn show(bridge: &Bridge, side: script::Side) -> Said {
-    let side = match side {
-        script::Side::Receive => Side::Receive,
-        script::Side::Transmit => Side::Transmit,
-    };
-    let shown = bridge.show(side).iter();
-    Said::Shown(shown.map(|&byte| MailByte::from(u16::from(byte))).collect())
+    match side {
+        script::Side::Receive => Said::shown(bridge.show_receive()),
+        script::Side::Transmit => Said::shown(bridge.show_transmit().iter()),
+    }
 }
 
 /// Says the state.

@@ -52,7 +52,7 @@ pub fn show(mailbox: &Mailbox, way: script::Way) -> Said {
         script::Way::Bus => Way::ToBus,
         script::Way::Loop => Way::ToLoop,
     };
-    Said::Shown(mailbox.show(way).collect())
+    Said::shown(mailbox.show(way))
 }
 
 /// Says the state.

@@ -1,7 +1,7 @@
 //! The sentences of the answers, in words that a screen reader reads well.
 
 use crate::counts::number_of;
-use raftershim::{Answer, MailByte, Refusal};
+use raftershim::{Answer, Refusal};
 use script::Expected;
 use std::fmt;
 
@@ -19,8 +19,8 @@ pub enum Said {
         /// How many bytes more the store can hold.
         room: u16,
     },
-    /// The bytes that a store showed.
-    Shown(Vec<MailByte>),
+    /// The bytes that a store showed, each in words: its number, and a mark behind it if it has one.
+    Shown(Vec<String>),
     /// The facts of the state.
     Facts(Vec<String>),
     /// The call was refused.
@@ -41,6 +41,11 @@ pub enum Said {
 }
 
 impl Said {
+    /// The bytes that a store showed.
+    pub fn shown<T: fmt::Display>(bytes: impl Iterator<Item = T>) -> Said {
+        Said::Shown(bytes.map(|byte| byte.to_string()).collect())
+    }
+
     /// A refusal, by its number and its sentence.
     pub fn refused(refusal: Refusal, sentence: &dyn fmt::Display) -> Said {
         Said::Refused {

@@ -80,16 +80,36 @@ fn a_refusal_has_no_room_in_words_either() {
 
 #[test]
 fn a_saved_block_is_put_on_the_stores() {
-    let fresh = "2 1 0 4 0 0 0 0 0 3 0 0 0 0 0 0 0 0 0 0 0 0 0 0 0 0 0 31 0 0 0 0 0 \
+    let fresh = "3 1 0 4 0 0 0 0 0 3 0 0 0 0 0 0 0 0 0 0 0 0 0 0 0 0 0 31 0 0 0 0 0 \
                  0 0 0 0 8 13 10 13 10 17 19 0 0 0 0 0 0 0 0 0 0 0 0";
     let two_held = fresh.replacen("4 0 0 0 0 0", "4 0 1 0 2 0", 1);
     let other_length = fresh.replacen("4 0", "5 0", 1);
     let script = format!(
         "create 4 3 1\nline \"1234\"\nrestore {two_held} => done\nshow receive => 2 bytes: 50 51\n\
-         restore {other_length} => refusal 2\nrestore 2 => refusal 2\nshow receive => 2 bytes 50 51\n\
+         restore {other_length} => refusal 2\nrestore 3 => refusal 2\nshow receive => 2 bytes 50 51\n\
          restore {fresh} => done\nshow receive => nothing\n"
     );
     assert_eq!(ends(&script), end(0, "7 lines as expected, 0 differ"));
+    // The version before had the same length.
+    let before = two_held.replacen('3', "2", 1);
+    let script = format!("create 4 3 1\nrestore {before} => refusal 2\n");
+    assert_eq!(ends(&script), end(0, "1 line as expected, 0 differ"));
+}
+
+#[test]
+fn a_break_is_said_behind_the_byte_that_it_follows() {
+    let script = "create 8 3 3\nbreak => done\nshow receive => nothing\nline \"2.\" => 2 stored\n\
+                  break => done\nbreak => done\nline 53 13 room => 2 stored, room 4\nbreak => done\n\
+                  show receive => 4 bytes: 50 46 break 53 13 break\n";
+    assert_eq!(ends(script), end(0, "8 lines as expected, 0 differ"));
+    // The word is heard, and where it stands.
+    for wrong in ["4 bytes: 50 46 53 13", "4 bytes: 50 break 46 53 13 break"] {
+        let script = script.replace("4 bytes: 50 46 break 53 13 break", wrong);
+        assert_eq!(ends(&script).0, 1, "{wrong}");
+    }
+    let script = "create 8 3 3\nline 50\nbreak\nshow receive\n";
+    let (_, said, _) = play(script);
+    assert!(said.contains("line 4: 1 byte: 50 break\n"), "{said}");
 }
 
 /// A bridge in use, all of whose facts are to be said.

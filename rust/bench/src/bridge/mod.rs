@@ -6,7 +6,7 @@ use crate::machine::{Lent, Machine, Sides};
 use works::Work;
 
 sides! {
-    u8,
+    [u16, u8],
     {
         Create create raftershim_create create mut const const (margin: u32);
         Reset reset raftershim_reset reset mut const const ();
@@ -17,7 +17,8 @@ sides! {
         Key key raftershim_key key mut const const ();
         NextLineByte next_line_byte raftershim_next_line_byte next_line_byte mut const const ();
         LoopFrame loop_frame raftershim_loop_frame loop_frame mut const mut (frame: u32);
-        Show show raftershim_show show const const const (side: u32);
+        ShowReceive show_receive raftershim_show_receive show_receive const const const ();
+        ShowTransmit show_transmit raftershim_show_transmit show_transmit const const const ();
     },
     model = ::model::boundary,
     peer = ::peer
@@ -34,7 +35,8 @@ static SIDES: [(&str, &Side); 4] = [
 pub struct Bridge;
 
 impl Machine for Bridge {
-    type Cell = u8;
+    type One = u16;
+    type Other = u8;
     type Call = Call;
     type Side = Side;
     type Work = Work;
@@ -49,8 +51,8 @@ impl Machine for Bridge {
         Call::WriteRegister(11, 8),
         Call::Break(),
         Call::LineByte(17),
-        Call::Show(0),
-        Call::Show(1),
+        Call::ShowReceive(),
+        Call::ShowTransmit(),
         Call::LoopFrame(4 << 8 | 20),
         Call::LoopFrame(6 << 8),
         Call::Reset(),
@@ -61,7 +63,7 @@ impl Machine for Bridge {
     }
 
     #[inline(always)]
-    unsafe fn call(side: &Side, lent: Lent<u8>, call: Call) -> u64 {
+    unsafe fn call(side: &Side, lent: Lent<u16, u8>, call: Call) -> u64 {
         side.call(lent, call)
     }
 

@@ -6,7 +6,7 @@ use crate::machine::{Lent, Machine, Sides};
 use works::Work;
 
 sides! {
-    u16,
+    [u16, u16],
     {
         Create create raftershim_mailbox_create create mut const const (address: u32);
         Reset reset raftershim_mailbox_reset reset mut const const ();
@@ -32,7 +32,8 @@ static SIDES: [(&str, &Side); 3] = [
 pub struct Mailbox;
 
 impl Machine for Mailbox {
-    type Cell = u16;
+    type One = u16;
+    type Other = u16;
     type Call = Call;
     type Side = Side;
     type Work = Work;
@@ -57,7 +58,7 @@ impl Machine for Mailbox {
     }
 
     #[inline(always)]
-    unsafe fn call(side: &Side, lent: Lent<u16>, call: Call) -> u64 {
+    unsafe fn call(side: &Side, lent: Lent<u16, u16>, call: Call) -> u64 {
         side.call(lent, call)
     }
 

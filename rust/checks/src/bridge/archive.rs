@@ -14,7 +14,8 @@ pub fn block_len() -> usize {
 pub fn create(lent: Lent, margin: u32) -> u64 {
     let Lent {
         block,
-        stores: [rx, tx],
+        one: rx,
+        other: tx,
     } = lent;
     let (b, bl) = (block.as_mut_ptr(), block.len() as u64);
     let (r, rl, t, tl) = (rx.as_ptr(), rx.len() as u64, tx.as_ptr(), tx.len() as u64);
@@ -26,7 +27,8 @@ pub fn create(lent: Lent, margin: u32) -> u64 {
 pub fn call(lent: Lent, call: Call) -> u64 {
     let Lent {
         block,
-        stores: [rx, tx],
+        one: rx,
+        other: tx,
     } = lent;
     let (b, bl) = (block.as_mut_ptr(), block.len() as u64);
     let (r, rl) = (rx.as_mut_ptr(), rx.len() as u64);
@@ -43,7 +45,8 @@ pub fn call(lent: Lent, call: Call) -> u64 {
                 raw::raftershim_write_register(b, bl, r, rl, t, tl, number, value)
             }
             Call::Reset => raw::raftershim_reset(b, bl, r, rl, t, tl),
-            Call::Show(side) => raw::raftershim_show(b, bl, r, rl, t, tl, side),
+            Call::ShowReceive => raw::raftershim_show_receive(b, bl, r, rl, t, tl),
+            Call::ShowTransmit => raw::raftershim_show_transmit(b, bl, r, rl, t, tl),
         }
     }
 }

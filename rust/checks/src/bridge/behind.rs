@@ -9,15 +9,15 @@ macro_rules! behind {
 
         /// Creates a state in the block.
         pub fn create(lent: Lent, margin: u32) -> u64 {
-            let [rx, tx] = lent.stores;
-            boundary::create(lent.block, rx, tx, margin)
+            boundary::create(lent.block, lent.one, lent.other, margin)
         }
 
         /// Makes a call.
         pub fn call(lent: Lent, call: Call) -> u64 {
             let Lent {
                 block,
-                stores: [rx, tx],
+                one: rx,
+                other: tx,
             } = lent;
             match call {
                 Call::Next => boundary::next_line_byte(block, rx, tx),
@@ -29,7 +29,8 @@ macro_rules! behind {
                     boundary::write_register(block, rx, tx, number, value)
                 }
                 Call::Reset => boundary::reset(block, rx, tx),
-                Call::Show(side) => boundary::show(block, rx, tx, side),
+                Call::ShowReceive => boundary::show_receive(block, rx, tx),
+                Call::ShowTransmit => boundary::show_transmit(block, rx, tx),
             }
         }
     };

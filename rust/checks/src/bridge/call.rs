@@ -13,8 +13,8 @@ pub enum Call {
     /// Number and value.
     Register(u32, u32),
     Reset,
-    /// Side 0 is the receive store, side 1 the transmit store.
-    Show(u32),
+    ShowReceive,
+    ShowTransmit,
 }
 
 /// The frame written "control,data".
@@ -23,9 +23,9 @@ pub const fn frame(control: u32, data: u32) -> Call {
 }
 
 impl Call {
-    /// The call of a script; a script has none for a side that is neither.
-    pub fn in_script(self) -> Option<script::Call> {
-        Some(match self {
+    /// The call of a script.
+    pub fn in_script(self) -> script::Call {
+        match self {
             Call::Next => script::Call::Next,
             Call::Line(byte) => script::Call::Line(vec![byte]),
             Call::Frame(frame) => script::Call::Frame(frame),
@@ -33,18 +33,14 @@ impl Call {
             Call::Key => script::Call::Key,
             Call::Register(number, value) => script::Call::Register { number, value },
             Call::Reset => script::Call::Reset,
-            Call::Show(0) => script::Call::Show(script::Side::Receive),
-            Call::Show(1) => script::Call::Show(script::Side::Transmit),
-            Call::Show(_) => return None,
-        })
+            Call::ShowReceive => script::Call::Show(script::Side::Receive),
+            Call::ShowTransmit => script::Call::Show(script::Side::Transmit),
+        }
     }
 }
 
 impl fmt::Display for Call {
     fn fmt(&self, f: &mut fmt::Formatter) -> fmt::Result {
-        match self.in_script() {
-            Some(call) => write!(f, "{call}"),
-            None => write!(f, "# no script has the call {self:?}"),
-        }
+        write!(f, "{}", self.in_script())
     }
 }

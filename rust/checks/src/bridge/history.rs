@@ -2,10 +2,11 @@
 //! rule over plain sequences, without the crate's counts and marks.
 
 use super::call::{frame, Call};
-use super::rule::Rule;
+use super::rule::{Rule, BREAK};
 use super::second;
 use super::seen::{seen, Seen};
 use super::told::{Act, Heard, Reader, Told, Worth};
+use super::TheBridge;
 use crate::lent::Buffers;
 use model::boundary::value;
 use model::{block, Bridge, UNASSIGNED};
@@ -17,9 +18,10 @@ const END: u16 = 2 << 8;
 /// R10 with bit 3 on, as a meter has it from the start.
 const FIND_LINE_ENDS: Call = Call::Register(10, 8);
 
-/// What became of a byte that came on the line.
+/// What became of a byte that came on the line, or that no byte came but a break.
 #[derive(Clone, Copy, Debug, PartialEq, Eq, Hash)]
 enum Fate {
+    Break,
     Held,
     /// Read for a reading.
     Read,
@@ -39,7 +41,7 @@ enum By {
 /// The model with all that came on its line since the last cut, go and stop aside.
 #[derive(Clone)]
 pub struct History {
-    buffers: Buffers<u8>,
+    buffers: Buffers<TheBridge>,
     line: Vec<(u8, Fate)>,
     /// Readings that have ended and are not told.
     ended: VecDeque<Told>,
@@ -51,7 +53,7 @@ impl History {
     /// A fresh bridge that finds the ends of lines.
     pub fn create(rx_len: usize, tx_len: usize, margin: u32, longest: usize) -> History {
         let (rx, tx) = (vec![0; rx_len], vec![0; tx_len]);
-        let mut buffers = Buffers::holding(&[0; block::LEN], [&rx, &tx]);
+        let mut buffers = Buffers::holding(&[0; block::LEN], (&rx, &tx));
         assert_eq!(
             second::create(buffers.lend(), margin),
             0,
@@ -80,6 +82,10 @@ impl History {
         match seen {
             Seen::Accepted(byte) => self.line.push((byte, Fate::Held)),
             Seen::Lost => self.line.push((0, Fate::Missing)),
+            Seen::Break => {
+                self.line.push((0, Fate::Break));
+                self.cut_at_breaks(By::Reading);
+            }
             Seen::Sent(frame) => self.sent(rule, Some(frame), by),
             Seen::SentNone => self.sent(rule, None, by),
             Seen::DeviceClear | Seen::Reset => self.thrown_away(rule),
@@ -88,9 +94,17 @@ impl History {
         (answer, seen)
     }
 
-    fn held(&self) -> Vec<u8> {
-        let held = self.line.iter().filter(|(_, fate)| *fate == Fate::Held);
-        held.map(|(byte, _)| *byte).collect()
+    /// The cells that are held: a break marks the byte that is held before it.
+    fn held(&self) -> Vec<u16> {
+        let mut held: Vec<u16> = Vec::new();
+        for &(byte, fate) in &self.line {
+            match fate {
+                Fate::Held => held.push(byte.into()),
+                Fate::Break => held.last_mut().into_iter().for_each(|cell| *cell |= BREAK),
+                _ => {}
+            }
+        }
+        held
     }
 
     /// The oldest bytes held become this.
@@ -106,6 +120,7 @@ impl History {
         for _ in 0..(gone - own(frame)) / 2 {
             self.become_of(2, Fate::Mark);
             self.cut(by);
+            self.cut_at_breaks(by);
         }
         if let Some(frame) = frame {
             let fate = [Fate::Missing, Fate::Read][usize::from(by == By::Reading)];
@@ -114,6 +129,7 @@ impl History {
                 self.become_of(2, Fate::Mark);
                 self.cut(by);
             }
+            self.cut_at_breaks(by);
         }
     }
 
@@ -129,6 +145,27 @@ impl History {
         }
     }
 
+    /// Cuts the line at each break before which nothing is held. What was read till there is told as a
+    /// gap, unless none of it was read or the app itself took its end.
+    fn cut_at_breaks(&mut self, by: By) {
+        while let Some(cut) = self.first_break() {
+            let (_, text) = self.worth(&self.line[..cut]);
+            let mut piece = self.line.drain(..=cut);
+            let read = piece.any(|(_, fate)| fate == Fate::Read);
+            drop(piece);
+            if by == By::Reading && read {
+                self.ended.push_back(Told::Reading(Worth::Gap, text));
+            }
+        }
+    }
+
+    /// The place of the first break, if nothing before it is held.
+    fn first_break(&self) -> Option<usize> {
+        let first = |of| self.line.iter().position(|(_, fate)| *fate == of);
+        let held = first(Fate::Held).unwrap_or(self.line.len());
+        first(Fate::Break).filter(|&cut| cut < held)
+    }
+
     /// A piece of the line is whole if all of it was read or is its end of line, and its text has
     /// room for it.
     fn worth(&self, piece: &[(u8, Fate)]) -> (Worth, Vec<u8>) {
@@ -140,7 +177,7 @@ impl History {
         (worth, text)
     }
 
-    /// All bytes held are missing; the line is cut after the last end of line among them.
+    /// All bytes held are missing; the line is cut after the last end of line or break among them.
     fn thrown_away(&mut self, rule: Rule) {
         let held = self.held();
         let (mut place, mut last) = (0, 0);
@@ -158,8 +195,9 @@ impl History {
             place = end;
         }
         self.become_of(last, Fate::Mark);
-        if let Some(mark) = self.line.iter().rposition(|(_, fate)| *fate == Fate::Mark) {
-            self.line.drain(..=mark);
+        let cuts = |(_, fate): &(u8, Fate)| matches!(fate, Fate::Mark | Fate::Break);
+        if let Some(cut) = self.line.iter().rposition(cuts) {
+            self.line.drain(..=cut);
         }
         self.become_of(held.len(), Fate::Missing);
     }

@@ -6,6 +6,7 @@ mod behind;
 pub mod archive;
 pub mod call;
 mod draws;
+pub mod garbled;
 pub mod history;
 pub mod planted;
 pub mod promises;
@@ -35,7 +36,7 @@ pub struct TheBridge;
 pub type Pair = crate::pair::Pair<TheBridge>;
 
 /// The three buffers of one call of the bridge.
-pub type Lent<'a> = crate::lent::Lent<'a, u8>;
+pub type Lent<'a> = crate::lent::Lent<'a, TheBridge>;
 
 /// The archive's C functions, which are proved.
 pub const ARCHIVE: Implementation<TheBridge> = Implementation {
@@ -59,7 +60,8 @@ pub const PEER: Implementation<TheBridge> = Implementation {
 };
 
 impl Machine for TheBridge {
-    type Cell = u8;
+    type One = u16;
+    type Other = u8;
     type Call = Call;
     type State = Bridge;
     type Watch = watch::Watch;
@@ -79,7 +81,7 @@ impl Machine for TheBridge {
     }
 
     fn shows(call: Call) -> bool {
-        matches!(call, Call::Show(_))
+        matches!(call, Call::ShowReceive | Call::ShowTransmit)
     }
 
     /// Where none is under way it is a frame of another talker.
@@ -93,7 +95,7 @@ impl Machine for TheBridge {
         block[15..27].fill(0);
     }
 
-    fn begins(beginning: &Beginning<u8>, f: &mut fmt::Formatter) -> fmt::Result {
+    fn begins(beginning: &Beginning<TheBridge>, f: &mut fmt::Formatter) -> fmt::Result {
         written::begins(beginning, f)
     }
 }

@@ -1,5 +1,7 @@
 //! Wrong bridges, each the model with one fault planted: the checks must find every one.
 
+pub mod breaks;
+
 use super::call::Call;
 use super::{Lent, TheBridge};
 use crate::implementation::Implementation as Any;
@@ -37,6 +39,9 @@ pub const LAST_PLACE_UNWRITTEN: Implementation = planted(last_place_unwritten::<
 
 /// Blocks of version 0 are taken as ours.
 pub const ANOTHER_VERSION_TAKEN: Implementation = planted(version_taken::<TheBridge, 0>);
+
+/// Blocks of version 2 are taken as ours, whose receive store had bytes.
+pub const VERSION_BEFORE_TAKEN: Implementation = planted(version_taken::<TheBridge, 2>);
 
 /// What is free in the receive and in the transmit store.
 fn free(state: &Bridge) -> [usize; 2] {

@@ -9,7 +9,7 @@ use model::boundary::{kind, REFUSED};
 /// store, and a refusal and every other call nothing. A part that is shown has no kind.
 pub fn told(call: Call, answer: u64, free: [usize; 2]) -> Result<(), String> {
     let due = match call {
-        Call::Show(_) => return Ok(()),
+        Call::ShowReceive | Call::ShowTransmit => return Ok(()),
         _ if kind(answer) == REFUSED => 0,
         Call::Line(_) => free[0],
         Call::Frame(_) => free[1],

@@ -2,17 +2,17 @@
 
 use super::promises::Promises;
 use super::room;
-use super::rule::Rule;
-use super::seen::{seen, Seen};
+use super::rule::{counting, Rule, BREAK};
+use super::seen::{seen, Seen, CHANGED_BY_A_BREAK};
 use super::watch::counted;
 use super::TheBridge;
-use crate::machine::{Made, Watcher};
+use crate::machine::{Made, Stores, Watcher};
 use model::{Bridge, Ring};
 
 /// What a run's watcher writes down.
 pub struct Run {
-    /// Bytes held for the loop at the start, then all accepted.
-    accepted: Vec<u8>,
+    /// Bytes and breaks held for the loop at the start, then all accepted, as cells.
+    accepted: Vec<u16>,
     /// How many of those the sends have read off, by the reading rule.
     read_off: usize,
     /// Data frames sent from the receive store, the service bit aside.
@@ -24,16 +24,21 @@ pub struct Run {
     promises: Promises,
 }
 
-/// The bytes that a ring holds, oldest first.
-fn held(ring: Ring, store: &[u8]) -> Vec<u8> {
+/// What a ring holds, oldest first.
+fn held<C: Copy>(ring: Ring, store: &[C]) -> Vec<C> {
     let place = |i| store[(ring.oldest + i) % store.len()];
     (0..ring.held).map(place).collect()
 }
 
+/// What counts of the cells held for the loop, oldest first.
+fn unread(state: &Bridge, rx: &[u16]) -> Vec<u16> {
+    held(state.receive, rx).into_iter().map(counting).collect()
+}
+
 impl Watcher<TheBridge> for Run {
-    fn starting(state: &Bridge, [rx, tx]: [&[u8]; 2]) -> Run {
+    fn starting(state: &Bridge, (rx, tx): Stores<TheBridge>) -> Run {
         Run {
-            accepted: held(state.receive, rx),
+            accepted: unread(state, rx),
             read_off: 0,
             sent: Vec::new(),
             added: held(state.transmit, tx),
@@ -44,12 +49,19 @@ impl Watcher<TheBridge> for Run {
 
     /// Writes down a call. A register write, a device clear and a reset end the run that demand 3
     /// speaks of: it is held to the demand as it was before them, and the next one starts with what
-    /// is left by history. None of the three writes a store.
+    /// is left by history. None of the three writes a store. A break follows the byte that was
+    /// accepted last, whether that is still held or not.
     fn note(&mut self, made: &Made<TheBridge>) -> Result<u32, String> {
         let (before, after) = (made.before, made.after);
         let event = seen(before, made.call, made.answer);
+        let changed = event.is_send() && self.heeds(before);
         match event {
-            Seen::Accepted(byte) => self.accepted.push(byte),
+            Seen::Accepted(byte) => self.accepted.push(byte.into()),
+            Seen::Break => self
+                .accepted
+                .last_mut()
+                .into_iter()
+                .for_each(|c| *c |= BREAK),
             Seen::Sent(frame) => {
                 self.sent.push(frame);
                 self.read(before);
@@ -66,16 +78,16 @@ impl Watcher<TheBridge> for Run {
         counted(event, before, after)?;
         self.promises.note(before, event, after)?;
         room::told(made.call, made.answer, self.free(made.stores))?;
-        Ok(event.rows())
+        Ok(event.rows() | if changed { CHANGED_BY_A_BREAK } else { 0 })
     }
 
     /// "The data frames sent from the receive store, followed by those the reading rule gives for
     /// the bytes still held, are those it gives for the bytes held at the start and then all
     /// accepted"; and what was handed out, then what is held for the line, are the bytes added.
-    fn check(&self, state: &Bridge, [rx, tx]: [&[u8]; 2]) -> Result<(), String> {
+    fn check(&self, state: &Bridge, (rx, tx): Stores<TheBridge>) -> Result<(), String> {
         let rule = Rule::of(&state.registers);
         let mut frames = self.sent.clone();
-        frames.extend(rule.frames(&held(state.receive, rx)));
+        frames.extend(rule.frames(&unread(state, rx)));
         if frames != rule.frames(&self.accepted) {
             return Err("frames sent and held are not those of the bytes accepted".into());
         }
@@ -89,6 +101,11 @@ impl Watcher<TheBridge> for Run {
 }
 
 impl Run {
+    /// Whether the next send is another one because of a break.
+    fn heeds(&self, before: &Bridge) -> bool {
+        Rule::of(&before.registers).heeds(&self.accepted[self.read_off..])
+    }
+
     /// A send reads off what the reading rule says of the bytes accepted.
     fn read(&mut self, before: &Bridge) {
         let unread = &self.accepted[self.read_off..];
@@ -111,7 +128,7 @@ impl Run {
 
     /// What is free in the receive and in the transmit store, by what came in and what went out and
     /// not by what the block has written down.
-    fn free(&self, [rx, tx]: [&[u8]; 2]) -> [usize; 2] {
+    fn free(&self, (rx, tx): Stores<TheBridge>) -> [usize; 2] {
         [
             (rx.len() + self.read_off).saturating_sub(self.accepted.len()),
             (tx.len() + self.handed_out.len()).saturating_sub(self.added.len()),

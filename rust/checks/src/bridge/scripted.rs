@@ -28,7 +28,8 @@ impl Scripted for TheBridge {
             script::Call::Key => Call::Key,
             script::Call::Register { number, value } => Call::Register(number, value),
             script::Call::Reset => Call::Reset,
-            script::Call::Show(side) => Call::Show(side as u32),
+            script::Call::Show(script::Side::Receive) => Call::ShowReceive,
+            script::Call::Show(script::Side::Transmit) => Call::ShowTransmit,
         };
         Line::Calls(vec![call])
     }

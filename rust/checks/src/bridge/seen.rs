@@ -42,9 +42,19 @@ pub const ROWS: &[&str] = &[
     "frames kept for the line",
     "status bytes back",
     "status bytes damaged or forgotten",
+    "breaks",
+    "sends that a break changed",
 ];
 
+/// The bit for the last row.
+pub const CHANGED_BY_A_BREAK: u32 = 1 << 8;
+
 impl Seen {
+    /// Whether it was a send, with a frame or without.
+    pub fn is_send(self) -> bool {
+        matches!(self, Seen::Sent(_) | Seen::SentNone)
+    }
+
     /// A bit for the row that counts it, if there is one.
     pub fn rows(self) -> u32 {
         match self {
@@ -55,6 +65,7 @@ impl Seen {
             Seen::Added(..) => 1 << 4,
             Seen::StatusBack => 1 << 5,
             Seen::StatusGone => 1 << 6,
+            Seen::Break => 1 << 7,
             _ => 0,
         }
     }
@@ -63,7 +74,7 @@ impl Seen {
 /// What this call with this answer did to this state.
 pub fn seen(before: &Bridge, call: Call, answer: u64) -> Seen {
     match call {
-        Call::Show(_) => Seen::Nothing,
+        Call::ShowReceive | Call::ShowTransmit => Seen::Nothing,
         _ if kind(answer) == REFUSED => Seen::Nothing,
         Call::Next if kind(answer) == BYTE && before.holding == before.stop_sent_last => {
             Seen::HandedOut(value(answer) as u8)

@@ -44,7 +44,7 @@ pub trait Reader {
 
 impl<R, T, G, X> Reader for Meter<R, T, G, X>
 where
-    R: AsRef<[u8]> + AsMut<[u8]>,
+    R: AsRef<[u16]> + AsMut<[u16]>,
     T: AsRef<[u8]> + AsMut<[u8]>,
     G: AsRef<[u8]> + AsMut<[u8]>,
     X: AsRef<[u8]> + AsMut<[u8]>,
@@ -68,7 +68,7 @@ where
                 .and_then(|register| self.write_register(register, value as u8))
                 .map(Answer::from),
             Call::Reset => self.reset().map(Answer::from),
-            Call::Show(_) => Ok(Answer::Done),
+            Call::ShowReceive | Call::ShowTransmit => Ok(Answer::Done),
         };
         (Told::Answer(answered), None)
     }

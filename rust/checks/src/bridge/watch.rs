@@ -3,19 +3,19 @@
 use super::call::Call;
 use super::promises::Promises;
 use super::room;
-use super::rule::Rule;
-use super::seen::{seen, Seen};
+use super::rule::{Rule, BREAK};
+use super::seen::{seen, Seen, CHANGED_BY_A_BREAK};
 use super::TheBridge;
 use crate::few::Few;
-use crate::machine::{Made, Watcher};
+use crate::machine::{Cell, Made, Stores, Watcher};
 use crate::part;
 use model::{Bridge, Ring};
 
 /// What is known of a run from its calls and answers.
 #[derive(Clone, Copy, Debug, PartialEq, Eq, Hash)]
 pub struct Watch {
-    /// Accepted from the line and not read off by the reading rule.
-    unread: Few<u8>,
+    /// Accepted from the line and not read off by the reading rule, with marks where breaks came.
+    unread: Few<u16>,
     /// Added by frames and not handed out.
     waiting: Few<u8>,
     promises: Promises,
@@ -23,7 +23,7 @@ pub struct Watch {
 
 impl Watcher<TheBridge> for Watch {
     /// After create: both stores are empty.
-    fn starting(bridge: &Bridge, _: [&[u8]; 2]) -> Watch {
+    fn starting(bridge: &Bridge, _: Stores<TheBridge>) -> Watch {
         Watch {
             unread: Few::default(),
             waiting: Few::default(),
@@ -33,15 +33,15 @@ impl Watcher<TheBridge> for Watch {
 
     fn note(&mut self, made: &Made<TheBridge>) -> Result<u32, String> {
         let event = seen(made.before, made.call, made.answer);
+        let rule = Rule::of(&made.before.registers);
+        let changed = event.is_send() && rule.heeds(self.unread.cells());
         self.held_to(made.before, event, made.after, made.stores)?;
-        if let Call::Show(side) = made.call {
-            self.shown(side, made.answer, made.stores)?;
-        }
-        let [rx, tx] = made.stores;
+        self.shown(made.call, made.answer, made.stores)?;
+        let (rx, tx) = made.stores;
         let held = [self.unread.cells().len(), self.waiting.cells().len()];
         let free = [rx.len() - held[0], tx.len() - held[1]];
         room::told(made.call, made.answer, free)?;
-        Ok(event.rows())
+        Ok(event.rows() | if changed { CHANGED_BY_A_BREAK } else { 0 })
     }
 }
 
@@ -54,11 +54,12 @@ impl Watch {
         before: &Bridge,
         seen: Seen,
         after: &Bridge,
-        stores: [&[u8]; 2],
+        stores: Stores<TheBridge>,
     ) -> Result<(), String> {
         let read = Rule::of(&before.registers).send(self.unread.cells());
         match (seen, read) {
-            (Seen::Accepted(byte), _) => self.unread.push(byte),
+            (Seen::Accepted(byte), _) => self.unread.push(byte.into()),
+            (Seen::Break, _) => self.unread.last_mut().into_iter().for_each(|c| *c |= BREAK),
             (Seen::Sent(frame), (gone, Some(first))) if frame == first => self.unread.remove(gone),
             (Seen::SentNone, (gone, None)) => self.unread.remove(gone),
             (Seen::Sent(_) | Seen::SentNone, _) => return Err("another frame is due".into()),
@@ -73,32 +74,36 @@ impl Watch {
             }
             _ => {}
         }
-        holds(after.receive, stores[0], self.unread.cells())?;
-        holds(after.transmit, stores[1], self.waiting.cells())?;
+        holds(after.receive, stores.0, self.unread.cells())?;
+        holds(after.transmit, stores.1, self.waiting.cells())?;
         counted(seen, before, after)?;
         self.promises.note(before, seen, after)
     }
 
-    /// Holds a shown part, given as start and length, to what the side holds.
-    fn shown(&self, side: u32, part: u64, stores: [&[u8]; 2]) -> Result<(), String> {
-        let (held, store) = match side {
-            0 => (self.unread.cells(), stores[0]),
-            1 => (self.waiting.cells(), stores[1]),
-            _ => (&[][..], &[][..]),
-        };
-        part::due(part, store.len(), held.len(), |place, index| {
-            store[place] == held[index]
-        })
+    /// Holds a part that is shown, given as start and length, to what the store holds.
+    fn shown(&self, call: Call, part: u64, (rx, tx): Stores<TheBridge>) -> Result<(), String> {
+        match call {
+            Call::ShowReceive => part_due(part, rx, self.unread.cells()),
+            Call::ShowTransmit => part_due(part, tx, self.waiting.cells()),
+            _ => Ok(()),
+        }
     }
 }
 
-/// Whether a ring holds exactly these bytes.
-fn holds(ring: Ring, store: &[u8], bytes: &[u8]) -> Result<(), String> {
+/// Holds a shown part of a store to the cells that it holds.
+fn part_due<C: Cell>(part: u64, store: &[C], held: &[C]) -> Result<(), String> {
+    part::due(part, store.len(), held.len(), |place, index| {
+        store[place] == held[index]
+    })
+}
+
+/// Whether a ring holds exactly these cells, with nothing above the mark: the stores start blank.
+fn holds<C: Cell>(ring: Ring, store: &[C], cells: &[C]) -> Result<(), String> {
     let place = |i| store[(ring.oldest + i) % store.len()];
-    if ring.held == bytes.len() && (0..ring.held).all(|i| place(i) == bytes[i]) {
+    if ring.held == cells.len() && (0..ring.held).all(|i| place(i) == cells[i]) {
         Ok(())
     } else {
-        Err(format!("by history {bytes:?} is held"))
+        Err(format!("by history {cells:?} is held"))
     }
 }
 

@@ -12,7 +12,7 @@ pub fn block_len() -> usize {
 
 /// Creates a state in the block.
 pub fn create(lent: Lent, address: u32) -> u64 {
-    let [to_bus, to_loop] = lent.stores;
+    let (to_bus, to_loop) = (lent.one, lent.other);
     let (b, bl) = (lent.block.as_mut_ptr(), lent.block.len() as u64);
     let (o, ol) = (to_bus.as_ptr(), to_bus.len() as u64);
     let (i, il) = (to_loop.as_ptr(), to_loop.len() as u64);
@@ -22,7 +22,7 @@ pub fn create(lent: Lent, address: u32) -> u64 {
 
 /// Makes a call.
 pub fn call(lent: Lent, call: Call) -> u64 {
-    let [to_bus, to_loop] = lent.stores;
+    let (to_bus, to_loop) = (lent.one, lent.other);
     let (b, bl) = (lent.block.as_mut_ptr(), lent.block.len() as u64);
     let (o, ol) = (to_bus.as_mut_ptr(), to_bus.len() as u64);
     let (i, il) = (to_loop.as_mut_ptr(), to_loop.len() as u64);

@@ -27,7 +27,7 @@ pub struct TheMailbox;
 pub type Pair = crate::pair::Pair<TheMailbox>;
 
 /// The three buffers of one call of the mailbox.
-pub type Lent<'a> = crate::lent::Lent<'a, u16>;
+pub type Lent<'a> = crate::lent::Lent<'a, TheMailbox>;
 
 /// The archive's C functions, which are proved.
 pub const ARCHIVE: Implementation<TheMailbox> = Implementation {
@@ -44,7 +44,8 @@ pub const MODEL: Implementation<TheMailbox> = Implementation {
 };
 
 impl Machine for TheMailbox {
-    type Cell = u16;
+    type One = u16;
+    type Other = u16;
     type Call = Call;
     type State = Mailbox;
     type Watch = history::History<Few<u16>>;
@@ -72,7 +73,7 @@ impl Machine for TheMailbox {
         active.then(|| Call::Frame((state.loop_side.under_way ^ change).into()))
     }
 
-    fn begins(beginning: &Beginning<u16>, f: &mut fmt::Formatter) -> fmt::Result {
+    fn begins(beginning: &Beginning<TheMailbox>, f: &mut fmt::Formatter) -> fmt::Result {
         written::begins(beginning, f)
     }
 }

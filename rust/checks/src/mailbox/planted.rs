@@ -3,7 +3,9 @@
 use super::call::{frame, Call};
 use super::{Lent, TheMailbox};
 use crate::answer::{framed, refused, DONE};
+use crate::bridge::TheBridge;
 use crate::implementation::Implementation as Any;
+use crate::machine::Machine;
 use crate::planted::{
     changed, last_place_unwritten, planted, refused_yet_changed, right, version_taken,
 };
@@ -91,7 +93,7 @@ pub const DAMAGED_FRAME_PUT_BACK: Implementation = planted(|mut lent, call| {
     let sending = lent.block.get(18) == Some(&2) && lent.block.get(21) == Some(&0);
     let answer = model(lent.again(), call);
     if let ([Some(place), Some(held)], true) = (oldest, sending && answer == framed(5, 65)) {
-        let room = lent.stores[1].len() > usize::from(held);
+        let room = lent.other.len() > usize::from(held);
         if place > 0 && room {
             lent.block[9] = place - 1;
             lent.block[11] = held + 1;
@@ -112,7 +114,7 @@ pub const REQUEST_OUTLIVES: Implementation = planted(|lent, call| {
 /// The bits above the end mark count as one when a cell is read. Calls never write them.
 pub const UPPER_BITS_COUNT: Implementation = planted(|lent, call| {
     let place = usize::from(*lent.block.get(3).unwrap_or(&0));
-    let upper = lent.stores[0].get(place).map_or(false, |&cell| cell > 511);
+    let upper = lent.one.get(place).map_or(false, |&cell| cell > 511);
     let data = call == Call::Fetch && lent.block.get(37) == Some(&0);
     match model(lent, call) {
         answer if data && upper && kind(answer) == BYTE => answer | 256,
@@ -137,7 +139,8 @@ pub const REFUSED_YET_CHANGED: Implementation = planted(refused_yet_changed::<Th
 pub const LAST_PLACE_UNWRITTEN: Implementation = planted(last_place_unwritten::<TheMailbox, 1>);
 
 /// Blocks with the bridge's version are taken as ours.
-pub const BRIDGES_VERSION_TAKEN: Implementation = planted(version_taken::<TheMailbox, 2>);
+pub const BRIDGES_VERSION_TAKEN: Implementation =
+    planted(version_taken::<TheMailbox, { TheBridge::VERSION }>);
 
 /// Faults that change what is seen of calls, so that the history alone finds them.
 pub const SEEN: [(&str, Implementation); 10] = [

@@ -6,15 +6,15 @@ use mailbox_model::boundary;
 
 /// Creates a state in the block.
 pub fn create(lent: Lent, address: u32) -> u64 {
-    let [to_bus, to_loop] = lent.stores;
-    boundary::create(lent.block, to_bus, to_loop, address)
+    boundary::create(lent.block, lent.one, lent.other, address)
 }
 
 /// Makes a call.
 pub fn call(lent: Lent, call: Call) -> u64 {
     let Lent {
         block,
-        stores: [to_bus, to_loop],
+        one: to_bus,
+        other: to_loop,
     } = lent;
     match call {
         Call::Frame(frame) => boundary::loop_frame(block, to_bus, to_loop, frame),

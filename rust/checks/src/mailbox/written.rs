@@ -1,16 +1,17 @@
 //! The beginning of a run, written as a script for replay.
 
 use super::call::Call;
+use super::TheMailbox;
 use crate::written::Beginning;
 use mailbox_model::{block, HOME};
 use script::{MailboxCall, Script};
 use std::fmt;
 
 /// Writes how a run begins.
-pub fn begins(beginning: &Beginning<u16>, f: &mut fmt::Formatter) -> fmt::Result {
+pub fn begins(beginning: &Beginning<TheMailbox>, f: &mut fmt::Formatter) -> fmt::Result {
     match beginning {
         Beginning::Created(lens, address) => writeln!(f, "{}", create(*lens, *address)),
-        Beginning::Holding(block, [to_bus, to_loop]) => match made(block, to_bus, to_loop) {
+        Beginning::Holding(block, to_bus, to_loop) => match made(block, to_bus, to_loop) {
             Some(script) => write!(f, "{script}"),
             // A script has no call that leads there.
             None => {

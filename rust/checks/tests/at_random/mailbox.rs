@@ -48,7 +48,7 @@ fn every_call_on_states_that_calls_never_reach() {
     let all: Vec<Call> = frames.chain(commands).chain(bytes).chain(others).collect();
     while states < draws.runs {
         let drawn = TheMailbox::drawn(&mut random);
-        if drawn.stores().iter().any(|store| store.len() > 64) {
+        if drawn.one.len() > 64 || drawn.other.len() > 64 {
             continue;
         }
         for &call in &all {

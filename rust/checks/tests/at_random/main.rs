@@ -5,6 +5,7 @@
 //! as many. A run that shows a difference is made short and printed as a script for replay.
 
 mod again;
+mod breaks;
 mod mailbox;
 mod planted;
 

@@ -72,13 +72,17 @@ fn a_count_that_stops_at_its_largest_number() {
 
 #[test]
 fn a_block_of_another_version_that_is_taken() {
-    let fault = planted::ANOTHER_VERSION_TAKEN;
-    assert!(
-        Kind::FROM_CREATE.found([fault, MODEL]).is_none()
-            && Kind::FROM_STATES.found([fault, MODEL]).is_none()
-    );
-    let found = Kind::ON_DAMAGED.found([fault, MODEL]).expect("it is found");
-    assert!(found.steps <= 1, "{}", found.told);
+    for fault in [
+        planted::ANOTHER_VERSION_TAKEN,
+        planted::VERSION_BEFORE_TAKEN,
+    ] {
+        assert!(
+            Kind::FROM_CREATE.found([fault, MODEL]).is_none()
+                && Kind::FROM_STATES.found([fault, MODEL]).is_none()
+        );
+        let found = Kind::ON_DAMAGED.found([fault, MODEL]).expect("it is found");
+        assert!(found.steps <= 1, "{}", found.told);
+    }
 }
 
 /// An answer in words, and the room that it tells, which is 0 where it says none.

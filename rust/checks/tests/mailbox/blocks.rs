@@ -58,7 +58,7 @@ fn talker_and_listener_at_once_is_no_state() {
 #[test]
 fn another_version_is_refused_by_every_call_but_create() {
     let good = used(2, 1);
-    let ([to_bus, to_loop], mut others) = (good.buffers().stores(), 0);
+    let ((to_bus, to_loop), mut others) = (good.buffers().stores(), 0);
     for version in (0..=255).filter(|&version| version != VERSION) {
         let mut block = good.buffers().block().to_vec();
         block[0] = version;
@@ -94,7 +94,7 @@ fn a_block_of_one_machine_is_none_of_the_other() {
         let mut block = of_mailbox.buffers().block().to_vec();
         block.resize(len, 0);
         let mut pair = bridge::Pair::holding(&block, &[0; 4], &[0; 3]);
-        use bridge::call::Call::{Break, Frame, Key, Line, Next, Register, Reset, Show};
+        use bridge::call::Call::{Break, Frame, Key, Line, Next, Register, Reset, ShowReceive};
         for call in [
             Frame(2048),
             Break,
@@ -107,7 +107,7 @@ fn a_block_of_one_machine_is_none_of_the_other() {
             pair.expect(call, refused(2));
             refusals += 1;
         }
-        pair.expect(Show(0), 0);
+        pair.expect(ShowReceive, 0);
     }
     println!("edges of both machines: {refusals} calls on the other's block refused 2");
 }
@@ -123,7 +123,7 @@ fn lengths_other_than_recorded() {
                 block.resize(block_len, 0);
                 let (one, other) = (vec![0; to_bus], vec![0; to_loop]);
                 let due = (to_bus, to_loop, block_len) == (4, 3, LEN);
-                let fits = fits::<TheMailbox>(&block, [&one, &other], &REFUSABLE);
+                let fits = fits::<TheMailbox>(&block, (&one, &other), &REFUSABLE);
                 assert_eq!(fits, due);
                 *(if due { &mut fit } else { &mut misfits }) += 1;
             }

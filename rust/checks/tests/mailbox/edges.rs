@@ -144,7 +144,7 @@ fn every_cell_is_read_by_its_nine_bits() {
         pair.expect(frame(4, 79), framed(4, 79));
         let control = if marked { 3 } else { 1 };
         pair.expect(frame(5, 96), framed(control, low.into()));
-        assert_eq!(pair.buffers().stores(), [&store, &store]);
+        assert_eq!(pair.buffers().stores(), (&store[..], &store[..]));
         fetched += 2;
     }
     println!("edges of the mailbox, cells: {fetched} fetched by their nine bits");

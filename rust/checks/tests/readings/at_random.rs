@@ -25,13 +25,20 @@ fn letter(random: &mut Random) -> Letter {
         86 => Letter::Line(random.one_of(&[17, 19])),
         87 => Letter::Next,
         88 => Letter::Gap,
-        89 => Letter::Break,
-        90 => Letter::Key,
+        89..=90 => Letter::Break,
         91 => Letter::AskStatus,
         92 => Letter::AskData,
         93..=95 => Letter::Back,
         96 => Letter::Clear,
         97 => Letter::Reset,
+        _ => seldom(random),
+    }
+}
+
+/// A key is pressed, or a register is written.
+fn seldom(random: &mut Random) -> Letter {
+    match random.below(4) {
+        0 => Letter::Key,
         _ => register(random),
     }
 }

@@ -81,7 +81,7 @@ impl fmt::Display for Counts {
 }
 
 /// The crate's meter on stores of its own.
-pub type OurMeter = Meter<Vec<u8>, [u8; 3], Vec<u8>, Vec<u8>>;
+pub type OurMeter = Meter<Vec<u16>, [u8; 3], Vec<u8>, Vec<u8>>;
 
 /// A fresh meter of the crate.
 pub fn our_meter(sizes: Sizes) -> OurMeter {

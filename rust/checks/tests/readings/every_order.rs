@@ -101,6 +101,35 @@ fn bytes_that_the_port_lost() {
     held_on_both("the same and resets", &[], letters, [7, 7]);
 }
 
+pub const BREAKS: Plan = Plan {
+    letters: &[Line(b'2'), Line(b'\r'), Line(b'\n'), Break, Read],
+    length: 8,
+    ..BYTES_AND_READS
+};
+
+#[test]
+fn breaks_that_cut_readings_off() {
+    held("breaks, store 4", BREAKS);
+    let letters = &[Line(b'2'), LineEnd, Break, Read, AskData, Back, Clear];
+    held_on_both("breaks and the app itself", &[], letters, [7, 7]);
+    let letters = &[Line(b'2'), LineEnd, Break, Gap, Read, Reset];
+    held_on_both("breaks, gaps and resets", &[], letters, [7, 7]);
+    let start = &[Register(10, 0), Line(b'1'), Read];
+    let letters = &[Line(b'2'), LineEnd, Break, Read, Register(10, 8)];
+    held_on_both("breaks and the rule off at first", start, letters, [7, 7]);
+}
+
+#[test]
+fn breaks_where_texts_are_short() {
+    for longest in 0..2 {
+        let sizes = Sizes { longest, ..TINY };
+        let counts = go_through(&Plan { sizes, ..BREAKS }, our_meter(sizes));
+        let counts = counts.unwrap_or_else(|finding| panic!("{finding}"));
+        println!("readings, breaks and texts of {longest}: {counts}");
+        assert!(counts.gaps > 0);
+    }
+}
+
 /// Holds every order of these letters on stores of 4 and 5, after these.
 fn held_on_both(
     name: &str,

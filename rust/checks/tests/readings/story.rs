@@ -1,7 +1,19 @@
-//! Last spring a full receive store swallowed the point of 2.5, and a user heard 25 volts.
+//! Last spring a full receive store swallowed the point of 2.5, and a user heard 25 volts. And a meter
+//! is restarted between the two characters of an end of line.
 
-use crate::both::{our_meter, Sizes};
+use crate::both::{our_meter, OurMeter, Sizes};
 use raftershim::{Reading, Refusal};
+
+/// Asks for readings until there is none that has ended, and says what is whole.
+fn speak(meter: &mut OurMeter, said: &mut Vec<String>) -> Result<(), Refusal> {
+    loop {
+        said.push(match meter.reading()? {
+            Reading::Whole(text) => format!("{text} volts"),
+            Reading::Gap(_) => "measure again".to_string(),
+            _ => return Ok(()),
+        });
+    }
+}
 
 /// What an app says that asks for a reading whenever it comes round, and speaks what is whole.
 fn said(bursts: &[&str]) -> Result<Vec<String>, Refusal> {
@@ -13,13 +25,7 @@ fn said(bursts: &[&str]) -> Result<Vec<String>, Refusal> {
     let mut said = Vec::new();
     for burst in bursts {
         meter.line_bytes(burst.as_bytes())?;
-        loop {
-            said.push(match meter.reading()? {
-                Reading::Whole(text) => format!("{text} volts"),
-                Reading::Gap(_) => "measure again".to_string(),
-                _ => break,
-            });
-        }
+        speak(&mut meter, &mut said)?;
     }
     Ok(said)
 }
@@ -45,6 +51,36 @@ fn of_ten_readings_the_one_without_its_point_is_not_spoken() {
             2 => assert_eq!(spoken, "measure again"),
             _ => assert_eq!(*spoken, format!("{volts}.5 volts")),
         }
+    }
+}
+
+/// What an app says of a meter that is restarted between the two characters of an end of line. It asks
+/// for readings at the end, and before that where it says so: before the break, and after it.
+fn said_of_a_restart(before: bool, after: bool) -> Result<Vec<String>, Refusal> {
+    let mut meter = our_meter(Sizes {
+        rx_len: 16,
+        margin: 2,
+        longest: 32,
+    });
+    let mut said = Vec::new();
+    meter.line_bytes(b"12\r")?;
+    if before {
+        speak(&mut meter, &mut said)?;
+    }
+    meter.line_break()?;
+    if after {
+        speak(&mut meter, &mut said)?;
+    }
+    meter.line_bytes(b"3.5\r\n")?;
+    speak(&mut meter, &mut said)?;
+    Ok(said)
+}
+
+#[test]
+fn a_reading_before_a_restart_is_not_joined_with_the_one_after_it() {
+    for (before, after) in [(false, false), (false, true), (true, false), (true, true)] {
+        let said = said_of_a_restart(before, after).unwrap();
+        assert_eq!(said, ["measure again", "3.5 volts"], "{before} {after}");
     }
 }
 

@@ -1,11 +1,12 @@
 //! The two stores of the bridge.
 
-use crate::store::{frame_of, framed_item, oldest_of, Offer, Removal, Store, MARK};
+use crate::store::{frame_of, framed_item, is_blank, oldest_of, Offer, Removal, Store, MARK};
 use model::{Bridge, Ring, ADDRESSED};
 use raftershim_checks::answer::{byte, framed, with_room, DONE, NONE};
 use raftershim_checks::bridge::call::{frame, Call};
-use raftershim_checks::bridge::rule::Rule;
-use raftershim_checks::bridge::TheBridge;
+use raftershim_checks::bridge::rule::{Rule, BREAK};
+use raftershim_checks::bridge::{Lent, TheBridge};
+use raftershim_checks::machine::Stores;
 
 /// The pair that closes a line.
 const CR: u16 = 13;
@@ -23,6 +24,7 @@ pub struct Transmit;
 
 impl Store for Receive {
     type Of = TheBridge;
+    type Cell = u16;
     const SIDE: usize = 0;
     const LEAST: usize = 4;
     const OTHER: usize = TRANSMIT;
@@ -30,7 +32,7 @@ impl Store for Receive {
     /// The protocol is off, so that every byte is stored; address 1, and talk.
     const READY: &'static [Call] = &[Call::Register(11, 0), frame(5, 129), frame(4, 65)];
     const PAIRS: [&'static [Call]; 2] = PAIRS;
-    const SHOW: Call = Call::Show(0);
+    const SHOW: Call = Call::ShowReceive;
     const LOTS: &'static [&'static [u16]] = &[
         &[65, 66],
         &[CR, LF],
@@ -39,6 +41,12 @@ impl Store for Receive {
         &[CR, LF, CR, LF],
         &[CR, LF, 70, CR, LF],
         &[CR, LF, CR, LF, 71, CR, LF],
+        &[72 | MARK],
+        &[73 | MARK, CR, LF],
+        &[CR | MARK, LF],
+        &[74, CR | MARK, LF],
+        &[75, CR, LF | MARK, 76, 77],
+        &[CR, LF | MARK, CR, LF, 78 | MARK, CR, LF],
     ];
     /// A data frame, a pair, an end byte with its pair, and pairs with each of these behind them.
     const REMOVALS: &'static [Removal] = &[
@@ -51,6 +59,19 @@ impl Store for Receive {
         (7, Some(true)),
     ];
     const TELLS_ROOM: bool = true;
+    const MARKS: bool = true;
+
+    fn of((rx, tx): Stores<'_, TheBridge>) -> (&[u16], bool) {
+        (rx, is_blank(tx))
+    }
+
+    fn lent<'a>(lent: &'a mut Lent) -> &'a mut [u16] {
+        lent.one
+    }
+
+    fn marked(cell: u16) -> u16 {
+        cell | BREAK
+    }
 
     fn ring(state: &Bridge) -> Ring {
         state.receive
@@ -60,13 +81,14 @@ impl Store for Receive {
         &mut state.receive.oldest
     }
 
-    /// The line has no end mark.
+    /// The mark is a break that follows.
     fn offer(_: &Bridge, item: u16) -> Offer<Receive> {
         let byte = (item & 255) as u8;
         Offer {
             call: Call::Line(byte),
-            cells: vec![byte],
+            cells: vec![byte.into()],
             answer: DONE,
+            mark: (item & MARK != 0).then_some(Call::Break),
         }
     }
 
@@ -84,7 +106,7 @@ impl Store for Receive {
         }
     }
 
-    fn due(state: &Bridge, waiting: &[u8]) -> (usize, Option<u16>) {
+    fn due(state: &Bridge, waiting: &[u16]) -> (usize, Option<u16>) {
         let (gone, sent) = Rule::of(&state.registers).send(waiting);
         (gone, sent.map(|frame| frame >> 1 & MARK | frame & 255))
     }
@@ -96,6 +118,7 @@ impl Store for Receive {
 
 impl Store for Transmit {
     type Of = TheBridge;
+    type Cell = u8;
     const SIDE: usize = 1;
     const LEAST: usize = 3;
     const OTHER: usize = 4;
@@ -103,12 +126,20 @@ impl Store for Transmit {
     /// Address 1, and listen.
     const READY: &'static [Call] = &[frame(5, 129), frame(4, 33)];
     const PAIRS: [&'static [Call]; 2] = PAIRS;
-    const SHOW: Call = Call::Show(1);
+    const SHOW: Call = Call::ShowTransmit;
     const LOTS: &'static [&'static [u16]] = &[&[65], &[66 | MARK], &[67 | MARK, 68 | MARK]];
     const REMOVALS: &'static [Removal] = &[(1, Some(false))];
     /// A byte, and an end byte with the pair that is added.
     const PUTS: &'static [usize] = &[1, 3];
     const TELLS_ROOM: bool = true;
+
+    fn of((rx, tx): Stores<'_, TheBridge>) -> (&[u8], bool) {
+        (tx, is_blank(rx))
+    }
+
+    fn lent<'a>(lent: &'a mut Lent) -> &'a mut [u8] {
+        lent.other
+    }
 
     fn ring(state: &Bridge) -> Ring {
         state.transmit
@@ -125,6 +156,7 @@ impl Store for Transmit {
             call: Call::Frame(frame_of(item)),
             cells: line[..if pair { 3 } else { 1 }].to_vec(),
             answer: framed_item(item),
+            mark: None,
         }
     }
 

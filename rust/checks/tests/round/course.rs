@@ -2,9 +2,9 @@
 
 use crate::history::History;
 use crate::met::Met;
-use crate::store::{Call, Cell, State, Store, MARK};
+use crate::store::{Call, State, Store, MARK};
 use model::Ring;
-use raftershim_checks::answer::{in_words, with_room};
+use raftershim_checks::answer::{in_words, with_room, DONE};
 use raftershim_checks::implementation::Both;
 use raftershim_checks::pair::Pair;
 use std::fmt;
@@ -21,7 +21,7 @@ const CALLS: usize = 100;
 pub struct Course<'a, S: Store> {
     both: Both<S::Of>,
     pair: Pair<S::Of>,
-    history: History<Cell<S>>,
+    history: History<S::Cell>,
     /// How many items were offered.
     offered: usize,
     /// How often the oldest place came to the last one and went on.
@@ -133,7 +133,18 @@ impl<'a, S: Store> Course<'a, S> {
         }
         self.as_by_history()?;
         self.met.put(made.rings());
+        offer.mark.map_or(Ok(()), |call| self.mark(call))?;
         Ok(room)
+    }
+
+    /// Marks the newest cell that is held, if there is one.
+    fn mark(&mut self, call: Call<S>) -> Told {
+        let made = self.made(call)?;
+        self.answered(made.answer, DONE)?;
+        let place = self.history.change_newest(S::marked);
+        self.as_by_history()?;
+        self.met.marks.extend(place);
+        Ok(())
     }
 
     /// Asks for the next item. Gives whether there was one.
@@ -196,12 +207,10 @@ impl<'a, S: Store> Course<'a, S> {
 
     /// Holds every place of both stores to the history. In the other one nothing was ever written.
     pub fn stores_as_by_history(&self) -> Told {
-        let stores = self.pair.buffers().stores();
-        if let Some(place) = self.history.wrong_place(stores[S::SIDE]) {
+        let (store, untouched) = S::of(self.pair.buffers().stores());
+        if let Some(place) = self.history.wrong_place(store) {
             self.law(false, format_args!("place {place} holds another cell"))?;
         }
-        let blank = Cell::<S>::default();
-        let untouched = stores[1 - S::SIDE].iter().all(|&cell| cell == blank);
         self.law(untouched, format_args!("the other store is untouched"))
     }
 }

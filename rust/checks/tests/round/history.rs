@@ -37,6 +37,16 @@ impl<C: Cell> History<C> {
         }
     }
 
+    /// The newest of those that wait becomes this, if any waits. Gives its place.
+    pub fn change_newest(&mut self, change: fn(C) -> C) -> Option<usize> {
+        let newest = self.accepted.len() - usize::from(!self.waiting().is_empty());
+        let cell = self.accepted.get_mut(newest)?;
+        *cell = change(*cell);
+        let place = newest % self.places.len();
+        self.places[place] = *cell;
+        Some(place)
+    }
+
     pub fn remove(&mut self, cells: usize) {
         self.gone += cells;
     }

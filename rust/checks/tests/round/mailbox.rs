@@ -1,13 +1,13 @@
 //! The two stores of the mailbox.
 
-use crate::store::{frame_of, framed_item, oldest_of, Offer, Removal, Store, MARK};
+use crate::store::{frame_of, framed_item, is_blank, oldest_of, Offer, Removal, Store, MARK};
 use mailbox_model::boundary::BYTE;
 use mailbox_model::{Mailbox, SERVICE};
 use model::Ring;
 use raftershim_checks::answer::{framed, DONE, NONE};
-use raftershim_checks::machine::Machine;
+use raftershim_checks::machine::{Machine, Stores};
 use raftershim_checks::mailbox::call::{frame, Call};
-use raftershim_checks::mailbox::TheMailbox;
+use raftershim_checks::mailbox::{Lent, TheMailbox};
 
 /// The address on the bus.
 const BUS: u32 = 7;
@@ -30,6 +30,7 @@ fn ring_of(ring: mailbox_model::Ring) -> Ring {
 
 impl Store for ToBus {
     type Of = TheMailbox;
+    type Cell = u16;
     const SIDE: usize = 0;
     const LEAST: usize = 1;
     const OTHER: usize = 1;
@@ -39,6 +40,14 @@ impl Store for ToBus {
     const SHOW: Call = Call::Show(0);
     const LOTS: &'static [&'static [u16]] = LOTS;
     const REMOVALS: &'static [Removal] = REMOVALS;
+
+    fn of((to_bus, to_loop): Stores<'_, TheMailbox>) -> (&[u16], bool) {
+        (to_bus, is_blank(to_loop))
+    }
+
+    fn lent<'a>(lent: &'a mut Lent) -> &'a mut [u16] {
+        lent.one
+    }
 
     fn ring(state: &Mailbox) -> Ring {
         ring_of(state.to_bus.ring)
@@ -53,6 +62,7 @@ impl Store for ToBus {
             call: Call::Frame(frame_of(item)),
             cells: vec![item],
             answer: framed_item(item),
+            mark: None,
         }
     }
 
@@ -71,6 +81,7 @@ impl Store for ToBus {
 
 impl Store for ToLoop {
     type Of = TheMailbox;
+    type Cell = u16;
     const SIDE: usize = 1;
     const LEAST: usize = 1;
     const OTHER: usize = 1;
@@ -80,6 +91,14 @@ impl Store for ToLoop {
     const SHOW: Call = Call::Show(1);
     const LOTS: &'static [&'static [u16]] = LOTS;
     const REMOVALS: &'static [Removal] = REMOVALS;
+
+    fn of((to_bus, to_loop): Stores<'_, TheMailbox>) -> (&[u16], bool) {
+        (to_loop, is_blank(to_bus))
+    }
+
+    fn lent<'a>(lent: &'a mut Lent) -> &'a mut [u16] {
+        lent.other
+    }
 
     fn ring(state: &Mailbox) -> Ring {
         ring_of(state.to_loop.ring)
@@ -94,6 +113,7 @@ impl Store for ToLoop {
             call: Call::Byte((item & 255) as u8, u32::from(item & MARK)),
             cells: vec![item],
             answer: DONE,
+            mark: None,
         }
     }
 

@@ -24,6 +24,8 @@ pub struct Met {
     removals: BTreeMap<(Removal, usize), usize>,
     /// The oldest places at which the store was full, turned something away and came out whole.
     pub full: BTreeSet<usize>,
+    /// The places at which a cell was marked by a call of its own.
+    pub marks: BTreeSet<usize>,
     /// Parts shown up to the last place: all that is held, not all of it, the last place alone, and
     /// any part of a full store.
     parts: [usize; PARTS.len()],
@@ -38,6 +40,7 @@ impl Met {
             puts: BTreeMap::new(),
             removals: BTreeMap::new(),
             full: BTreeSet::new(),
+            marks: BTreeSet::new(),
             parts: [0; PARTS.len()],
         }
     }
@@ -102,6 +105,9 @@ impl Met {
         for place in full_at(self.len) {
             ask(self.full.contains(&place), format!("full at {place}"));
         }
+        for place in full_at(self.len).into_iter().filter(|_| S::MARKS) {
+            ask(self.marks.contains(&place), format!("marked at {place}"));
+        }
         for (&count, name) in self.parts.iter().zip(PARTS) {
             ask(count > 0, format!("a part at the end, {name}"));
         }
@@ -145,10 +151,15 @@ impl fmt::Display for Met {
             gone[size] += count;
         }
         let (calls, rounds, full) = (self.calls, self.rounds, self.full.len());
+        let marks = self.marks.len();
         let (put, gone) = (said(&SIZES, &put), said(&SIZES, &gone));
         let parts = said(&PARTS, &self.parts);
         write!(f, "{calls} calls, {rounds} times round; ")?;
         write!(f, "across the end put: {put}; removed: {gone}; ")?;
-        write!(f, "full at {full} places; parts at the end: {parts}")
+        write!(f, "full at {full} places; ")?;
+        if marks > 0 {
+            write!(f, "marked at {marks} places; ")?;
+        }
+        write!(f, "parts at the end: {parts}")
     }
 }

@@ -12,14 +12,15 @@ fn missing<S: Store>(met: &Met) -> usize {
 
 #[test]
 fn where_nothing_was_met_all_is_missing() {
-    // Rounds, puts by their cells, removals by their cells, places to be full at, and parts.
+    // Rounds, puts by their cells, removals by their cells, places to be full and to be marked at,
+    // and parts.
     let met = [3, 4, 64, 32_768].map(Met::nothing);
     let [three, four, small, large] = &met;
     let few = 1 + 2 + 3 + 3 + 4;
     let all = few + 5 + 7;
-    assert_eq!(missing::<Receive>(four), 1 + 1 + few + 4 + 4);
-    assert_eq!(missing::<Receive>(small), 1 + 1 + all + 64 + 4);
-    assert_eq!(missing::<Receive>(large), 1 + 1 + all + 4 + 4);
+    assert_eq!(missing::<Receive>(four), 1 + 1 + few + 4 + 4 + 4);
+    assert_eq!(missing::<Receive>(small), 1 + 1 + all + 64 + 64 + 4);
+    assert_eq!(missing::<Receive>(large), 1 + 1 + all + 4 + 4 + 4);
     assert_eq!(missing::<Transmit>(three), 1 + (1 + 3) + 1 + 3 + 4);
     assert_eq!(missing::<ToBus>(large), 1 + 1 + 2 + 4 + 4);
     assert_eq!(missing::<ToLoop>(large), 1 + 1 + 2 + 4 + 4);
@@ -52,4 +53,7 @@ fn only_what_is_across_the_end_counts() {
     assert_eq!(missing::<Receive>(&met), all - 6);
     met.part(ring(5, 8), 5 << 32 | 3);
     assert_eq!(missing::<Receive>(&met), all - 7);
+    // The last place is marked, twice.
+    met.marks.extend([7, 7]);
+    assert_eq!(missing::<Receive>(&met), all - 8);
 }

@@ -1,13 +1,13 @@
 //! Rings that go round otherwise, each the model with one fault planted in one of its stores.
 
-use crate::store::{Call, Cell, Store};
+use crate::store::{Call, Store};
 use model::Ring;
 use raftershim_checks::implementation::Implementation;
 use raftershim_checks::lent::Lent;
 use raftershim_checks::machine::Machine;
 use raftershim_checks::planted::{changed, planted, right};
-use At::{Every, NoPower, PutsOfMore, RemovalsOfMore};
-use Fault::{Put, PutInARow, Remove, Show};
+use At::{Every, Marks, MarksAndNoPower, NoPower, PutsOfMore, RemovalsOfMore};
+use Fault::{Mark, Put, PutInARow, Remove, Show};
 
 /// Where a place is that was counted on past the last one, in a store of this length.
 type Round = fn(len: usize, place: usize) -> usize;
@@ -44,6 +44,8 @@ enum Fault {
     Remove(Round),
     /// The part that is shown: all that is held, past the end.
     Show,
+    /// The place of the cell that is marked. Past the store the mark is lost.
+    Mark(Round),
 }
 
 /// Where that is wrong.
@@ -56,6 +58,10 @@ enum At {
     PutsOfMore,
     /// In stores where a call removes more than one cell.
     RemovalsOfMore,
+    /// In stores with a call that marks the newest cell.
+    Marks,
+    /// In such stores at lengths that are not a power of two.
+    MarksAndNoPower,
 }
 
 /// A ring that goes round otherwise.
@@ -70,7 +76,7 @@ const fn wrong(name: &'static str, fault: Fault, at: At) -> Wrong {
 }
 
 /// All of them.
-pub const RINGS: [Wrong; 11] = [
+pub const RINGS: [Wrong; 15] = [
     wrong("puts by a mask", Put(BY_A_MASK), NoPower),
     wrong("puts one late", Put(ONE_LATE), Every),
     wrong("puts one early", Put(ONE_EARLY), Every),
@@ -82,6 +88,10 @@ pub const RINGS: [Wrong; 11] = [
     wrong("removes to the first", Remove(TO_THE_FIRST), RemovalsOfMore),
     wrong("removes past the end", Remove(PAST_THE_END), Every),
     wrong("shows past the end", Show, Every),
+    wrong("marks by a mask", Mark(BY_A_MASK), MarksAndNoPower),
+    wrong("marks one early", Mark(ONE_EARLY), Marks),
+    wrong("marks to the second", Mark(TO_THE_SECOND), Marks),
+    wrong("marks past the end", Mark(PAST_THE_END), Marks),
 ];
 
 /// The place of the first one.
@@ -95,6 +105,8 @@ impl Wrong {
             NoPower => !len.is_power_of_two(),
             PutsOfMore => S::PUTS.iter().any(|&cells| cells > 1),
             RemovalsOfMore => S::REMOVALS.iter().any(|&(cells, _)| cells > 1),
+            Marks => S::MARKS,
+            MarksAndNoPower => S::MARKS && !len.is_power_of_two(),
         }
     }
 }
@@ -113,38 +125,43 @@ pub fn rings<S: Store>() -> [Implementation<S::Of>; RINGS.len()] {
         planted(going_round::<S, 8>),
         planted(going_round::<S, 9>),
         planted(going_round::<S, 10>),
+        planted(going_round::<S, 11>),
+        planted(going_round::<S, 12>),
+        planted(going_round::<S, 13>),
+        planted(going_round::<S, 14>),
     ]
 }
 
 /// Makes a call as the ring at this place of the table does.
-fn going_round<S: Store, const RING: usize>(lent: Lent<Cell<S>>, call: Call<S>) -> u64 {
+fn going_round<S: Store, const RING: usize>(lent: Lent<S::Of>, call: Call<S>) -> u64 {
     match RINGS[RING].fault {
         Put(round) => put::<S>(lent, call, |len, next, more| round(len, next + more)),
         PutInARow => put::<S>(lent, call, |len, next, more| next % len + more),
         Remove(round) => remove::<S>(lent, call, round),
         Show => show::<S>(lent, call),
+        Mark(round) => mark::<S>(lent, call, round),
     }
 }
 
 /// The ring by the block.
-fn ring<S: Store>(lent: &Lent<Cell<S>>) -> Ring {
+fn ring<S: Store>(lent: &Lent<S::Of>) -> Ring {
     S::ring(&S::Of::state(lent.block).expect("a state"))
 }
 
 /// Makes a call as the model does, but puts its cells elsewhere, given the length, the next place
 /// and how many of the cells were put before. A call puts three at most.
 fn put<S: Store>(
-    mut lent: Lent<Cell<S>>,
+    mut lent: Lent<S::Of>,
     call: Call<S>,
     elsewhere: impl Fn(usize, usize, usize) -> usize,
 ) -> u64 {
-    let (len, before) = (lent.stores[S::SIDE].len(), ring::<S>(&lent));
+    let (len, before) = (S::lent(&mut lent).len(), ring::<S>(&lent));
     let next = before.oldest + before.held;
     let right_places = [0, 1, 2].map(|more| (next + more) % len);
-    let old = right_places.map(|place| lent.stores[S::SIDE][place]);
+    let old = right_places.map(|place| S::lent(&mut lent)[place]);
     let answer = right::<S::Of>(lent.again(), call);
     let count = ring::<S>(&lent).held.saturating_sub(before.held);
-    let store = &mut lent.stores[S::SIDE];
+    let store = S::lent(&mut lent);
     let new = right_places.map(|place| store[place]);
     for (place, old) in right_places.into_iter().zip(old).take(count) {
         store[place] = old;
@@ -158,8 +175,8 @@ fn put<S: Store>(
 }
 
 /// Makes a call as the model does, but comes to another oldest place.
-fn remove<S: Store>(lent: Lent<Cell<S>>, call: Call<S>, round: Round) -> u64 {
-    let len = lent.stores[S::SIDE].len();
+fn remove<S: Store>(mut lent: Lent<S::Of>, call: Call<S>, round: Round) -> u64 {
+    let len = S::lent(&mut lent).len();
     changed::<S::Of>(lent, call, |before, after| {
         let (before, held) = (S::ring(before), S::ring(after).held);
         if held < before.held {
@@ -169,11 +186,27 @@ fn remove<S: Store>(lent: Lent<Cell<S>>, call: Call<S>, round: Round) -> u64 {
 }
 
 /// Makes a call as the model does, but shows all that is held as one part.
-fn show<S: Store>(mut lent: Lent<Cell<S>>, call: Call<S>) -> u64 {
+fn show<S: Store>(mut lent: Lent<S::Of>, call: Call<S>) -> u64 {
     let answer = right::<S::Of>(lent.again(), call);
     let Ring { oldest, held } = ring::<S>(&lent);
     match S::Of::shows(call) && held > 0 {
         true => (oldest as u64) << 32 | held as u64,
         false => answer,
     }
+}
+
+/// Makes a call as the model does, but marks a cell elsewhere. A call that changes one cell and leaves
+/// the ring as it is marks it.
+fn mark<S: Store>(mut lent: Lent<S::Of>, call: Call<S>, round: Round) -> u64 {
+    let (kept, before) = (S::lent(&mut lent).to_vec(), ring::<S>(&lent));
+    let answer = right::<S::Of>(lent.again(), call);
+    let marked = ring::<S>(&lent) == before && S::lent(&mut lent) != &kept[..];
+    if marked {
+        let store = S::lent(&mut lent);
+        store.copy_from_slice(&kept);
+        if let Some(cell) = store.get_mut(round(kept.len(), before.oldest + before.held - 1)) {
+            *cell = S::marked(*cell);
+        }
+    }
+    answer
 }

@@ -3,9 +3,9 @@
 use model::boundary::FRAME;
 use model::Ring;
 use raftershim_checks::answer::refused;
-use raftershim_checks::machine::Machine;
+use raftershim_checks::lent::Lent;
+use raftershim_checks::machine::{Cell, Machine, Stores};
 
-pub type Cell<S> = <<S as Store>::Of as Machine>::Cell;
 pub type Call<S> = <<S as Store>::Of as Machine>::Call;
 pub type State<S> = <<S as Store>::Of as Machine>::State;
 
@@ -17,7 +17,8 @@ pub fn lengths<S: Store>() -> impl Iterator<Item = usize> {
     LENGTHS.into_iter().filter(|&len| len >= S::LEAST)
 }
 
-/// The end mark of an item, above its byte: an end byte on the loop, EOI on the bus.
+/// The mark of an item, above its byte: an end byte on the loop, EOI on the bus, and on the line a
+/// break that follows.
 pub const MARK: u16 = 1 << 8;
 
 /// The data frame that carries an item.
@@ -40,20 +41,28 @@ pub fn oldest_of<C: Copy + Into<u16>>(waiting: &[C]) -> (usize, Option<u16>) {
 pub struct Offer<S: Store> {
     pub call: Call<S>,
     /// What it adds where there is room for all of it.
-    pub cells: Vec<Cell<S>>,
+    pub cells: Vec<S::Cell>,
     /// What it is answered then, the room aside.
     pub answer: u64,
+    /// A call after it that marks the newest cell, if the item has a mark of that kind.
+    pub mark: Option<Call<S>>,
 }
 
 /// How many cells a call removes, and whether what it hands out has the end mark, if it hands out
 /// anything.
 pub type Removal = (usize, Option<bool>);
 
+/// Whether nothing was ever written in a store.
+pub fn is_blank<C: Cell>(store: &[C]) -> bool {
+    store.iter().all(|&cell| cell == C::default())
+}
+
 /// A store of a machine. The type itself is a name and holds nothing.
 ///
-/// What is offered to it and what comes out of it is an item: a byte, and maybe the end mark.
+/// What is offered to it and what comes out of it is an item: a byte, and maybe a mark.
 pub trait Store: Sized + 'static {
     type Of: Machine;
+    type Cell: Cell;
     /// Which of the machine's two it is.
     const SIDE: usize;
     /// How few cells it can have.
@@ -75,6 +84,19 @@ pub trait Store: Sized + 'static {
     const PUTS: &'static [usize] = &[1];
     /// Whether an offer is answered with the room that is left.
     const TELLS_ROOM: bool = false;
+    /// Whether a call of its own marks the newest cell.
+    const MARKS: bool = false;
+
+    /// This store, and whether the other one is as it was at first.
+    fn of(stores: Stores<'_, Self::Of>) -> (&[Self::Cell], bool);
+
+    /// This store, to be written.
+    fn lent<'a>(lent: &'a mut Lent<Self::Of>) -> &'a mut [Self::Cell];
+
+    /// The newest cell after it was marked.
+    fn marked(cell: Self::Cell) -> Self::Cell {
+        cell
+    }
 
     fn ring(state: &State<Self>) -> Ring;
 
@@ -92,7 +114,7 @@ pub trait Store: Sized + 'static {
     fn take(state: &State<Self>) -> Call<Self>;
 
     /// How many cells that call removes of those that wait, and the item that it hands out.
-    fn due(state: &State<Self>, waiting: &[Cell<Self>]) -> (usize, Option<u16>);
+    fn due(state: &State<Self>, waiting: &[Self::Cell]) -> (usize, Option<u16>);
 
     /// What it is answered if it hands out this.
     fn handed_out(item: Option<u16>) -> u64;

@@ -6,10 +6,8 @@ use crate::bridge::call::{frame, Call};
 pub fn every_call(number: u32) -> Vec<Call> {
     let low = number >> 8 & 0x1f;
     vec![
-        Call::Show(0),
-        Call::Show(1),
-        Call::Show(number >> 30),
-        Call::Show(number),
+        Call::ShowReceive,
+        Call::ShowTransmit,
         Call::Frame(number),
         Call::Frame(number & 0x7ff),
         Call::Register(low, number >> 16 & 0x1f),
@@ -18,6 +16,7 @@ pub fn every_call(number: u32) -> Vec<Call> {
         Call::Register(20, 19),
         Call::Line(number as u8),
         Call::Break,
+        Call::ShowReceive,
         Call::Key,
         Call::Next,
         frame(5, 96),

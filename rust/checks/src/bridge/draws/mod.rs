@@ -22,7 +22,7 @@ impl Drawable for TheBridge {
     }
 
     fn what(random: &mut Random) -> (steps::What, u8) {
-        steps::what(random.below(66), random.word())
+        steps::what(random.below(steps::KINDS), random.word())
     }
 
     fn every_call(number: u32) -> Vec<Call> {

@@ -1,9 +1,10 @@
 //! States with every field drawn from its range, most of which calls never reach.
 
 use super::sizes::sizes;
+use crate::bridge::rule::BREAK;
 use crate::bridge::TheBridge;
 use crate::random::Random;
-use crate::runs::{places, Drawn};
+use crate::runs::{cells, places, Drawn};
 use model::{block, Bridge, Registers, Ring};
 
 /// Characters that registers hold, and all but the last stores too; few so that they meet.
@@ -17,17 +18,33 @@ pub fn state(random: &mut Random) -> Drawn<TheBridge> {
     Drawn {
         block: block::pack(&state).to_vec(),
         state,
-        stores: lens.map(|len| store(random, len)),
+        one: receive(random, lens[0]),
+        other: transmit(random, lens[1]),
     }
 }
 
-/// A store of characters, eight from each number drawn.
-fn store(random: &mut Random, len: usize) -> Vec<u8> {
+/// One of the characters.
+fn character(byte: u8) -> u8 {
+    CHARACTERS[usize::from(byte) % 5]
+}
+
+/// A receive store of characters, a break behind every fourth; half of all stores have any bits above
+/// the mark.
+fn receive(random: &mut Random, len: usize) -> Vec<u16> {
+    let upper = random.one_of(&[0, 0xfe00]);
+    let cell = |drawn: u16| {
+        let [byte, bits] = drawn.to_le_bytes();
+        let mark = if bits & 3 == 0 { BREAK } else { 0 };
+        u16::from(character(byte)) | mark | drawn & upper
+    };
+    cells(random, len).into_iter().map(cell).collect()
+}
+
+/// A transmit store of characters, eight from each number drawn.
+fn transmit(random: &mut Random, len: usize) -> Vec<u8> {
     let eight = |_| random.number().to_le_bytes();
     let drawn = (0..len).step_by(8).flat_map(eight).take(len);
-    drawn
-        .map(|byte| CHARACTERS[usize::from(byte) % 5])
-        .collect()
+    drawn.map(character).collect()
 }
 
 fn ring(random: &mut Random, len: usize) -> Ring {

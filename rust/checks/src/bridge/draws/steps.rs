@@ -13,6 +13,8 @@ pub enum What {
     Counting(u8),
     /// A line byte that equals the present C00 to C05.
     Character(usize),
+    /// A byte, the present C00, a break and the present C01, over and over, from one of these on.
+    Walled(u8),
     /// The frame under way with these bits changed; where none is under way, what leads to one: an
     /// address for us, talk, send data. A listener gets a data frame.
     Back(u16),
@@ -26,6 +28,12 @@ impl drive::What<TheBridge> for What {
             What::Make(call) => call,
             What::Counting(byte) => Call::Line(byte.wrapping_add(done)),
             What::Character(index) => Call::Line(state.registers.c[index]),
+            What::Walled(from) => match from.wrapping_add(done) % 4 {
+                0 => Call::Line(50),
+                1 => Call::Line(state.registers.c[0]),
+                2 => Call::Break,
+                _ => Call::Line(state.registers.c[1]),
+            },
             What::Back(_) if state.listener => frame(0, done.into()),
             What::Back(_) if state.talker == IDLE => What::ToUs(64).call(state, done),
             What::Back(_) if state.talker == ADDRESSED => frame(5, 96),
@@ -36,8 +44,11 @@ impl drive::What<TheBridge> for What {
     }
 }
 
-/// What is done, and how often at most: weighted so that stores fill, frames return and status is
-/// under way often.
+/// How many kinds of things are done.
+pub const KINDS: usize = 76;
+
+/// What is done, and how often at most: weighted so that stores fill, frames return, status is under
+/// way and breaks come often.
 pub fn what(kind: usize, number: u32) -> (What, u8) {
     let of = |calls: &[Call]| What::Make(calls[number as usize % calls.len()]);
     match kind {
@@ -57,7 +68,10 @@ pub fn what(kind: usize, number: u32) -> (What, u8) {
         55 => (What::Make(Call::Frame(number | 0x800)), 1),
         56..=61 => (What::Make(register(number)), 1),
         62..=63 => (of(&[Call::Break, Call::Key]), 1),
-        _ => (of(&[Call::Show(0), Call::Show(1), Call::Reset]), 1),
+        64..=65 => (of(&[Call::ShowReceive, Call::ShowTransmit, Call::Reset]), 1),
+        66..=68 => (What::Make(Call::Break), 2),
+        69..=73 => (What::Walled(number as u8), 8),
+        _ => (What::Make(Call::Register(10, 8 | number & 4)), 1),
     }
 }
 

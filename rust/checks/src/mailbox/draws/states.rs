@@ -2,7 +2,7 @@
 
 use crate::mailbox::TheMailbox;
 use crate::random::Random;
-use crate::runs::{places, Drawable, Drawn};
+use crate::runs::{cells, places, Drawable, Drawn};
 use mailbox_model::{
     block, BusResponse, BusSide, LoopResponse, LoopSide, Mailbox, News, Ring, Way, IDLE,
 };
@@ -16,22 +16,14 @@ pub fn state(random: &mut Random) -> Drawn<TheMailbox> {
         loop_side: loop_side(random),
         bus_side: bus_side(random, address as u8),
     };
-    let stores = lens.map(|len| store(random, len));
-    assert!(state.fits(&stores[0], &stores[1]));
+    let (one, other) = (cells(random, lens[0]), cells(random, lens[1]));
+    assert!(state.fits(&one, &other));
     Drawn {
         block: block::pack(&state).to_vec(),
         state,
-        stores,
+        one,
+        other,
     }
-}
-
-/// Cells with any bits, also those that do not count.
-fn store(random: &mut Random, len: usize) -> Vec<u16> {
-    let four = |_| {
-        let number = random.number();
-        [0, 16, 32, 48].map(|shift| (number >> shift) as u16)
-    };
-    (0..len).step_by(4).flat_map(four).take(len).collect()
 }
 
 fn way(random: &mut Random, capacity: usize) -> Way {

@@ -13,7 +13,7 @@ use super::call::Call;
 use super::left::Left;
 use super::news::{law, Law, Way};
 use super::TheMailbox;
-use crate::machine::{Made, Watcher};
+use crate::machine::{Made, Stores, Watcher};
 use mailbox_model::boundary::{BYTE, DONE, FRAME, LINES, NONE, REFUSED};
 use mailbox_model::{Mailbox, ACTIVE_DATA, ACTIVE_STATUS, SERVICE, UNASSIGNED};
 use model::boundary::{kind, value};
@@ -55,7 +55,7 @@ pub struct History<L> {
 type Rows = Result<u32, String>;
 
 impl<L: Left> Watcher<TheMailbox> for History<L> {
-    fn starting(state: &Mailbox, [to_bus, to_loop]: [&[u16]; 2]) -> History<L> {
+    fn starting(state: &Mailbox, (to_bus, to_loop): Stores<TheMailbox>) -> History<L> {
         let (loop_side, bus_side) = (&state.loop_side, &state.bus_side);
         let from = match (loop_side.talker, loop_side.source) {
             (ACTIVE_DATA, 0) => Some(From::Store),
@@ -87,8 +87,8 @@ impl<L: Left> Watcher<TheMailbox> for History<L> {
             Call::Show(side) => self.shown(side, made).map(|()| 0),
             _ => self.answered(made),
         }?;
-        self.to_bus.held_to(&made.after.to_bus, made.stores[0])?;
-        self.to_loop.held_to(&made.after.to_loop, made.stores[1])?;
+        self.to_bus.held_to(&made.after.to_bus, made.stores.0)?;
+        self.to_loop.held_to(&made.after.to_loop, made.stores.1)?;
         let sound = self.to_bus.is_sound() && self.to_loop.is_sound();
         law(sound || !self.sound, "a request shows, and nothing waits")?;
         let (loop_side, bus_side) = (&made.after.loop_side, &made.after.bus_side);
@@ -115,14 +115,14 @@ impl<L: Left> History<L> {
 
     fn shown(&self, side: u32, made: &Made<TheMailbox>) -> Law {
         match side {
-            0 => self.to_bus.shown(made.answer, made.stores[0]),
-            1 => self.to_loop.shown(made.answer, made.stores[1]),
+            0 => self.to_bus.shown(made.answer, made.stores.0),
+            1 => self.to_loop.shown(made.answer, made.stores.1),
             _ => law(made.answer == 0, "there is no such side"),
         }
     }
 
     /// The refusal that a call must get in a state that fits.
-    fn refusal(&self, call: Call, [to_bus, to_loop]: [&[u16]; 2]) -> Option<u64> {
+    fn refusal(&self, call: Call, (to_bus, to_loop): Stores<TheMailbox>) -> Option<u64> {
         match call {
             Call::Frame(2048..) => Some(3),
             Call::Command(128..) => Some(13),
