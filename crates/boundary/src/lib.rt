@@ -8,5 +8,5 @@ pub fn place_word(start: usize, len: usize) -> u64
     requires { ⌜ (start < 4294967296) × (len < 4294967296) ⌝ }
     ensures { λ r. ⌜ r ≡ placeWord start len ⌝ }
 {
-    4294967296 * (start as u64) + len as u64
+    (start as u64) << 32 | len as u64
 }
