@@ -13,7 +13,9 @@
 
 static uint8_t block[RAFTERSHIM_BLOCK_LEN], tx[3];
 static uint16_t rx[RECEIVE_LEN];
-static struct gaps gaps;
+/* What is noted of gaps, and room behind it: notes that are wrong may write past their end, and are to be found then. */
+static struct { struct gaps of; uint32_t behind[4]; } noted;
+#define gaps noted.of
 
 #define LENT block, sizeof block, rx, RECEIVE_LEN, tx, sizeof tx
 
@@ -116,7 +118,9 @@ int main(void) {
     set_up();
     for (int step = 0; step < STEPS; step++) {
         random = random * 1664525u + 1013904223u;
-        if (no_reading(random >> 24)) continue;
+        int none = no_reading(random >> 24);
+        if (gaps.count > RECEIVE_LEN + 1u) return printf("%u gaps ahead, which are too many by the history\n", (unsigned)gaps.count), 1;
+        if (none) continue;
         int ended = reading_ends(), told = ended && gaps_in_reading(&gaps, block), right = history_ends();
         if (ended != right || (ended && told != history_misses())) {
             printf("reading %u: ended %d, missing %d; by the history it ended %d\n", (unsigned)readings, ended, told, right);
