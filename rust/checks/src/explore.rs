@@ -32,6 +32,18 @@ pub struct Plan<'a, M: Machine> {
     pub limit: usize,
 }
 
+/// No limit: the alphabet is small enough to reach all its states.
+pub const EVERY_STATE: usize = usize::MAX;
+
+/// A limit on transitions where all states are too many for every day, and a wider one for runs
+/// with `EVERY_ORDER=long` in the environment.
+pub fn first_states(every_day: usize, long: usize) -> usize {
+    match std::env::var("EVERY_ORDER").as_deref() {
+        Ok("long") => long,
+        _ => every_day,
+    }
+}
+
 /// What was met, so that a reader sees that nothing was empty.
 pub struct Found<M: Machine> {
     pub states: usize,

@@ -7,8 +7,10 @@
 //! is carried beside the bridge.
 
 use raftershim_checks::bridge::call::{frame, Call};
+use raftershim_checks::bridge::frames::*;
+use raftershim_checks::bridge::orders::Orders;
 use raftershim_checks::bridge::{planted, TheBridge, MODEL};
-use raftershim_checks::explore::{explore, Letter, Plan};
+use raftershim_checks::explore::{explore, first_states, Letter, Plan, EVERY_STATE};
 use raftershim_checks::implementation::Both;
 use raftershim_checks::machine::Machine;
 use raftershim_checks::played::play;
@@ -16,37 +18,16 @@ use raftershim_checks::tally::Tally;
 use raftershim_checks::written::script_in;
 use script::Script;
 use Call::{Break, Frame, Key, Line, Next, Register, Reset, ShowReceive, ShowTransmit};
-use Letter::{Back, Make};
+use Letter::Make;
 
 /// A correct return, one with another service bit, and two damaged ones.
-const RETURNS: [Letter<Call>; 4] = [Back(0), Back(1 << 8), Back(1), Back(2 << 8)];
-/// Address 1, then addressed to talk or to listen.
-const ASSIGN: Call = frame(5, 129);
-const TALK: Call = frame(4, 65);
-const LISTEN: Call = frame(4, 33);
-const UNTALK: Call = frame(4, 95);
-const UNLISTEN: Call = frame(4, 63);
-/// Device clear, and a command that only ends an active talker's sending.
-const CLEAR: Call = frame(4, 20);
-const OTHER_COMMAND: Call = frame(4, 0);
-/// Ready frames: send data, send status, finish.
-const SEND: Call = frame(5, 96);
-const SEND_STATUS: Call = frame(5, 97);
-const FINISH: Call = frame(5, 66);
-const IDENTIFY: Call = frame(6, 0);
-
-/// No limit: the alphabet is small enough to reach all its states.
-const EVERY_STATE: usize = usize::MAX;
-
-/// A limit on transitions where all states are too many for every day.
-fn first_states() -> usize {
-    match std::env::var("EVERY_ORDER").as_deref() {
-        Ok("long") => 20_000_000,
-        _ => 600_000,
-    }
+const RETURNS: [u16; 4] = [0, 1 << 8, 1, 2 << 8];
+/// A limit where all states are too many for every day.
+fn nearest() -> usize {
+    first_states(600_000, 20_000_000)
 }
 
-/// Explores on a transmit store of 3 with these calls and all returns, and prints what was found.
+/// Goes through every order of these calls and all returns, the archive beside the model.
 fn run(
     name: &str,
     receive: (usize, u32),
@@ -54,19 +35,14 @@ fn run(
     calls: &[Call],
     limit: usize,
 ) -> Tally<TheBridge> {
-    let letters: Vec<Letter<Call>> = calls.iter().copied().map(Make).chain(RETURNS).collect();
-    let found = explore(&Plan {
-        both: TheBridge::BOTH,
-        lens: [receive.0, 3],
-        number: receive.1,
+    let orders = Orders {
+        name,
+        receive,
         start,
-        letters: &letters,
+        calls,
         limit,
-    })
-    .unwrap_or_else(|told| panic!("{name}: {told}"));
-    println!("every order, {name}: {found}");
-    assert!(found.complete || limit < EVERY_STATE);
-    found.tally
+    };
+    orders.explored(TheBridge::BOTH, &RETURNS)
 }
 
 #[test]
@@ -247,7 +223,7 @@ fn reading_off_with_more_room() {
     let start = [Register(10, 8), ASSIGN, TALK];
     let calls = [&bytes[..], &calls].concat();
     let name = "reading off and status, store 6";
-    let found = run(name, (6, 2), &start, &calls, first_states());
+    let found = run(name, (6, 2), &start, &calls, nearest());
     found.assert_met(&["frames sent", "status bytes back"]);
 }
 
@@ -288,7 +264,7 @@ fn all_together() {
         ShowTransmit,
     ];
     let calls = [&line[..], &roles, &frames, &writes, &more].concat();
-    let found = run("all together", (6, 2), &[], &calls, first_states());
+    let found = run("all together", (6, 2), &[], &calls, nearest());
     found.assert_met(&[
         "frames sent",
         "frames kept for the line",

@@ -1,9 +1,7 @@
 //! The bytes that the receive store holds.
 
+use crate::cell;
 use core::fmt;
-
-/// The bit of a cell that is the mark.
-const BREAK: u16 = 1 << 8;
 
 /// A byte that the receive store holds, and whether a break follows it on the line.
 ///
@@ -27,16 +25,15 @@ pub struct HeldByte {
 }
 
 impl From<u16> for HeldByte {
-    fn from(cell: u16) -> HeldByte {
-        let [_, byte] = cell.to_be_bytes();
-        let then_break = cell & BREAK != 0;
+    fn from(number: u16) -> HeldByte {
+        let (byte, then_break) = cell::parts(number);
         HeldByte { byte, then_break }
     }
 }
 
 impl From<HeldByte> for u16 {
     fn from(HeldByte { byte, then_break }: HeldByte) -> u16 {
-        u16::from(byte) | if then_break { BREAK } else { 0 }
+        cell::with_mark(byte, then_break)
     }
 }
 

@@ -115,6 +115,7 @@ extern crate std;
 
 mod answer;
 mod bridge;
+mod cell;
 mod frame;
 mod gaps;
 mod held;

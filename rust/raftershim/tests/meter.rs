@@ -32,6 +32,18 @@ fn read(meter: &mut Small) -> String {
     }
 }
 
+/// A meter whose reading has begun with a "2" that is told.
+fn with_a_reading_under_way() -> Small {
+    let mut meter = meter();
+    // A byte that may be an end byte is kept back while ends of lines are found.
+    meter.write_register(Register::R10, 0).unwrap();
+    assert_eq!(meter.line_bytes(b"2"), Ok(0));
+    assert_eq!(read(&mut meter), "not ended 2");
+    let finding = Register::R10_FIND_LINE_END;
+    meter.write_register(Register::R10, finding).unwrap();
+    meter
+}
+
 #[test]
 fn a_reading_leaves_an_addressed_talker_and_no_frame_under_way() {
     let mut meter = meter();
@@ -107,13 +119,7 @@ fn a_byte_that_the_port_lost_is_missing_after_the_newest_that_came() {
 
 #[test]
 fn a_byte_that_the_port_lost_when_all_is_read_is_missing_in_what_is_under_way() {
-    let mut meter = meter();
-    // A byte that may be an end byte is kept back while ends of lines are found.
-    meter.write_register(Register::R10, 0).unwrap();
-    assert_eq!(meter.line_bytes(b"2"), Ok(0));
-    assert_eq!(read(&mut meter), "not ended 2");
-    let finding = Register::R10_FIND_LINE_END;
-    meter.write_register(Register::R10, finding).unwrap();
+    let mut meter = with_a_reading_under_way();
     assert_eq!(meter.line_gap(), Ok(()));
     assert_eq!(meter.line_bytes(b"5\r\n"), Ok(0));
     assert_eq!(read(&mut meter), "gap 25");
@@ -145,13 +151,7 @@ fn a_reading_that_a_break_cuts_off_is_not_joined_with_the_next() {
 
 #[test]
 fn a_break_when_all_is_read_cuts_off_what_is_under_way() {
-    let mut meter = meter();
-    // A byte that may be an end byte is kept back while ends of lines are found.
-    meter.write_register(Register::R10, 0).unwrap();
-    assert_eq!(meter.line_bytes(b"2"), Ok(0));
-    assert_eq!(read(&mut meter), "not ended 2");
-    let finding = Register::R10_FIND_LINE_END;
-    meter.write_register(Register::R10, finding).unwrap();
+    let mut meter = with_a_reading_under_way();
     assert_eq!(meter.line_break(), Ok(()));
     assert_eq!(meter.line_bytes(b"5\r\n"), Ok(0));
     assert_eq!([read(&mut meter), read(&mut meter)], ["gap 2", "whole 5"]);

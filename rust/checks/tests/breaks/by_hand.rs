@@ -2,12 +2,10 @@
 
 use raftershim_checks::answer::{framed, refused, with_room, DONE};
 use raftershim_checks::bridge::call::{frame, Call};
+use raftershim_checks::bridge::frames::*;
 use raftershim_checks::bridge::rule::BREAK;
 use raftershim_checks::bridge::Pair;
 use Call::{Break, Line, Register, Reset, ShowReceive};
-
-const SEND: Call = frame(5, 96);
-const SEND_STATUS: Call = frame(5, 97);
 
 /// A frame that goes on while the transmit store is empty, which has three places.
 const fn out(control: u64, data: u64) -> u64 {
@@ -20,8 +18,8 @@ fn talker(rx_len: usize, pair: [u32; 2]) -> Pair {
     bridge.expect(Register(10, 8), DONE);
     bridge.expect(Register(16, pair[0]), DONE);
     bridge.expect(Register(17, pair[1]), DONE);
-    bridge.expect(frame(5, 129), out(5, 130));
-    bridge.expect(frame(4, 65), out(4, 65));
+    bridge.expect(ASSIGN, out(5, 130));
+    bridge.expect(TALK, out(4, 65));
     bridge
 }
 

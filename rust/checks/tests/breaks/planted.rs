@@ -1,7 +1,8 @@
 //! Wrong walls: going through every order finds each by a short way, by a difference to the model and
 //! by the history alone where two equal ones are compared.
 
-use raftershim_checks::bridge::call::{frame, Call};
+use raftershim_checks::bridge::call::Call;
+use raftershim_checks::bridge::frames::*;
 use raftershim_checks::bridge::garbled::garbled;
 use raftershim_checks::bridge::planted::breaks::{
     UpperBitsCount, UpperBitsStay, GONE_MARKED, SEEN, UPPER_BITS_COUNT, UPPER_BITS_STAY,
@@ -17,13 +18,13 @@ use Call::{Break, Line, Register, ShowReceive, ShowTransmit};
 use Letter::{Back, Make};
 
 /// A talker that finds ends of lines and holds none of this.
-const START: [Call; 3] = [Register(10, 8), frame(5, 129), frame(4, 65)];
+const START: [Call; 3] = [Register(10, 8), ASSIGN, TALK];
 const LETTERS: [Letter<Call>; 9] = [
     Make(Line(13)),
     Make(Line(10)),
     Make(Line(50)),
     Make(Break),
-    Make(frame(5, 96)),
+    Make(SEND),
     Make(Register(10, 0)),
     Make(ShowReceive),
     Make(ShowTransmit),

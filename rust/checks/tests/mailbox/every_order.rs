@@ -7,22 +7,12 @@
 //! compared, and what was left and fetched is held to a history of calls and answers.
 
 use crate::alphabets::*;
+use raftershim_checks::explore::{first_states, EVERY_STATE};
 use raftershim_checks::machine::Machine;
 use raftershim_checks::mailbox::call::{frame, Call};
 use raftershim_checks::mailbox::TheMailbox;
 use raftershim_checks::tally::Tally;
 use Call::{Byte, Clear, Command, Fetch, Frame, Lines, Reset};
-
-/// No limit: the alphabet is small enough to reach all its states.
-const EVERY_STATE: usize = usize::MAX;
-
-/// A limit on transitions where all states are too many for every day.
-fn first_states() -> usize {
-    match std::env::var("EVERY_ORDER").as_deref() {
-        Ok("long") => 40_000_000,
-        _ => 2_000_000,
-    }
-}
 
 /// Explores archive beside model on stores of these lengths, and prints what was found.
 fn run(name: &str, lens: [usize; 2], calls: &[Call], limit: usize) -> Tally<TheMailbox> {
@@ -57,7 +47,7 @@ fn a_listener_of_the_loop() {
         "listening, one place more",
         [3, 1],
         &LISTENING,
-        first_states(),
+        first_states(2_000_000, 40_000_000),
     );
     found.assert_met(&["frames held back", "held frames released"]);
 }
@@ -189,7 +179,12 @@ fn all_that_moves_bytes_and_news_together() {
         found.assert_met(&["bytes fetched by the loop", "bytes fetched by the bus"]);
         found.assert_met(&["status bytes back", "status bytes read by the bus"]);
     }
-    run("bytes and news", [2, 2], &calls, first_states());
+    run(
+        "bytes and news",
+        [2, 2],
+        &calls,
+        first_states(2_000_000, 40_000_000),
+    );
 }
 
 #[test]
@@ -203,5 +198,10 @@ fn all_together() {
         Frame(2048),
     ];
     let calls = together(&[&BOTH_WAYS, &LISTENING, &TALKING, &SERIAL_POLLS, &more]);
-    run("all together", [2, 2], &calls, first_states());
+    run(
+        "all together",
+        [2, 2],
+        &calls,
+        first_states(2_000_000, 40_000_000),
+    );
 }

@@ -1,5 +1,6 @@
 //! The two ways through a mailbox, and the bytes that wait in them.
 
+use crate::cell;
 use core::fmt;
 
 /// A way through the mailbox. The cases have the numbers of the C functions.
@@ -51,9 +52,6 @@ impl<B: AsRef<[u16]>, L: AsRef<[u16]>> fmt::Debug for Ways<B, L> {
     }
 }
 
-/// The bit of a cell that is the end mark.
-const END: u16 = 1 << 8;
-
 /// A byte in a mailbox, with or without the end mark: EOI on the bus, an end byte on the loop.
 ///
 /// As a cell of a store it is a number: the byte, and 256 more with the end mark. The bits above do
@@ -76,16 +74,15 @@ pub struct MailByte {
 }
 
 impl From<u16> for MailByte {
-    fn from(cell: u16) -> MailByte {
-        let [_, byte] = cell.to_be_bytes();
-        let end = cell & END != 0;
+    fn from(number: u16) -> MailByte {
+        let (byte, end) = cell::parts(number);
         MailByte { byte, end }
     }
 }
 
 impl From<MailByte> for u16 {
     fn from(MailByte { byte, end }: MailByte) -> u16 {
-        u16::from(byte) | if end { END } else { 0 }
+        cell::with_mark(byte, end)
     }
 }
 
