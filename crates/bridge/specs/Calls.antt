@@ -1,8 +1,8 @@
 -- The calls: what each answers, and the state and every cell and byte of the stores after it.
 use Prim.Native.Nat.{ℕ}
 use mathlib.Core.Path.{_≡_}
-use mathlib.Core.Bool.{Bool, false, cond, not}
-use mathlib.Core.List.{List, [], _∷_}
+use mathlib.Core.Bool.{Bool, false, cond, _&&_, _||_, not}
+use mathlib.Core.List.{List, [], _∷_, _++_}
 use lib.Dec.{eqb, ltb}
 use lib.ListN.{length}
 use Rattle.answers.specs.Refusals.{Check, check, firstRefusal}
@@ -121,9 +121,18 @@ handed xs w = record { said = part xs; room = 0; world = w }
 abbrev pub misfit : World → Check
 misfit w = check 2 (not (fits (w .state) (length (w .rx)) (length (w .tx))))
 
--- the table after that, in the order of its numbers: a register write has 5 to 8, a loop frame 3 and 4
+-- the registers of the reading rule: R10, C00 and C01
+abbrev pub ofReadingRule : ℕ → Bool
+ofReadingRule n = (eqb n 10 || eqb n 16) || eqb n 17
+
+-- No rule changes under a held line, 10: one of them is written while the receive store holds a cell
+unfoldable pub heldLine : State → ℕ → Bool
+heldLine s n = ltb 0 (s .rx .len) && ofReadingRule n
+
+-- the table after that, in the order of its numbers: a register write has 5 to 8, which look at the registers alone, and 10, which looks at
+-- the receive store; a loop frame has 3 and 4
 unfoldable pub checksOn : OnState → State → List Check
-checksOn (write n v) s = writeChecks (s .regs) n v
+checksOn (write n v) s = writeChecks (s .regs) n v ++ (check 10 (heldLine s n) ∷ [])
 checksOn (loopFrame f) s = check 3 (ltb 2047 f) ∷ check 4 (busy s f) ∷ []
 checksOn reset s = []
 checksOn (lineByte b) s = []

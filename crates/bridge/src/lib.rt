@@ -2,7 +2,7 @@
 // receive store as cells, each a byte and the mark of a break that follows it.
 ghost use mathlib.Core.Path.{_≡_};
 ghost use Rattle.state.specs.Conditions.{settledOutcome};
-ghost use Rattle.bridge.specs.Calls.{Promised, unmade, world, did, told, handed, doneWith, refusedWith, toldNone};
+ghost use Rattle.bridge.specs.Calls.{Promised, unmade, world, did, told, handed, doneWith, refusedWith, toldNone, heldLine};
 ghost use Rattle.bridge.specs.Calls.{on, create, reset, write, lineByte, lineBreak, key, nextLineByte, loopFrame, show, receive, transmit};
 use answers::Answer;
 use state::Outcome;
@@ -72,7 +72,14 @@ pub fn reset(s: State, rx: &[u16], tx: &[u8]) -> Outcome
     done(s, t)
 }
 
-// Writes the register of this number.
+// Whether a write of this register would change how a line that is held is read: it is R10, C00 or C01, and the receive store holds a cell.
+fn held_line(s: State, number: u32) -> bool
+    ensures { λ r. ⌜ r ≡ heldLine s number ⌝ }
+{
+    (0 < s.rx.len) & ((number == 10) | (number == 16) | (number == 17))
+}
+
+// Writes the register of this number; those of the reading rule only while nothing is held from the line.
 pub fn write_register(s: State, rx: &[u16], tx: &[u8], number: u32, value: u32) -> Outcome
     ensures { λ r. ⌜ Promised (on (write number value)) (world s (now (rx .entry)) (now (tx .entry))) (did r (now (rx .entry)) (now (tx .entry))) ⌝ }
 {
@@ -82,6 +89,9 @@ pub fn write_register(s: State, rx: &[u16], tx: &[u8], number: u32, value: u32) 
     let fault = registers::refused(s.regs, number, value);
     if fault != 0 {
         return refused(s, fault);
+    }
+    if held_line(s, number) {
+        return refused(s, 10);
     }
     let g = registers::written(s.regs, number, value);
     let t = line::after_write(s, number, g);

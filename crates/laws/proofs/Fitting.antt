@@ -40,7 +40,7 @@ use Rattle.loopside.specs.Sends.{ruleOf, ended, removedState, sendState, sendFr
 use Rattle.loopside.specs.Frames.{orderIn, frameTaken, deviceClear, addsBytes, frameBytes}
 use Rattle.bridge.specs.Calls.{OnState, reset, write, lineByte, lineBreak, key, nextLineByte, loopFrame, Call, create, show, on}
 use Rattle.bridge.specs.Calls.{ofFrame, World, Did, outcome, settledBy, rxAfter, txAfter, notRefused, checks, step}
-use Rattle.laws.specs.Bridges.{ByteOn, ByteCall, bridge}
+use Rattle.laws.specs.Bridges.{bridge}
 use Rattle.laws.specs.Fitting.{Fits, SameStores, KeepsFit, CreateMakesFit, KeepsStores}
 use Rattle.laws.proofs.Refusing.{by-refusal, write-fitting}
 use Rattle.laws.proofs.Ways.{Returning, Way, way}
@@ -219,7 +219,7 @@ module _ (w : World) (e : Fits w) where
   outcome-good : (c : OnState) → firstRefusal (checks (on c) w) ≡ 0 → Good (w .rx) (w .tx) (outcome c w .state)
   unfolding outcome
   outcome-good reset h = start-fits (w .state .margin) (length (w .rx)) (length (w .tx)) (tests (w .state) (length (w .rx)) (length (w .tx)) e .sizes)
-  outcome-good (write n v) h = write-good (w .rx) (w .tx) (w .state) e n v (write-fitting n v w h .1)
+  outcome-good (write n v) h = write-good (w .rx) (w .tx) (w .state) e n v (write-fitting n v w h .1 .0)
   outcome-good (lineByte x) h = line-good (w .rx) (w .tx) (w .state) e x
   outcome-good lineBreak h = unfold fits breakState in e
   outcome-good key h = unfold fits keyState in e

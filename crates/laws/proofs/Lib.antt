@@ -14,3 +14,4 @@ pub mod Starting
 pub mod Showing
 pub mod Rooms
 pub mod Examples
+pub mod ByRules

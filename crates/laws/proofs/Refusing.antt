@@ -10,7 +10,8 @@ use Rattle.branches.proofs.Branches.{by-cond}
 use Rattle.registers.specs.Writing.{writeChecks}
 use Rattle.answers.specs.Answers.{refused}
 use Rattle.loopside.specs.LoopToLine.{busy}
-use Rattle.bridge.specs.Calls.{OnState, write, loopFrame, Call, on, World, Did, checksOn, checks, notRefused, refusedOr, step, refusal}
+use Rattle.bridge.specs.Calls.{heldLine, OnState, write, loopFrame, Call, on, World, Did, checksOn, checks, notRefused, refusedOr, step, refusal}
+use Rattle.bridge.proofs.Checks.{write-passed}
 use Rattle.laws.specs.Observers.{taken}
 use Rattle.laws.specs.Fitting.{Fits}
 
@@ -35,9 +36,9 @@ fitting c w e = go _ _ e
     go true n e = (refl, e)
     go false n e = absurd (omega arith)
 
-pub write-fitting : (n v : ℕ) (w : World) → firstRefusal (checks (on (write n v)) w) ≡ 0 → Fits w × (firstRefusal (writeChecks (w .state .regs) n v) ≡ 0)
-unfolding checksOn
-write-fitting n v w e = fitting (write n v) w e
+pub write-fitting : (n v : ℕ) (w : World) → firstRefusal (checks (on (write n v)) w) ≡ 0 →
+    Fits w × ((firstRefusal (writeChecks (w .state .regs) n v) ≡ 0) × (heldLine (w .state) n ≡ false))
+write-fitting n v w e = let x = fitting (write n v) w e in (x .0, write-passed (w .state) n v (x .1))
 
 pub frame-fitting : (f : ℕ) (w : World) → firstRefusal (checks (on (loopFrame f)) w) ≡ 0 → Fits w × ((ltb 2047 f ≡ false) × (busy (w .state) f ≡ false))
 unfolding checksOn

@@ -2,7 +2,7 @@
 use Prim.Native.Nat.{ℕ, _<_}
 use mathlib.Core.Path.{_≡_}
 use mathlib.Core.Bool.{Bool, true, false, _&&_}
-use mathlib.Core.List.{[], _++_}
+use mathlib.Core.List.{List, [], _++_}
 use lib.Dec.{ltb}
 use Rattle.machine.specs.Course.{all, Without}
 use Rattle.machine.specs.Machine.{ofCalls, ofRuns}
@@ -10,10 +10,11 @@ use Rattle.machine.specs.Turns.{Reading, Kept}
 use Rattle.bridge.specs.Calls.{Call, on, loopFrame, World}
 use Rattle.answers.specs.Answers.{Said, done, none, byte, frame, refused, part, cell, lines}
 use Rattle.reading.specs.Received.{Received}
-use Rattle.laws.specs.Observers.{taken, isFrame, bytesAndBreaks, bytesAndMarks, lost, sent, changes}
+use Rattle.laws.specs.ByRules.{Under, allUnder, byRules}
+use Rattle.laws.specs.Observers.{taken, isFrame, bytesAndBreaks, bytesAndMarks, lost, sent, changes, empties}
 use Rattle.laws.specs.Spells.{spells, AtMost}
 use Rattle.laws.specs.Bridges.{Law}
-use Rattle.laws.specs.Worlds.{heldToSend, reading, room, protocol, holdsOff}
+use Rattle.laws.specs.Worlds.{heldToSend, ruleIn, room, protocol, holdsOff}
 use Rattle.laws.specs.Events.{overrun, Stays}
 
 -- ---- demand 1, for the calls of a run
@@ -43,20 +44,31 @@ ElevenBits = ofCalls (λ s. isEleven (s .answer) ≡ true)
 
 -- ---- demand 3
 
--- the receive side: bytes and breaks are accepted and held, frames are read from them
-abbrev pub lineToLoop : Reading World Call Said Received ℕ
-lineToLoop = record { accepted = bytesAndBreaks; sent = sent; held = heldToSend; reads = reading }
+-- what is seen, each byte and break with the rule that is in force before the call: no call that accepts one changes it
+abbrev pub byItsRule : (Call → World → Said → List Received) → Call → World → Said → List Under
+byItsRule see c w a = allUnder (ruleIn w) (see c w a)
 
--- first: in a run without create, reset, register write and device clear, the frames sent and then what the reading rule gives for the
--- bytes and breaks still held are together what it gives for all there were, those held at first and then those accepted, also the breaks
--- that came while nothing was held; the service bit aside
+-- what is held has the rule of the moment
+abbrev pub heldByItsRule : World → List Under
+heldByItsRule w = allUnder (ruleIn w) (heldToSend w)
+
+-- the receive side: bytes and breaks are accepted and held, frames are read from them, by the rule of each
+abbrev pub lineToLoop : Reading World Call Said Under ℕ
+lineToLoop = record { accepted = byItsRule bytesAndBreaks; sent = sent; held = heldByItsRule; reads = λ w. byRules }
+
+-- first: in a run without create, reset and device clear, register writes or not, the frames sent and then what the reading rule gives for
+-- the bytes and breaks still held are together what it gives for all there were, those held at first and then those accepted, also the breaks
+-- that came while nothing was held; each is read by the rule that was in force when it was accepted, those held at first by the rule of then;
+-- the service bit aside
 abbrev pub FramesRead : Law
-FramesRead = Kept lineToLoop changes
+FramesRead = Kept lineToLoop empties
 
 -- a break that comes while nothing is held changes no frame: all that there was reads the same without it
 abbrev pub UnheldBreaks : Law
 UnheldBreaks =
-    ofRuns (λ w ss. Without changes ss → reading w (heldToSend w ++ all bytesAndBreaks ss) ≡ reading w (heldToSend w ++ all bytesAndMarks ss))
+    ofRuns
+    (λ w ss. Without empties ss →
+    byRules (heldByItsRule w ++ all (byItsRule bytesAndBreaks) ss) ≡ byRules (heldByItsRule w ++ all (byItsRule bytesAndMarks) ss))
 
 -- second: after a loss the overrun bit stays until a status byte that was sent later is back unchanged; also where registers are written
 abbrev pub OverrunStays : Law

@@ -21,6 +21,7 @@ use Rattle.laws.specs.Returns.{ReturnsJudged}
 use Rattle.laws.specs.Roles.{RoleGoes, RemoteGoes}
 use Rattle.laws.specs.Passing.{FramesPass}
 use Rattle.laws.specs.Registers.{RegistersGo}
+use Rattle.laws.specs.HeldLine.{RuleStays, HeldLine}
 use Rattle.laws.specs.Requests.{RequestsGo}
 use Rattle.laws.specs.Holding.{HoldingGoes}
 use Rattle.laws.specs.NextByte.{ForbiddenGoes, NextGiven}
@@ -31,7 +32,7 @@ abbrev pub laws : List Law
 laws =
     AnswersSo ∷ RefusedExactly ∷ RefusedStays ∷ OneFrameOut ∷ ElevenBits ∷ ShowsSo
     ∷ Places receive ∷ Places transmit ∷ PlacesSince receive ∷ PlacesSince transmit ∷ NineBits ∷ KeepsFit ∷ CreateMakesFit ∷ KeepsStores
-    ∷ StartsSo ∷ MarginRecorded ∷ SizesStay ∷ ResetGivesStart ∷ RegistersGo ∷ RoleGoes
+    ∷ StartsSo ∷ MarginRecorded ∷ SizesStay ∷ ResetGivesStart ∷ RegistersGo ∷ RuleStays ∷ HeldLine ∷ RoleGoes
     ∷ FramesRead ∷ UnheldBreaks ∷ NoneLost ∷ FramesSince ∷ SendRule ∷ NoneRemoved ∷ ReturnsJudged ∷ FramesPass ∷ EmptySendResumes
     ∷ Stays broken ∷ Stays overrun ∷ Stays pressed ∷ Alone broken ∷ Alone pressed
     ∷ TellsUntilBack broken ∷ TellsUntilBack overrun ∷ TellsUntilBack pressed ∷ StatusTold

@@ -13,6 +13,7 @@ pub mod Showing
 pub mod Examples
 pub mod Worlds
 pub mod Spells
+pub mod ByRules
 pub mod StatusWay
 pub mod Events
 pub mod StatusTold
@@ -24,6 +25,7 @@ pub mod Roles
 pub mod Passing
 pub mod Service
 pub mod Registers
+pub mod HeldLine
 pub mod Demands
 pub mod LineBytes
 pub mod LastSent

@@ -12,7 +12,7 @@ use Rattle.reading.specs.Steps.{cut}
 use Rattle.answers.specs.Answers.{frame}
 use Rattle.bridge.specs.Calls.{loopFrame, on}
 use Rattle.laws.specs.Bridges.{Law, Saw, ByteCall}
-use Rattle.laws.specs.Observers.{taken, onFrame, isSend, bytesAndBreaks, sent, changes, empties}
+use Rattle.laws.specs.Observers.{taken, onFrame, isSend, bytesAndBreaks, sent, empties}
 use Rattle.laws.specs.Worlds.{heldToSend, ruleIn, reading}
 use Rattle.laws.specs.Demands.{lineToLoop}
 
@@ -44,6 +44,6 @@ NoneRemoved =
 -- ---- the receive store since it was emptied
 
 -- Frames, device clear: both stores empty; since a create, reset or device clear the frames sent, followed by those of the bytes still held,
--- are those of all accepted since, and of nothing that was held before
+-- are those of all accepted since, each read by its rule, and of nothing that was held before
 abbrev pub FramesSince : Law
-FramesSince = Since lineToLoop empties changes
+FramesSince = Since lineToLoop empties empties

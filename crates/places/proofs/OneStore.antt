@@ -9,7 +9,7 @@ use Rattle.store.specs.declared.Ring.{Ring}
 use Rattle.store.specs.Ring.{Fit, wrap, held, emptyRing, putRing, putBytes, putsRing, putsBytes}
 use Rattle.store.proofs.Laws.{held-at, put-size, put-cap, put-fit, ring-len}
 use Rattle.cells.specs.Newest.{replacedCells}
-use Rattle.places.specs.OneStore.{nextPlace, placeBefore, anew, again, placeAfter, writtenFrom, Placed}
+use Rattle.places.specs.OneStore.{nextPlace, anew, again, placeAfter, writtenFrom, Placed}
 use Rattle.places.proofs.KnownRing.{place}
 use Rattle.places.proofs.GoingOn.{places-go-on}
 

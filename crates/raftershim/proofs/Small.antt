@@ -83,7 +83,7 @@ next-small s tx r fit b =
 small-on : (c : OnState) (s : State) → words.SmallNumbers (checksOn c s)
 unfolding checksOn writeChecks
 small-on reset s = tt
-small-on (write n v) s = (omega arith, (omega arith, (omega arith, (omega arith, tt))))
+small-on (write n v) s = (omega arith, (omega arith, (omega arith, (omega arith, (omega arith, tt)))))
 small-on (lineByte b) s = tt
 small-on lineBreak s = tt
 small-on key s = tt

@@ -1,5 +1,5 @@
 -- What is held after a break. Assumes nothing.
-use Prim.Native.Nat.{ℕ, _-_, _≤_, _<_}
+use Prim.Native.Nat.{ℕ, _-_, _≤_}
 use native.Mathlib.Omega.{arith}
 use mathlib.Core.Path.{_≡_, refl, sym, ap, _∙_}
 use mathlib.Core.Bool.{true, false≢true}
@@ -76,7 +76,7 @@ pub broke : (w : World) (x : Seen) (h : Core) (rx tx : List ℕ) → Shape w x h
 broke w x h rx tx (isBroken F) b = record { fits = F; core = refl; sent = refl; store = refl }
 broke w x h rx tx isStill b = absurd (false≢true b)
 broke w x h rx tx (isBegun k) b = absurd (false≢true b)
-broke w x h rx tx (isWritten g t) b = absurd (false≢true b)
+broke w x h rx tx (isWritten g t u) b = absurd (false≢true b)
 broke w x h rx tx isCleared b = absurd (false≢true b)
 broke w x h rx tx (isStored k F l) b = absurd (false≢true b)
 broke w x h rx tx (isLost k l) b = absurd (false≢true b)

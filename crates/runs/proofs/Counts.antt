@@ -48,7 +48,7 @@ module _ (w : World) (S : Small w) where
   unfolding storedWith sendHeld
   stepped x h rx tx isStill n = same x refl refl refl
   stepped x h rx tx (isBegun m) n = absurd (false≢true (sym n))
-  stepped x h rx tx (isWritten g t) n = same x refl refl refl
+  stepped x h rx tx (isWritten g t u) n = same x refl refl refl
   stepped x h rx tx isCleared n = same x refl refl refl
   stepped x h rx tx (isStored b F l) n = record { stored = refl; lost = none-more _ (S .lost); sent = none-more _ (S .sent) }
   stepped x h rx tx (isLost b l) n = record { stored = none-more _ (S .stored); lost = refl; sent = none-more _ (S .sent) }
@@ -101,7 +101,7 @@ begun-zero : (w : World) (x : Seen) (h : Core) (rx tx : List ℕ) → Shape w x 
 unfolding startState
 begun-zero w x h rx tx isStill n = absurd (false≢true n)
 begun-zero w x h rx tx (isBegun m) n = record { stored = refl; lost = refl; sent = refl }
-begun-zero w x h rx tx (isWritten g t) n = absurd (false≢true n)
+begun-zero w x h rx tx (isWritten g t u) n = absurd (false≢true n)
 begun-zero w x h rx tx isCleared n = absurd (false≢true n)
 begun-zero w x h rx tx (isStored b F l) n = absurd (false≢true n)
 begun-zero w x h rx tx (isLost b l) n = absurd (false≢true n)

@@ -21,7 +21,6 @@ use Rattle.answers.specs.declared.Answer.{Answer}
 use Rattle.answers.specs.declared.Answer.the-variants as answer
 use Rattle.answers.specs.Answers.{said}
 use Rattle.state.specs.Conditions.{shows, serviced, statusOf}
-use Rattle.state.proofs.Fits.{rx-fits}
 use Rattle.line.specs.HoldingOff.{nextOut, outAnswer}
 use Rattle.loopside.specs.Sends.{ruleOf, ended, removedState, sendState, sendFrom, sendStatus}
 use Rattle.loopside.specs.Frames.{frameTaken}

@@ -3,7 +3,9 @@ use Prim.Native.Nat.{ℕ, zero, suc, _<_}
 use native.Mathlib.Omega.{arith}
 use mathlib.Core.Path.{_≡_, refl, sym, ap, _∙_}
 use mathlib.Core.Bool.{Bool, true, false, cond, _&&_, not, true≢false, false≢true}
-use mathlib.Core.List.{List, [], _∷_, _++_, map, append-assoc}
+use mathlib.Core.List.{List, [], _∷_, _++_, map, append-assoc, map-append}
+use mathlib.Core.Logic.{⊎-elim}
+use lib.Dec.{ltb}
 use lib.ListN.{length, getD}
 use borrow.Author.Tests.{ltb-false}
 use Rattle.branches.proofs.Branches.{and-left, by-cond}
@@ -17,7 +19,7 @@ use Rattle.store.specs.Bytes.{Bytes}
 use Rattle.store.proofs.Laws.{held-put, held-length}
 use Rattle.reading.specs.declared.Rule.{Rule}
 use Rattle.reading.specs.Reading.{Sent, none, one, sentFrames, sentRest, frames}
-use Rattle.reading.specs.Received.{Received, aByte, aBreak, receivedIn, asHeld}
+use Rattle.reading.specs.Received.{Received, aByte, aBreak, received, receivedIn, asHeld}
 use Rattle.reading.specs.Steps.{cut}
 use Rattle.reading.proofs.Reading.{send-ahead}
 use Rattle.reading.proofs.Received.{received-byte}
@@ -32,13 +34,16 @@ use Rattle.loopside.specs.Sends.{ruleOf}
 use Rattle.answers.specs.Answers.{Said}
 use Rattle.bridge.specs.Calls.{lineByte, reset, write, lineBreak, key, nextLineByte, loopFrame, Call, create, show, on, World}
 use Rattle.laws.specs.Bridges.{ByteCall}
-use Rattle.laws.specs.Observers.{taken, isFlow, arrived, accepted, breaks, marks, bytesAndBreaks, bytesAndMarks, sent, changes}
-use Rattle.laws.specs.Worlds.{heldCells, heldToSend, reading, holdsSome}
-use Rattle.laws.specs.Demands.{FramesRead, UnheldBreaks}
+use Rattle.laws.specs.ByRules.{Under, under, allUnder, byRules}
+use Rattle.laws.specs.Observers.{taken, isFlow, arrived, accepted, breaks, marks, bytesAndBreaks, bytesAndMarks, sent, empties}
+use Rattle.laws.specs.Worlds.{heldCells, heldToSend, ruleIn, reading, holdsSome}
+use Rattle.laws.specs.Demands.{byItsRule, heldByItsRule, FramesRead, UnheldBreaks}
+use Rattle.laws.proofs.ByRules.{behind}
 use Rattle.runs.proofs.Shapes.{Seen, seen, Core, core, Fits, Shape, isStill, isBegun}
 use Rattle.runs.proofs.Shapes.{isWritten, isCleared, isStored, isLost, isBroken, isSent, isNone, isLeft, isHanded}
 use Rattle.runs.proofs.View.{view}
 use Rattle.runs.proofs.Bytes.{sent-plain}
+use Rattle.runs.proofs.HeldLine.{kept}
 use Rattle.runs.proofs.Broken.{held-broken, broke}
 use Rattle.runs.proofs.Sends.{held-sent, seen-plain}
 use Rattle.runs.proofs.Runs.{first-not}
@@ -113,14 +118,14 @@ module _ (w : World) where
       let n : length (heldCells w) ≡ w .state .rx .len = held-length (w .rx) (w .state .rx) (rx-fits (w .state) (w .rx) (w .tx) F .ring) in
       break-nothing (w .state) (w .rx) (omega (arith, n, ltb-false 0 (length (heldCells w)) h))
 
-  -- a call that is no break that counts
-  keeps : (x : Seen) (h : Core) (rx tx : List ℕ) → Shape w x h rx tx → x .changes ≡ false → (x .breaks ≡ true → holdsSome w ≡ false) →
+  -- a call that is no break that counts: all is read by the rule before it
+  keeps : (x : Seen) (h : Core) (rx tx : List ℕ) → Shape w x h rx tx → x .empties ≡ false → (x .breaks ≡ true → holdsSome w ≡ false) →
       Bytes (x .accepted) → (ys : List Received) →
-      reading w (heldToSend w ++ (map aByte (x .accepted) ++ ys)) ≡ x .sent ++ frames (cut (ruleOf (h .regs))) (receivedIn (held rx (h .rx)) ++ ys)
+      reading w (heldToSend w ++ (map aByte (x .accepted) ++ ys)) ≡ x .sent ++ reading w (receivedIn (held rx (h .rx)) ++ ys)
   unfolding storedWith sendHeld ruleOf
   keeps x h rx tx isStill n m B ys = refl
   keeps x h rx tx (isBegun k) n m B ys = absurd (false≢true (sym n))
-  keeps x h rx tx (isWritten g t) n m B ys = absurd (false≢true (sym n))
+  keeps x h rx tx (isWritten g t u) n m B ys = refl
   keeps x h rx tx isCleared n m B ys = absurd (false≢true (sym n))
   keeps x h rx tx (isStored b F l) n m B ys =
       ap (reading w)
@@ -135,31 +140,67 @@ module _ (w : World) where
   keeps x h rx tx (isLeft l F e) n m B ys = refl
   keeps x h rx tx (isHanded F e) n m B ys = refl
 
+  -- where nothing is held there is nothing to read
+  none-held : (cells : List ℕ) → ltb 0 (length cells) ≡ false → receivedIn cells ≡ []
+  unfolding received
+  none-held [] e = refl
+  none-held (n ∷ cells) e = absurd (omega (arith, ltb-false 0 (length (n ∷ cells)) e))
+
+  -- and what is held after it has the rule of before: a write that changes it finds nothing held
+  same-rules : (x : Seen) (h : Core) (rx tx : List ℕ) → Shape w x h rx tx → x .empties ≡ false →
+      allUnder rule (receivedIn (held rx (h .rx))) ≡ allUnder (ruleOf (h .regs)) (receivedIn (held rx (h .rx)))
+  same-rules x h rx tx shape n =
+      ⊎-elim (λ e. ap (λ (r : Rule). allUnder r (receivedIn (held rx (h .rx)))) (sym e))
+      (λ none. let z = ap receivedIn (none .1) ∙ none-held (heldCells w) (none .0) in ap (allUnder rule) z ∙ sym (ap (allUnder (ruleOf (h .regs))) z))
+      (kept w x h rx tx shape n)
+
+-- ---- from one rule to the rules of a run: what is read by the rule of the moment, whatever of it comes, is read so among items of other rules
+
+module _ (r : Rule) (xs acc rest : List Received) (fs : List ℕ)
+    (turned : (ys : List Received) → frames (cut r) (xs ++ (acc ++ ys)) ≡ fs ++ frames (cut r) (rest ++ ys)) where
+  read-among : (ys : List Under) → byRules (allUnder r xs ++ (allUnder r acc ++ ys)) ≡ fs ++ byRules (allUnder r rest ++ ys)
+  read-among ys =
+      let k = behind r ys in
+      ap byRules (sym (append-assoc (allUnder r xs) (allUnder r acc) ys) ∙ ap (λ l. l ++ ys) (sym (map-append (under r) xs acc)))
+      ∙ k .reads (xs ++ acc)
+      ∙ ap (λ l. frames (cut r) l ++ k .later) (append-assoc xs acc (k .items))
+      ∙ ap (λ l. l ++ k .later) (turned (k .items))
+      ∙ append-assoc fs (frames (cut r) (rest ++ k .items)) (k .later)
+      ∙ ap (λ l. fs ++ l) (sym (k .reads rest))
+
 -- ---- every call of the run, where these breaks count: all that do are breaks, and of the others nothing is held
 
 module _ (these : Call → World → Said → Bool)
     (are : (c : Call) (w : World) → these c w (answer c w) ≡ true → breaks c w (answer c w) ≡ true)
     (others : (c : Call) (w : World) → these c w (answer c w) ≡ false → breaks c w (answer c w) ≡ true → holdsSome w ≡ false) where
-  abbrev counting : Reading World Call Said Received ℕ
-  counting =
-      record { accepted = λ c w a. cond (these c w a) (aBreak ∷ []) (map aByte (accepted c w a)); sent = sent; held = heldToSend; reads = reading }
+  abbrev counted : Call → World → Said → List Received
+  counted c w a = cond (these c w a) (aBreak ∷ []) (map aByte (accepted c w a))
 
-  turn : (c : Call) (w : World) → ByteCall c → changes c w (answer c w) ≡ false → TurnReads counting (machine.seen ours c w)
-  unfolding ruleOf
-  turn c w k n ys = pick (these c w (answer c w)) refl
+  abbrev counting : Reading World Call Said Under ℕ
+  counting = record { accepted = byItsRule counted; sent = sent; held = heldByItsRule; reads = λ w. byRules }
+
+  turned : (c : Call) (w : World) → ByteCall c → empties c w (answer c w) ≡ false → (ys : List Received) →
+      reading w (heldToSend w ++ (counted c w (answer c w) ++ ys)) ≡ sent c w (answer c w) ++ reading w (heldToSend (after c w) ++ ys)
+  turned c w k n ys = pick (these c w (answer c w)) refl
     where
       pick : (t : Bool) → these c w (answer c w) ≡ t →
           reading w (heldToSend w ++ (cond t (aBreak ∷ []) (map aByte (accepted c w (answer c w))) ++ ys)) ≡
-          sent c w (answer c w) ++ reading (after c w) (heldToSend (after c w) ++ ys)
+          sent c w (answer c w) ++ reading w (heldToSend (after c w) ++ ys)
       pick true e =
           let b = broke w _ _ _ _ (view c w) (are c w e) in
-          break-reads w ys (b .fits) ∙ (λ i. sym (b .sent) i ++ frames (cut (ruleOf (sym (b .core) i .regs))) (receivedIn (held (sym (b .store) i) (sym (b .core) i .rx)) ++ ys))
+          break-reads w ys (b .fits) ∙ (λ i. sym (b .sent) i ++ reading w (receivedIn (held (sym (b .store) i) (sym (b .core) i .rx)) ++ ys))
       pick false e = keeps w _ _ _ _ (view c w) n (others c w e) (accepted-bytes c w (answer c w) k) ys
 
-  turns : (cs : List Call) (w : World) → AllFair ours cs → Without changes cs w → Each (TurnReads counting) (course ours cs w)
+  turn : (c : Call) (w : World) → ByteCall c → empties c w (answer c w) ≡ false → TurnReads counting (machine.seen ours c w)
+  unfolding ruleOf
+  turn c w k n ys =
+      read-among (ruleIn w) (heldToSend w) (counted c w (answer c w)) (heldToSend (after c w)) (sent c w (answer c w)) (turned c w k n) ys
+      ∙ ap (λ l. sent c w (answer c w) ++ byRules (l ++ ys)) (same-rules w _ _ _ _ (view c w) n)
+
+  turns : (cs : List Call) (w : World) → AllFair ours cs → Without empties cs w → Each (TurnReads counting) (course ours cs w)
   unfolding course
   turns [] w k n = tt
-  turns (c ∷ cs) w k n = let m = first-not changes c cs w n in (turn c w (k .0) (m .0), turns cs (after c w) (k .1) (m .1))
+  turns (c ∷ cs) w k n = let m = first-not empties c cs w n in (turn c w (k .0) (m .0), turns cs (after c w) (k .1) (m .1))
 
 -- (3a): all breaks count
 pub frames-read : Obeys ours FramesRead

@@ -8,10 +8,12 @@ pub mod Answered
 pub mod Shapes
 pub mod Refusals
 pub mod Quiet
+pub mod RuleKept
 pub mod LineView
 pub mod FrameKinds
 pub mod FrameView
 pub mod View
+pub mod HeldLine
 pub mod Bytes
 pub mod Broken
 pub mod Sends

@@ -47,7 +47,7 @@ keeps : (w : World) (x : Seen) (h : Core) (rx tx : List ℕ) → Shape w x h rx 
 unfolding storedWith
 keeps w x h rx tx isStill n ys = refl
 keeps w x h rx tx (isBegun m) n ys = absurd (false≢true (sym n))
-keeps w x h rx tx (isWritten g t) n ys = refl
+keeps w x h rx tx (isWritten g t u) n ys = refl
 keeps w x h rx tx isCleared n ys = absurd (false≢true (sym n))
 keeps w x h rx tx (isStored b F l) n ys = refl
 keeps w x h rx tx (isLost b l) n ys = refl
@@ -73,7 +73,7 @@ emptied : (w : World) (x : Seen) (h : Core) (rx tx : List ℕ) → Shape w x h r
 unfolding startState
 emptied w x h rx tx isStill n = absurd (false≢true n)
 emptied w x h rx tx (isBegun m) n = held-empty (w .tx) _
-emptied w x h rx tx (isWritten g t) n = absurd (false≢true n)
+emptied w x h rx tx (isWritten g t u) n = absurd (false≢true n)
 emptied w x h rx tx isCleared n = held-empty (w .tx) _
 emptied w x h rx tx (isStored b F l) n = absurd (false≢true n)
 emptied w x h rx tx (isLost b l) n = absurd (false≢true n)

@@ -16,9 +16,10 @@ use Rattle.state.specs.State.{withRegisters}
 use Rattle.answers.specs.Answers.{said, done}
 use Rattle.line.specs.HoldingOff.{isGoOrStop, flowed, lostState, storedState, lineState, lineBytes, setAfresh, afterWrite, owed, nextOut, afterGiving, outAnswer}
 use Rattle.line.proofs.Parts.{some-held}
-use Rattle.bridge.specs.Calls.{on, write, lineByte, nextLineByte, World}
+use Rattle.bridge.specs.Calls.{heldLine, on, write, lineByte, nextLineByte, World}
 use Rattle.laws.specs.Observers.{isFlow, arrived, accepted, lost, sent, added, handedOut, restarts, writes, clears}
 use Rattle.runs.proofs.Shapes.{seen, core, Fits, Shape, isStill, isWritten, isStored, isLost, isHanded}
+use Rattle.runs.proofs.RuleKept.{rule-kept}
 use Rattle.runs.proofs.Quiet.{quiet, none-arrives}
 
 -- ---- line bytes in
@@ -62,15 +63,15 @@ module _ (w : World) (F : Fits w) where
 
 -- ---- register writes
 
-pub write-shape : (w : World) (n v : ℕ) →
+pub write-shape : (w : World) (n v : ℕ) → Fits w → heldLine (w .state) n ≡ false →
     Shape w (seen (on (write n v)) w done) (core (afterWrite (w .state) n (written (w .state .regs) n v))) (w .rx) (w .tx)
 unfolding arrived sent added handedOut restarts writes clears afterWrite setAfresh
-write-shape w n v = none-arrives (on (write n v)) w done _ _ _ refl (by-test (eqb n 11))
+write-shape w n v F free = none-arrives (on (write n v)) w done _ _ _ refl (by-test (eqb n 11))
   where
     g : Registers
     g = written (w .state .regs) n v
 
     by-test : (t : Bool) →
         Shape w (quiet (on (write n v)) w done) (core (cond t (setAfresh (withRegisters (w .state) g)) (withRegisters (w .state) g))) (w .rx) (w .tx)
-    by-test true = isWritten g _
-    by-test false = isWritten g _
+    by-test true = isWritten g _ (rule-kept w n v F free)
+    by-test false = isWritten g _ (rule-kept w n v F free)

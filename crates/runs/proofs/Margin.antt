@@ -99,7 +99,7 @@ calm : (w : World) (x : Seen) (h : Core) (rx tx : List ℕ) → Shape w x h rx t
 unfolding storedWith
 calm w x h rx tx isStill n m k c i = (refl, record { on = c .on; margin = c .margin; room = still-room (holdsOff w) m k (store-ring.room (w .state .rx)) (c .room) })
 calm w x h rx tx (isBegun j) n m k c i = absurd (false≢true (sym n))
-calm w x h rx tx (isWritten g t) n m k c i = absurd (false≢true (sym n))
+calm w x h rx tx (isWritten g t u) n m k c i = absurd (false≢true (sym n))
 calm w x h rx tx isCleared n m k c i = absurd (false≢true (sym n))
 calm w x h rx tx (isStored b F l) n m k c i = (
   refl,

@@ -19,7 +19,7 @@ use Rattle.runs.proofs.Steps.{answer, ours}
 none-added : (w : World) (x : Seen) (h : Core) (rx tx : List ℕ) → Shape w x h rx tx → x .empties ≡ true → (x .accepted ≡ []) × ((x .left ≡ []) × (x .breaks ≡ false))
 none-added w x h rx tx isStill e = absurd (false≢true e)
 none-added w x h rx tx (isBegun m) e = (refl, (refl, refl))
-none-added w x h rx tx (isWritten g t) e = absurd (false≢true e)
+none-added w x h rx tx (isWritten g t u) e = absurd (false≢true e)
 none-added w x h rx tx isCleared e = (refl, (refl, refl))
 none-added w x h rx tx (isStored b F l) e = absurd (false≢true e)
 none-added w x h rx tx (isLost b l) e = absurd (false≢true e)

@@ -39,7 +39,7 @@ goes : (n : ℕ) (w : World) (x : Seen) (h : Core) (rx tx : List ℕ) → Shape 
 unfolding storedWith startState dropRing
 goes n w x h rx tx isStill f a = none-came n _ _ f
 goes n w x h rx tx (isBegun m) f a = record { cap = refl; room = omega (arith, f .cap, f .room) }
-goes n w x h rx tx (isWritten g t) f a = none-came n _ _ f
+goes n w x h rx tx (isWritten g t u) f a = none-came n _ _ f
 goes n w x h rx tx isCleared f a = record { cap = f .cap; room = omega (arith, f .room) }
 goes n w x h rx tx (isStored b F l) f a = none-came n _ _ f
 goes n w x h rx tx (isLost b l) f a = none-came n _ _ f

@@ -56,7 +56,7 @@ goes : (n : ℕ) (w : World) (x : Seen) (h : Core) (rx tx : List ℕ) → Shape 
 unfolding storedWith startState removedState resumed
 goes n w x h rx tx isStill f a = record { none = refl; free = none-came n _ _ f }
 goes n w x h rx tx (isBegun m) f a = record { none = refl; free = record { cap = refl; room = omega (arith, f .cap, f .room) } }
-goes n w x h rx tx (isWritten g t) f a = record { none = refl; free = none-came n _ _ f }
+goes n w x h rx tx (isWritten g t u) f a = record { none = refl; free = none-came n _ _ f }
 goes n w x h rx tx isCleared f a = record { none = refl; free = record { cap = f .cap; room = omega (arith, f .room) } }
 goes n w x h rx tx (isStored b F l) f a =
     record {

@@ -22,6 +22,7 @@ use Rattle.line.specs.HoldingOff.{storedState}
 use Rattle.loopside.specs.Sends.{ruleOf, removedState}
 use Rattle.bridge.specs.Calls.{Call, World}
 use Rattle.laws.specs.Observers.{dataFrame, arrived, accepted, lost, breaks, sent, added, handedOut, changes, empties, startsAnew}
+use Rattle.laws.specs.Worlds.{holdsSome}
 
 -- all that is seen of a call
 pub record Seen : Type 0 where
@@ -136,7 +137,7 @@ withReceive s r h n =
 pub data Shape (w : World) : Seen → Core → List ℕ → List ℕ → Type 0 where
   isStill : Shape w still (core (w .state)) (w .rx) (w .tx)
   isBegun : (m : ℕ) → Shape w (begun true true) (core (startState m (length (w .rx)) (length (w .tx)))) (w .rx) (w .tx)
-  isWritten : (g : Registers) (h : Bool) →
+  isWritten : (g : Registers) (h : Bool) → (holdsSome w ≡ true → ruleOf g ≡ ruleOf (w .state .regs)) →
       Shape w (begun true false)
       (record {
         margin = w .state .margin;

@@ -12,7 +12,7 @@ use Rattle.bridge.specs.Calls.{show, World, Did, checks, outcome, settledBy, rx
 use Rattle.bridge.specs.Calls as calls
 use Rattle.laws.specs.Observers.{passesOn, asksStatus, arrived, sent, added, handedOut, restarts, writes, clears}
 use Rattle.runs.proofs.Shapes.{core, frames, hands, Shape, isStill, isBegun, isBroken}
-use Rattle.laws.proofs.Refusing.{fitting, frame-fitting}
+use Rattle.laws.proofs.Refusing.{fitting, write-fitting, frame-fitting}
 use Rattle.runs.proofs.Refusals.{or-refused}
 use Rattle.runs.proofs.Quiet.{Shaped, none-arrives}
 use Rattle.runs.proofs.LineView.{line-shape, next-shape, write-shape}
@@ -50,7 +50,7 @@ pub view : (c : Call) (w : World) → Shaped w c (step c w)
 unfolding step checks calls.notRefused outcome settledBy rxAfter txAfter settled said arrived sent added handedOut restarts writes clears breakState keyState
 view (create m) w = refused-or w (create m) _ _ (λ e. none-arrives (create m) w done _ _ _ refl (isBegun m))
 view (on reset) w = refused-or w (on reset) _ _ (λ e. none-arrives (on reset) w done _ _ _ refl (isBegun (w .state .margin)))
-view (on (write n v)) w = refused-or w (on (write n v)) _ _ (λ e. write-shape w n v)
+view (on (write n v)) w = refused-or w (on (write n v)) _ _ (λ e. let x = write-fitting n v w e in write-shape w n v (x .0) (x .1 .1))
 view (on (lineByte b)) w = refused-or w (on (lineByte b)) _ _ (λ e. line-shape w (fitting (lineByte b) w e .0) b)
 view (on lineBreak) w = refused-or w (on lineBreak) _ _ (λ e. none-arrives (on lineBreak) w done _ _ _ refl (isBroken (fitting lineBreak w e .0)))
 view (on key) w = refused-or w (on key) _ _ (λ e. none-arrives (on key) w done _ _ _ refl isStill)

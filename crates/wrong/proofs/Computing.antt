@@ -9,7 +9,7 @@ use Rattle.cells.specs.Newest.{replacedCells}
 use Rattle.line.specs.Breaks.{breakCells}
 use Rattle.registers.specs.Table.{table, rowIn, carriedOf, startOf, startRegisters}
 use Rattle.registers.specs.Bits.{tooLarge, bitNotCarried, inRange}
-use Rattle.registers.specs.RegistersFit.{values, allInRange, registersFit}
+use Rattle.registers.specs.RegistersFit.{values, valueIn, allInRange, registersFit}
 use Rattle.registers.specs.Writing.{written, writeChecks}
 use Rattle.role.specs.Orders as orders
 use Rattle.role.specs.Commands as commands
@@ -31,6 +31,7 @@ use Rattle.loopside.specs.Sends.{ended, ruleOf, removedState, sendState, sendFr
 use Rattle.loopside.specs.Frames as frames
 use Rattle.bridge.specs.Calls as calls
 use Rattle.laws.specs.Observers as see
+use Rattle.laws.specs.ByRules as rules
 use Rattle.laws.specs.StatusWay as way
 use Rattle.laws.specs.Holding as holding
 use Rattle.laws.specs.NextByte as next
@@ -55,7 +56,7 @@ unfolding stripped withService sameApart inCuts byCuts received bytesIn asHeld c
 parts-open = tt
 
 unfoldable registers-open : Unit {0}
-unfolding allInRange registersFit written writeChecks orders.ownAddress orders.listenOrder orders.talkOrder orders.otherOrder orders.orderOf
+unfolding valueIn allInRange registersFit written writeChecks orders.ownAddress orders.listenOrder orders.talkOrder orders.otherOrder orders.orderOf
 registers-open = tt
 
 unfoldable roles-open : Unit {0}
@@ -101,7 +102,7 @@ data-open = tt
 
 -- the calls
 unfoldable calls-open : Unit {0}
-unfolding calls.checksOn calls.checks calls.outcome calls.settledBy calls.rxAfter calls.txAfter calls.shown calls.notRefused calls.refusedOr calls.step
+unfolding calls.heldLine calls.checksOn calls.checks calls.outcome calls.settledBy calls.rxAfter calls.txAfter calls.shown calls.notRefused calls.refusedOr calls.step
 calls-open = tt
 
 unfoldable told-open : Unit {0}
@@ -125,6 +126,10 @@ unfoldable roles-said : Unit {0}
 unfolding roles.commanded roles.readied roles.returnedTo roles.byFrame roles.commandedRemote roles.remoteByFrame writtenTo comes
 roles-said = tt
 
+unfoldable rules-open : Unit {0}
+unfolding rules.joined rules.stretches rules.readEach
+rules-open = tt
+
 unfoldable places-open : Unit {0}
 unfolding places.writtenFrom places.placeAfter filled
 places-open = tt
@@ -134,5 +139,5 @@ unfolding parts-open registers-open roles-open talker-open stores-open state-ope
 bridge-open = tt
 
 unfoldable pub computes : Unit {0}
-unfolding runs-open bridge-open told-open sights-open others-open laws-open roles-said places-open
+unfolding runs-open bridge-open told-open sights-open others-open laws-open roles-said rules-open places-open
 computes = tt

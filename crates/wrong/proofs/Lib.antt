@@ -14,6 +14,7 @@ pub mod WrongCounts
 pub mod Ends
 pub mod WrongRoles
 pub mod WrongRefusals
+pub mod WrongRules
 pub mod WrongStores
 pub mod WrongBreaks
 pub mod WrongPlacesSince

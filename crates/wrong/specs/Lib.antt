@@ -13,6 +13,7 @@ pub mod WrongCounts
 pub mod SmallWorlds
 pub mod WrongRoles
 pub mod WrongRefusals
+pub mod WrongRules
 pub mod WrongStores
 pub mod WrongBreaks
 pub mod WrongStarts

@@ -1,0 +1,52 @@
+-- The checks of a register write: those of the registers, and then that of the receive store. Assumes nothing.
+use Prim.Native.Nat.{ℕ}
+use native.Mathlib.Omega.{arith}
+use mathlib.Core.Path.{_≡_, refl, sym, _∙_}
+use mathlib.Core.Bool.{Bool, true, false, cond}
+use mathlib.Core.List.{List, [], _∷_, _++_}
+use lib.Dec.{eqb}
+use borrow.Author.Tests.{eqb-true, eqb-false}
+use Rattle.answers.specs.Refusals.{Check, check, firstRefusal}
+use Rattle.registers.specs.Writing.{writeChecks}
+use Rattle.registers.proofs.Refusals.{accepted}
+use Rattle.state.specs.declared.State.{State}
+use Rattle.bridge.specs.Calls.{write, heldLine, checksOn}
+
+-- a refusal stands, whatever checks come after it
+first-ahead : (xs ys : List Check) → (firstRefusal xs ≡ 0 → ⊥) → firstRefusal (xs ++ ys) ≡ firstRefusal xs
+first-ahead [] ys h = absurd (h refl)
+first-ahead (c ∷ cs) ys h = go (c .given) h (first-ahead cs ys)
+  where
+    go : (t : Bool) → (cond t (c .number) (firstRefusal cs) ≡ 0 → ⊥) → ((firstRefusal cs ≡ 0 → ⊥) → firstRefusal (cs ++ ys) ≡ firstRefusal cs) →
+        cond t (c .number) (firstRefusal (cs ++ ys)) ≡ cond t (c .number) (firstRefusal cs)
+    go true k later = refl
+    go false k later = later k
+
+module _ (s : State) (n v : ℕ) where
+  abbrev ofTable : ℕ
+  ofTable = firstRefusal (writeChecks (s .regs) n v)
+
+  abbrev ofWrite : ℕ
+  ofWrite = firstRefusal (checksOn (write n v) s)
+
+  -- what the table refuses is refused by its number
+  pub write-refused : (ofTable ≡ 0 → ⊥) → ofWrite ≡ ofTable
+  unfolding checksOn
+  write-refused h = first-ahead (writeChecks (s .regs) n v) (check 10 (heldLine s n) ∷ []) h
+
+  -- what it lets through is refused where the line is held
+  pub write-let : ofTable ≡ 0 → ofWrite ≡ cond (heldLine s n) 10 0
+  unfolding checksOn writeChecks
+  write-let e = let a = accepted (s .regs) n v e in rw (a .carried, a .small, a .bits, a .differ)
+
+  -- what an accepted write passed
+  pub write-passed : ofWrite ≡ 0 → (ofTable ≡ 0) × (heldLine s n ≡ false)
+  write-passed e = go (eqb ofTable 0) refl
+    where
+      free : (t : Bool) → _≡_ {A = ℕ} (cond t 10 0) 0 → t ≡ false
+      free true h = absurd (omega arith)
+      free false h = refl
+
+      go : (t : Bool) → eqb ofTable 0 ≡ t → (ofTable ≡ 0) × (heldLine s n ≡ false)
+      go true h = let z = eqb-true ofTable 0 h in (z, free (heldLine s n) (sym (write-let z) ∙ e))
+      go false h = let z = eqb-false ofTable 0 h in absurd (z (sym (write-refused z) ∙ e))

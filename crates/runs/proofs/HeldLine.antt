@@ -1,0 +1,109 @@
+-- No rule changes under a held line. Assumes nothing.
+use Prim.Native.Nat.{ℕ}
+use native.Mathlib.Omega.{arith}
+use mathlib.Core.Path.{_≡_, refl, sym, ap, _∙_}
+use mathlib.Core.Bool.{Bool, true, false, cond, _&&_, _||_, not, false≢true}
+use mathlib.Core.List.{List}
+use mathlib.Core.Logic.{_⊎_, inl, inr, ⊎-elim}
+use lib.Dec.{eqb}
+use lib.ListN.{length}
+use Rattle.branches.proofs.Branches.{and-left, and-right}
+use Rattle.answers.specs.Refusals.{firstRefusal}
+use Rattle.machine.specs.Machine.{Obeys, seen}
+use Rattle.registers.specs.Table.{nothing, carriedOf}
+use Rattle.registers.specs.Bits.{tooLarge, bitNotCarried}
+use Rattle.registers.specs.Writing.{written, goIsStop, writeChecks}
+use Rattle.store.specs.Ring.{held}
+use Rattle.state.specs.Sizes.{fits}
+use Rattle.line.specs.HoldingOff.{storedWith}
+use Rattle.loopside.specs.Sends.{ruleOf}
+use Rattle.answers.specs.Answers.{refused}
+use Rattle.bridge.specs.Calls.{write, on, World, Did, heldLine, ofReadingRule, checksOn, checks, step}
+use Rattle.laws.specs.Fitting.{Fits}
+use Rattle.laws.specs.Observers.{taken}
+use Rattle.laws.specs.Worlds.{heldCells, holdsSome}
+use Rattle.laws.specs.HeldLine.{namesRule, RuleStays, HeldRefused, HeldLine}
+use Rattle.laws.proofs.Answers.{refuses}
+use Rattle.laws.proofs.Refusing.{by-refusal, write-fitting}
+use Rattle.runs.proofs.RuleKept.{held-line}
+use Rattle.runs.proofs.Shapes.{Seen, Core, Shape, isStill, isBegun, isWritten}
+use Rattle.runs.proofs.Shapes.{isCleared, isStored, isLost, isBroken, isSent, isNone, isLeft, isHanded}
+use Rattle.runs.proofs.View.{view}
+use Rattle.runs.proofs.Steps.{at-call, ours}
+
+-- ---- the rule stays
+
+-- what a call does that empties nothing: the rule stays, or nothing is held, neither before nor after
+abbrev Kept : World → Core → List ℕ → Type 0
+Kept w h rx = (ruleOf (h .regs) ≡ ruleOf (w .state .regs)) ⊎ ((holdsSome w ≡ false) × (held rx (h .rx) ≡ heldCells w))
+
+pub kept : (w : World) (x : Seen) (h : Core) (rx tx : List ℕ) → Shape w x h rx tx → x .empties ≡ false → Kept w h rx
+unfolding storedWith
+kept w x h rx tx isStill n = inl refl
+kept w x h rx tx (isBegun k) n = absurd (false≢true (sym n))
+kept w x h rx tx (isWritten g t u) n = by-held (holdsSome w) refl
+  where
+    by-held : (t : Bool) → holdsSome w ≡ t → (ruleOf g ≡ ruleOf (w .state .regs)) ⊎ ((holdsSome w ≡ false) × (heldCells w ≡ heldCells w))
+    by-held true e = inl (u e)
+    by-held false e = inr (e, refl)
+kept w x h rx tx isCleared n = absurd (false≢true (sym n))
+kept w x h rx tx (isStored b F l) n = inl refl
+kept w x h rx tx (isLost b l) n = inl refl
+kept w x h rx tx (isBroken F) n = inl refl
+kept w x h rx tx (isSent f r F e) n = inl refl
+kept w x h rx tx (isNone r F e) n = inl refl
+kept w x h rx tx (isLeft l F e) n = inl refl
+kept w x h rx tx (isHanded F e) n = inl refl
+
+pub rule-stays : Obeys ours RuleStays
+unfolding ruleOf
+rule-stays c w _ n some = ⊎-elim (λ e. e) (λ none. absurd (false≢true (sym (none .0) ∙ some))) (kept w _ _ _ _ (view c w) n)
+
+-- ---- a write is refused
+
+-- the three registers, however they are put together
+names-them : (n : ℕ) → ofReadingRule n ≡ namesRule n
+names-them n = go (eqb n 10) (eqb n 16) (eqb n 17)
+  where
+    go : (a b c : Bool) → ((a || b) || c) ≡ (a || (b || c))
+    go true b c = refl
+    go false b c = refl
+
+module _ (w : World) (n v : ℕ) where
+  -- 10 is the last of the checks
+  last : firstRefusal (checks (on (write n v)) w) ≡ 10 → Fits w × (heldLine (w .state) n ≡ true)
+  unfolding checks checksOn writeChecks
+  last e =
+      go (fits (w .state) (length (w .rx)) (length (w .tx))) (eqb (carriedOf n) nothing) (tooLarge (carriedOf n) v) (bitNotCarried (carriedOf n) v)
+      (goIsStop (written (w .state .regs) n v)) (heldLine (w .state) n) e
+    where
+      go : (fit five six seven eight ten : Bool) → _≡_ {A = ℕ} (cond (not fit) 2 (cond five 5 (cond six 6 (cond seven 7 (cond eight 8 (cond ten 10 0)))))) 10 →
+          (fit ≡ true) × (ten ≡ true)
+      go true false false false false true e = (refl, refl)
+      go false five six seven eight ten e = absurd (omega arith)
+      go true true six seven eight ten e = absurd (omega arith)
+      go true false true seven eight ten e = absurd (omega arith)
+      go true false false true eight ten e = absurd (omega arith)
+      go true false false false true ten e = absurd (omega arith)
+      go true false false false false false e = absurd (omega arith)
+
+  given-ten : step (on (write n v)) w .said ≡ refused 10 → (holdsSome w && ofReadingRule n) ≡ true
+  given-ten e = let k = last (refuses (on (write n v)) w .when 10 e) in sym (held-line w (k .0) n) ∙ k .1
+
+  not-taken : namesRule n ≡ true → holdsSome w ≡ true → taken (step (on (write n v)) w .said) ≡ false
+  not-taken names some =
+      by-refusal (λ (d : Did). taken (d .said) ≡ false) (on (write n v)) w
+      (λ e. let k = write-fitting n v w e in
+      absurd (false≢true (sym (k .1 .1) ∙ held-line w (k .0) n ∙ (λ i. some i && (names-them n ∙ names) i))))
+      (λ _. refl)
+
+  refused-so : HeldRefused (seen ours (on (write n v)) w) n
+  refused-so =
+      record {
+        always = not-taken;
+        register = λ e. sym (names-them n) ∙ and-right (holdsSome w) _ (given-ten e);
+        something = λ e. and-left (holdsSome w) _ (given-ten e);
+      }
+
+pub held-line-obeyed : Obeys ours HeldLine
+held-line-obeyed c w _ n v = at-call (λ c. HeldRefused (seen ours c w) n) (on (write n v)) (refused-so w n v) c

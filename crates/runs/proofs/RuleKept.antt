@@ -1,0 +1,41 @@
+-- A register write that is taken while something is held leaves the reading rule. Assumes nothing.
+use Prim.Native.Nat.{ℕ}
+use mathlib.Core.Path.{_≡_, refl, sym, ap, _∙_}
+use mathlib.Core.Bool.{Bool, true, false, _&&_, _||_, true≢false}
+use lib.Dec.{eqb, ltb}
+use lib.ListN.{length}
+use Rattle.registers.specs.Writing.{written}
+use Rattle.store.proofs.Laws.{held-length}
+use Rattle.state.proofs.Fits.{rx-fits}
+use Rattle.loopside.specs.Sends.{ruleOf}
+use Rattle.bridge.specs.Calls.{ofReadingRule, heldLine, World}
+use Rattle.laws.specs.Fitting.{Fits}
+use Rattle.laws.specs.Worlds.{heldCells, holdsSome}
+
+module _ (w : World) (F : Fits w) where
+  size : length (heldCells w) ≡ w .state .rx .len
+  size = held-length (w .rx) (w .state .rx) (rx-fits (w .state) (w .rx) (w .tx) F .ring)
+
+  -- what is seen to be held is what the state counts
+  pub counts-held : ltb 0 (w .state .rx .len) ≡ holdsSome w
+  counts-held = ap (ltb 0) (sym size)
+
+  -- so the write is refused by what is seen
+  pub held-line : (n : ℕ) → heldLine (w .state) n ≡ (holdsSome w && ofReadingRule n)
+  unfolding heldLine
+  held-line n = ap (λ (t : Bool). t && ofReadingRule n) counts-held
+
+-- none of three
+none-of : (a b c : Bool) → ((a || b) || c) ≡ false → (a ≡ false) × ((b ≡ false) × (c ≡ false))
+none-of false false false e = (refl, (refl, refl))
+none-of true b c e = absurd (true≢false e)
+none-of false true c e = absurd (true≢false e)
+none-of false false true e = absurd (true≢false e)
+
+pub rule-kept : (w : World) (n v : ℕ) → Fits w → heldLine (w .state) n ≡ false → holdsSome w ≡ true →
+    ruleOf (written (w .state .regs) n v) ≡ ruleOf (w .state .regs)
+unfolding ruleOf written
+rule-kept w n v F free some =
+    let none : ofReadingRule n ≡ false = ap (λ (t : Bool). t && ofReadingRule n) (sym some) ∙ sym (held-line w F n) ∙ free in
+    let k = none-of (eqb n 10) (eqb n 16) (eqb n 17) none in
+    rw (k .0, k .1 .0, k .1 .1)
