@@ -2,15 +2,19 @@
 use Prim.Native.Nat.{ℕ}
 use native.Mathlib.Omega.{arith}
 use mathlib.Core.Path.{_≡_, refl, sym, _∙_}
-use mathlib.Core.Bool.{Bool, true, false, cond}
+use mathlib.Core.Bool.{Bool, true, false, cond, not}
 use mathlib.Core.List.{List, [], _∷_, _++_}
 use lib.Dec.{eqb}
+use lib.ListN.{length}
 use borrow.Author.Tests.{eqb-true, eqb-false}
 use Rattle.answers.specs.Refusals.{Check, check, firstRefusal}
-use Rattle.registers.specs.Writing.{writeChecks}
+use Rattle.registers.specs.Table.{nothing, carriedOf}
+use Rattle.registers.specs.Bits.{tooLarge, bitNotCarried}
+use Rattle.registers.specs.Writing.{written, goIsStop, writeChecks}
 use Rattle.registers.proofs.Refusals.{accepted}
 use Rattle.state.specs.declared.State.{State}
-use Rattle.bridge.specs.Calls.{write, heldLine, checksOn}
+use Rattle.state.specs.Sizes.{fits}
+use Rattle.bridge.specs.Calls.{on, write, World, heldLine, checksOn, checks}
 
 -- a refusal stands, whatever checks come after it
 first-ahead : (xs ys : List Check) → (firstRefusal xs ≡ 0 → ⊥) → firstRefusal (xs ++ ys) ≡ firstRefusal xs
@@ -50,3 +54,27 @@ module _ (s : State) (n v : ℕ) where
       go : (t : Bool) → eqb ofTable 0 ≡ t → (ofTable ≡ 0) × (heldLine s n ≡ false)
       go true h = let z = eqb-true ofTable 0 h in (z, free (heldLine s n) (sym (write-let z) ∙ e))
       go false h = let z = eqb-false ofTable 0 h in absurd (z (sym (write-refused z) ∙ e))
+
+  -- 10 is the number of no other check
+  write-ten : ofWrite ≡ 10 → heldLine s n ≡ true
+  unfolding checksOn writeChecks
+  write-ten e =
+      go (eqb (carriedOf n) nothing) (tooLarge (carriedOf n) v) (bitNotCarried (carriedOf n) v) (goIsStop (written (s .regs) n v)) (heldLine s n) e
+    where
+      go : (five six seven eight ten : Bool) → _≡_ {A = ℕ} (cond five 5 (cond six 6 (cond seven 7 (cond eight 8 (cond ten 10 0))))) 10 → ten ≡ true
+      go false false false false true e = refl
+      go true six seven eight ten e = absurd (omega arith)
+      go false true seven eight ten e = absurd (omega arith)
+      go false false true eight ten e = absurd (omega arith)
+      go false false false true ten e = absurd (omega arith)
+      go false false false false false e = absurd (omega arith)
+
+-- and it is given to a state that fits
+pub ten-held : (w : World) (n v : ℕ) → firstRefusal (checks (on (write n v)) w) ≡ 10 →
+    (fits (w .state) (length (w .rx)) (length (w .tx)) ≡ true) × (heldLine (w .state) n ≡ true)
+unfolding checks
+ten-held w n v e = let k = go (fits (w .state) (length (w .rx)) (length (w .tx))) _ e in (k .0, write-ten (w .state) n v (k .1))
+  where
+    go : (t : Bool) (m : ℕ) → cond (not t) 2 m ≡ 10 → (t ≡ true) × (m ≡ 10)
+    go true m e = (refl, e)
+    go false m e = absurd (omega arith)

@@ -1,7 +1,7 @@
 -- Each byte and break is read by its own rule. Assumes nothing.
 use Prim.Native.Nat.{ℕ}
 use mathlib.Core.Path.{_≡_, refl, sym, ap, _∙_}
-use mathlib.Core.Bool.{Bool, true, false, _&&_, Bool·beq, true≢false}
+use mathlib.Core.Bool.{Bool, true, false, Bool·beq, true≢false}
 use mathlib.Core.List.{List, [], _∷_, _++_, append-nil, append-assoc}
 use lib.Dec.{eqb}
 use borrow.Author.Tests.{eqb-true, eq-eqb}
@@ -127,7 +127,7 @@ module _ (r : Rule) where
 
 -- ---- what reading by rules is
 
-one-rule : (r : Rule) (xs : List Received) → byRules (allUnder r xs) ≡ frames (cut r) xs
+pub one-rule : (r : Rule) (xs : List Received) → byRules (allUnder r xs) ≡ frames (cut r) xs
 unfolding stretches
 one-rule r xs = ap byRules (sym (append-nil (allUnder r xs))) ∙ ap readEach (stretches-joined r xs []) ∙ read-alone r xs
 

@@ -15,3 +15,4 @@ pub mod Showing
 pub mod Rooms
 pub mod Examples
 pub mod ByRules
+pub mod OneRule

@@ -8,7 +8,6 @@ use borrow.Author.Tests.{eqb-true, eqb-false}
 use Rattle.answers.specs.Refusals.{firstRefusal}
 use Rattle.branches.proofs.Branches.{by-cond}
 use Rattle.registers.specs.Writing.{writeChecks}
-use Rattle.answers.specs.Answers.{refused}
 use Rattle.loopside.specs.LoopToLine.{busy}
 use Rattle.bridge.specs.Calls.{heldLine, OnState, write, loopFrame, Call, on, World, Did, checksOn, checks, notRefused, refusedOr, step, refusal}
 use Rattle.bridge.proofs.Checks.{write-passed}

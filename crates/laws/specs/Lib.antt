@@ -27,6 +27,7 @@ pub mod Service
 pub mod Registers
 pub mod HeldLine
 pub mod Demands
+pub mod OneRule
 pub mod LineBytes
 pub mod LastSent
 pub mod Counting

@@ -1,25 +1,18 @@
 -- No rule changes under a held line. Assumes nothing.
 use Prim.Native.Nat.{ℕ}
-use native.Mathlib.Omega.{arith}
-use mathlib.Core.Path.{_≡_, refl, sym, ap, _∙_}
-use mathlib.Core.Bool.{Bool, true, false, cond, _&&_, _||_, not, false≢true}
+use mathlib.Core.Path.{_≡_, refl, sym, _∙_}
+use mathlib.Core.Bool.{Bool, true, false, _&&_, _||_, false≢true}
 use mathlib.Core.List.{List}
 use mathlib.Core.Logic.{_⊎_, inl, inr, ⊎-elim}
 use lib.Dec.{eqb}
-use lib.ListN.{length}
 use Rattle.branches.proofs.Branches.{and-left, and-right}
-use Rattle.answers.specs.Refusals.{firstRefusal}
 use Rattle.machine.specs.Machine.{Obeys, seen}
-use Rattle.registers.specs.Table.{nothing, carriedOf}
-use Rattle.registers.specs.Bits.{tooLarge, bitNotCarried}
-use Rattle.registers.specs.Writing.{written, goIsStop, writeChecks}
 use Rattle.store.specs.Ring.{held}
-use Rattle.state.specs.Sizes.{fits}
 use Rattle.line.specs.HoldingOff.{storedWith}
 use Rattle.loopside.specs.Sends.{ruleOf}
 use Rattle.answers.specs.Answers.{refused}
-use Rattle.bridge.specs.Calls.{write, on, World, Did, heldLine, ofReadingRule, checksOn, checks, step}
-use Rattle.laws.specs.Fitting.{Fits}
+use Rattle.bridge.specs.Calls.{write, on, World, Did, ofReadingRule, step}
+use Rattle.bridge.proofs.Checks.{ten-held}
 use Rattle.laws.specs.Observers.{taken}
 use Rattle.laws.specs.Worlds.{heldCells, holdsSome}
 use Rattle.laws.specs.HeldLine.{namesRule, RuleStays, HeldRefused, HeldLine}
@@ -70,25 +63,8 @@ names-them n = go (eqb n 10) (eqb n 16) (eqb n 17)
     go false b c = refl
 
 module _ (w : World) (n v : ℕ) where
-  -- 10 is the last of the checks
-  last : firstRefusal (checks (on (write n v)) w) ≡ 10 → Fits w × (heldLine (w .state) n ≡ true)
-  unfolding checks checksOn writeChecks
-  last e =
-      go (fits (w .state) (length (w .rx)) (length (w .tx))) (eqb (carriedOf n) nothing) (tooLarge (carriedOf n) v) (bitNotCarried (carriedOf n) v)
-      (goIsStop (written (w .state .regs) n v)) (heldLine (w .state) n) e
-    where
-      go : (fit five six seven eight ten : Bool) → _≡_ {A = ℕ} (cond (not fit) 2 (cond five 5 (cond six 6 (cond seven 7 (cond eight 8 (cond ten 10 0)))))) 10 →
-          (fit ≡ true) × (ten ≡ true)
-      go true false false false false true e = (refl, refl)
-      go false five six seven eight ten e = absurd (omega arith)
-      go true true six seven eight ten e = absurd (omega arith)
-      go true false true seven eight ten e = absurd (omega arith)
-      go true false false true eight ten e = absurd (omega arith)
-      go true false false false true ten e = absurd (omega arith)
-      go true false false false false false e = absurd (omega arith)
-
   given-ten : step (on (write n v)) w .said ≡ refused 10 → (holdsSome w && ofReadingRule n) ≡ true
-  given-ten e = let k = last (refuses (on (write n v)) w .when 10 e) in sym (held-line w (k .0) n) ∙ k .1
+  given-ten e = let k = ten-held w n v (refuses (on (write n v)) w .when 10 e) in sym (held-line w (k .0) n) ∙ k .1
 
   not-taken : namesRule n ≡ true → holdsSome w ≡ true → taken (step (on (write n v)) w .said) ≡ false
   not-taken names some =

@@ -6,7 +6,6 @@ use lib.Dec.{eqb}
 use borrow.Author.Tests.{eqb-true}
 use Rattle.branches.proofs.Branches.{by-cond}
 use Rattle.answers.specs.Refusals.{firstRefusal}
-use Rattle.answers.specs.Answers.{refused}
 use Rattle.bridge.specs.Calls.{on, nextLineByte, loopFrame, World, Did, checks, refusedOr, refusal}
 use Rattle.laws.specs.Observers.{taken}
 use Rattle.laws.proofs.Refusing.{fitting}

@@ -7,3 +7,4 @@ pub mod Whole
 pub mod Asks
 pub mod Start
 pub mod UntilNone
+pub mod RegistersFirst

@@ -5,3 +5,4 @@ pub mod Input
 pub mod Transcript
 pub mod Start
 pub mod UntilNone
+pub mod RegistersFirst

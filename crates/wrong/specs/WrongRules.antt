@@ -1,7 +1,7 @@
 -- Bridges that let the reading rule change under a held line, or refuse wrongly to change it.
 use Prim.Native.Nat.{ℕ}
-use mathlib.Core.Bool.{Bool, false, _&&_, _||_, not}
-use lib.Dec.{eqb, ltb}
+use mathlib.Core.Bool.{Bool, false, _&&_, not}
+use lib.Dec.{eqb}
 use lib.ListN.{length}
 use Rattle.answers.specs.Refusals.{firstRefusal}
 use Rattle.registers.specs.Bits.{bit}
