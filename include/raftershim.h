@@ -42,6 +42,7 @@
  *   6   register write: a control value above 15, or a character above 255
  *   7   register write: a control bit that is not carried
  *   8   register write: the go and stop characters would be equal
+ *   10  held bytes: R10, C00 or C01 is written while the receive store holds at least one cell
  *
  * They are checked in the order of their numbers. A call that is refused leaves the block and both stores as they were.
  */
@@ -65,8 +66,12 @@ extern "C" {
 #define RAFTERSHIM_FRAME 3u
 #define RAFTERSHIM_REFUSED 4u
 
-/* The one refusal that passes: the frame is offered again when the line has taken bytes. */
+/*
+ * The two refusals that pass. Busy: the frame is offered again when the line has taken bytes. Held bytes: the register is written again
+ * when all that the receive store holds is read, which is when RAFTERSHIM_RECEIVE_HELD is 0.
+ */
 #define RAFTERSHIM_BUSY 4u
+#define RAFTERSHIM_HELD_BYTES 10u
 
 /* The start and the length of a part that was shown: in cells of the receive store, in bytes of the transmit store. */
 #define RAFTERSHIM_START(answer) ((uint32_t)((answer) >> 32))
@@ -190,7 +195,11 @@ uint64_t raftershim_reset(uint8_t *block, uint64_t block_len, const uint16_t *rx
  * Writes a register: numbers 0 to 12 are R00 to R12, 16 to 21 are C00 to C05. Neither store is written. Answers done.
  * Refusal 2: the block is not a state that fits the stores. Refusal 5: the number is not carried. Refusal 6: the value is above 15 for
  * a control register, or above 255 for a character. Refusal 7: the value has a control bit that is not carried. Refusal 8: the go and
- * stop characters would be equal.
+ * stop characters would be equal. Refusal 10: the register is R10, C00 or C01, and the receive store holds at least one cell.
+ * So each byte is read by the R10, C00 and C01 that were in force when it was stored. The value does not matter: one that the register
+ * has already is refused too, and so is a change of R10 bit 2 alone, and so are C00 and C01 while R10 bit 3 is off. Bytes that wait to be
+ * decided are held, and so is an end of line that no send has removed yet; a frame under way is not. What waits is decided by the bytes
+ * that follow or by a break, and can then be read. A reset and a device clear throw it away.
  */
 uint64_t raftershim_write_register(uint8_t *block, uint64_t block_len, const uint16_t *rx, uint64_t rx_len, const uint8_t *tx,
                                    uint64_t tx_len, uint32_t number, uint32_t value);

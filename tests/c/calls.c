@@ -94,7 +94,7 @@ static void other_blocks(void) {
     misfits();
 }
 
-/* "Registers": refusals 5 to 8, in that order */
+/* "Registers": refusals 5 to 8, in that order, with nothing held */
 static void registers(void) {
     IS(create(8, 3, 3), DONE);
     for (uint32_t n = 3; n <= 9; n++) REFUSED(5, writes(n, 0));
@@ -117,6 +117,57 @@ static void registers(void) {
     IS(writes(11, 8), DONE);
     IS(writes(20, 17), DONE);
     IS(writes(16, 255), DONE);
+}
+
+/* something is held: R10, C00 and C01 are refused with 10 whatever the value, unless 5 to 8 come first, and the others are taken */
+static void held_line(void) {
+    static const uint32_t rule[] = {10, 16, 17};
+    for (uint32_t v = 0; v < 256; v++) {
+        for (int i = 0; i < 3; i++) REFUSED(i > 0 ? RAFTERSHIM_HELD_BYTES : v > 15 ? 6 : v & 3 ? 7 : RAFTERSHIM_HELD_BYTES, writes(rule[i], v));
+    }
+    REFUSED(5, writes(9, 0));
+    REFUSED(6, writes(16, 256));
+    REFUSED(6, writes(17, 0xFFFFFF00u));
+    REFUSED(8, writes(20, 19));
+    IS(writes(0, 9), DONE);
+    IS(writes(11, 8), DONE);
+    IS(writes(18, 13), DONE);
+}
+
+/* nothing is held: R10, C00 and C01 are written; the last leaves the pair 59, 59 */
+static void free_line(void) {
+    IS(RAFTERSHIM_RECEIVE_HELD(block), 0);
+    IS(writes(10, 8), DONE);
+    IS(writes(16, 59), DONE);
+    IS(writes(17, 59), DONE);
+}
+
+/* "No rule changes under a held line": half a reading is read whole by the pair that it came under */
+static void held_lines(void) {
+    IS(create(8, 3, 3), DONE);
+    IS(line(50), TAKEN(7));
+    held_line(); /* R10 bit 3 is off */
+    IS(frame(5, 129), OUT(3, 5, 130));
+    IS(frame(4, 65), OUT(3, 4, 65));
+    IS(frame(5, 96), OUT(3, 0, 50));
+    IS(writes(10, 8), DONE); /* the 50 is under way, and not held */
+    for (uint8_t b = 0; b < 2; b++) IS(line(b ? 13 : 53), TAKEN(7 - b));
+    held_line();
+    IS(frame(0, 50), OUT(3, 5, 64));
+    held_line(); /* undecided */
+    IS(line(10), TAKEN(5));
+    IS(frame(5, 96), OUT(3, 2, 53));
+    IS(line(13), TAKEN(7));
+    IS(line(10), TAKEN(6));
+    held_line(); /* a pair that no send has removed */
+    IS(frame(2, 53), OUT(3, 5, 64));
+    free_line();
+    for (uint8_t b = 0; b < 3; b++) IS(line(b ? 59 : 55), TAKEN(7 - b));
+    IS(frame(5, 96), OUT(3, 2, 55));
+    IS(line(56), TAKEN(7));
+    held_line();
+    IS(frame(4, 20), OUT(3, 4, 20));
+    free_line();
 }
 
 /* "Store 8, m 3: the fourth byte does not hold off, the fifth begins holding off, the ninth is lost; two held ends it." */
@@ -292,8 +343,8 @@ static void no_room_told(void) {
     IS(frame(5, 129), OUT(7, 5, 130));
     IS(frame(4, 33), OUT(7, 4, 33));
     IS(frame(0, 65), OUT(6, 0, 65));
-    IS(line(50), TAKEN(5));
     IS(writes(10, 12), DONE);
+    IS(line(50), TAKEN(5));
     IS(brk(), DONE);
     IS(key(), DONE);
     IS(next(), BYTE(65));
@@ -303,6 +354,7 @@ static void no_room_told(void) {
     REFUSED(6, writes(0, 16));
     REFUSED(7, writes(11, 4));
     REFUSED(8, writes(20, 19));
+    REFUSED(10, writes(10, 12));
     for (uint32_t d = 1; d <= 5; d++) IS(frame(0, d), OUT(7 - d, 0, d));
     REFUSED(4, frame(2, 66));
     rx_len = 7;
@@ -345,6 +397,7 @@ int main(void) {
     sizes();
     other_blocks();
     registers();
+    held_lines();
     holding();
     listening();
     status();

@@ -32,16 +32,28 @@ pub fn steps<M: Drawable>(random: &mut Random, rows: usize) -> Vec<Step<M::What>
 }
 
 /// Makes every step on both sides, and holds them to the laws by the run's history.
-pub fn drive<M: Machine>(
+pub fn drive<M: Machine, W: What<M>>(
+    pair: Pair<M>,
+    steps: &[Step<W>],
+    tally: &mut Tally<M>,
+) -> Result<(), String> {
+    let call = |step: &Step<W>, state: &M::State| step.what.call(state, step.done);
+    run(pair, steps, call, tally)
+}
+
+/// Makes a call for each of these on both sides, by the state before it, and holds them to the laws by
+/// the run's history.
+pub fn run<M: Machine, T>(
     mut pair: Pair<M>,
-    steps: &[Step<impl What<M>>],
+    steps: &[T],
+    call: impl Fn(&T, &M::State) -> M::Call,
     tally: &mut Tally<M>,
 ) -> Result<(), String> {
     tally.runs += 1;
     let mut before = pair.state().ok_or("the run starts at no state")?;
     let mut run = M::Run::starting(&before, pair.buffers().stores());
     for step in steps {
-        let call = step.what.call(&before, step.done);
+        let call = call(step, &before);
         let answer = pair.call(call)?;
         let after = pair.state().ok_or_else(|| pair.told("no state"))?;
         let noted = run.note(&Made {

@@ -1,7 +1,5 @@
 //! A few cells in their order, small enough to be part of a state that is explored.
 
-use crate::machine::Cell;
-
 /// At most eight cells in their order.
 #[derive(Clone, Copy, Debug, Default, PartialEq, Eq, Hash)]
 pub struct Few<C> {
@@ -9,7 +7,7 @@ pub struct Few<C> {
     len: u8,
 }
 
-impl<C: Cell> Few<C> {
+impl<C: Copy + Default> Few<C> {
     pub fn cells(&self) -> &[C] {
         &self.cells[..usize::from(self.len)]
     }
@@ -17,6 +15,13 @@ impl<C: Cell> Few<C> {
     pub fn push(&mut self, cell: C) {
         self.cells[usize::from(self.len)] = cell;
         self.len += 1;
+    }
+
+    /// The same cells, each made into something else.
+    pub fn map<D: Copy + Default>(&self, change: impl Fn(C) -> D) -> Few<D> {
+        let mut changed = Few::default();
+        self.cells().iter().for_each(|&c| changed.push(change(c)));
+        changed
     }
 
     /// The last cell, to be changed.

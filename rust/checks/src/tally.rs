@@ -71,11 +71,18 @@ impl<M: Machine> Tally<M> {
         assert!(self.calls > self.kinds[REFUSED as usize]);
     }
 
+    /// This refusal was met so often at least, and what this row counts too.
+    pub fn assert_often(&self, refusal: usize, name: &str, least: usize) {
+        let refused = self.refused[refusal];
+        assert!(refused >= least, "refusal {refusal}: {refused} times");
+        let met = self.rows[row::<M>(name)];
+        assert!(met >= least, "{name}: {met} times");
+    }
+
     /// Each of these rows was met.
     pub fn assert_met(&self, names: &[&str]) {
         for name in names {
-            let row = M::ROWS.iter().position(|row| row == name);
-            assert!(self.rows[row.expect(name)] > 0, "{name}: never met");
+            assert!(self.rows[row::<M>(name)] > 0, "{name}: never met");
         }
     }
 
@@ -97,6 +104,12 @@ impl<M: Machine> Tally<M> {
             .collect();
         said.join(", ")
     }
+}
+
+/// The place of the row with this name.
+fn row<M: Machine>(name: &str) -> usize {
+    let row = M::ROWS.iter().position(|row| *row == name);
+    row.expect(name)
 }
 
 impl<M: Machine> fmt::Display for Tally<M> {

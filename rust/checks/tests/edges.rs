@@ -36,8 +36,9 @@ fn sizes_of_create() {
     println!("edges, create: {made} sizes taken, {broken} refused 1");
 }
 
-/// The refusal that the paper's table gives for a write at the start, or 0.
-fn due(number: u32, value: u32) -> u64 {
+/// The refusal that the tables of the paper and the requests give for a write, or 0, where registers have
+/// their start values and something is held from the line or nothing is.
+fn due(number: u32, value: u32, held: bool) -> u64 {
     let bits = match number {
         0 => 0b1001,
         1 => 0b1111,
@@ -52,6 +53,7 @@ fn due(number: u32, value: u32) -> u64 {
         _ if value > largest => 6,
         _ if value | bits != bits => 7,
         (20, 19) | (21, 17) => 8,
+        (10 | 16 | 17, _) if held => 10,
         _ => 0,
     }
 }
@@ -59,20 +61,27 @@ fn due(number: u32, value: u32) -> u64 {
 #[test]
 fn register_numbers_and_values() {
     let numbers = (0..40).chain([255, 256, 272, 1 << 16 | 10, 1 << 31, u32::MAX]);
-    let mut met = [0; 9];
+    let mut met = [0; 11];
     for number in numbers {
         for value in (0..300).chain([1 << 8 | 8, 1 << 16 | 8, 1 << 31, u32::MAX]) {
-            let mut pair = Pair::create(4, 3, 1);
-            let due = due(number, value);
-            let answer = if due == 0 { DONE } else { refused(due) };
-            pair.expect(Call::Register(number, value), answer);
-            met[due as usize] += 1;
+            for held in [false, true] {
+                let mut pair = Pair::create(4, 3, 1);
+                if held {
+                    pair.expect(Call::Line(50), with_room(3, DONE));
+                }
+                let due = due(number, value, held);
+                let answer = if due == 0 { DONE } else { refused(due) };
+                pair.expect(Call::Register(number, value), answer);
+                met[due as usize] += 1;
+            }
         }
     }
-    let [taken, _, _, _, _, five, six, seven, eight] = met;
+    let [taken, _, _, _, _, five, six, seven, eight, _, ten] = met;
     println!(
-        "edges, registers: {taken} taken; refused 5: {five}, 6: {six}, 7: {seven}, 8: {eight}"
+        "edges, registers: {taken} taken; refused 5: {five}, 6: {six}, 7: {seven}, 8: {eight}, 10: {ten}"
     );
+    // The four values of R10 that have carried bits only, and every character.
+    assert_eq!(ten, 4 + 256 + 256);
 }
 
 #[test]

@@ -10,15 +10,13 @@ use raftershim_checks::bridge::call::{frame, Call};
 use raftershim_checks::bridge::frames::*;
 use raftershim_checks::bridge::orders::Orders;
 use raftershim_checks::bridge::{planted, TheBridge, MODEL};
-use raftershim_checks::explore::{explore, first_states, Letter, Plan, EVERY_STATE};
+use raftershim_checks::explore::{first_states, EVERY_STATE};
 use raftershim_checks::implementation::Both;
 use raftershim_checks::machine::Machine;
 use raftershim_checks::played::play;
 use raftershim_checks::tally::Tally;
-use raftershim_checks::written::script_in;
 use script::Script;
 use Call::{Break, Frame, Key, Line, Next, Register, Reset, ShowReceive, ShowTransmit};
-use Letter::Make;
 
 /// A correct return, one with another service bit, and two damaged ones.
 const RETURNS: [u16; 4] = [0, 1 << 8, 1, 2 << 8];
@@ -274,18 +272,15 @@ fn all_together() {
 
 /// The script of the first difference between these two, on a receive store of 4 and a transmit
 /// store of 3.
-fn shortest(both: Both<TheBridge>, calls: &[Call]) -> Script {
-    let letters: Vec<Letter<Call>> = calls.iter().copied().map(Make).collect();
-    let told = explore(&Plan {
-        both,
-        lens: [4, 3],
-        number: 1,
-        start: &[],
-        letters: &letters,
+fn shortest(both: Both<TheBridge>, start: &[Call], calls: &[Call]) -> Script {
+    let orders = Orders {
+        name: "planted",
+        receive: (4, 1),
+        start,
+        calls,
         limit: EVERY_STATE,
-    });
-    let told = told.err().expect("it is found");
-    script_in(&told).expect("a script").parse().expect("sound")
+    };
+    orders.difference(both, &[]).expect("it is found").script
 }
 
 #[test]
@@ -300,7 +295,7 @@ fn a_wrong_room_is_found_by_the_shortest_way() {
     for fault in faults {
         // The model says it, and without a second opinion the history. One call shows it.
         for both in [[fault, MODEL], [fault, fault]] {
-            let script = shortest(both, &calls);
+            let script = shortest(both, &[], &calls);
             assert_eq!(script.steps.len(), 1 + 1, "{script}");
         }
     }
@@ -313,7 +308,7 @@ fn a_room_that_is_told_with_a_refusal_is_found() {
     let fault = planted::ROOM_WITH_REFUSAL;
     let calls = [Register(10, 4), ASSIGN, LISTEN, frame(0, 65), frame(2, 66)];
     for both in [[fault, MODEL], [fault, fault]] {
-        let script = shortest(both, &calls);
+        let script = shortest(both, &[], &calls);
         assert_eq!(script.steps.len(), 1 + 5, "{script}");
         assert!(play([fault, MODEL], &script).is_err());
         assert!(play(TheBridge::BOTH, &script).is_ok());
@@ -323,18 +318,10 @@ fn a_room_that_is_told_with_a_refusal_is_found() {
 #[test]
 fn a_planted_fault_is_found_by_the_shortest_way() {
     let calls = [Line(50), Line(51), SEND, Next, Key];
-    let told = explore(&Plan {
-        both: [planted::SILENT_LOSS, MODEL],
-        lens: [4, 3],
-        number: 1,
-        start: &[ASSIGN, TALK],
-        letters: &calls.map(Make),
-        limit: EVERY_STATE,
-    });
-    let told = told.err().expect("it is found");
-    let script: Script = script_in(&told).expect("a script").parse().expect("sound");
+    let both = [planted::SILENT_LOSS, MODEL];
+    let script = shortest(both, &[ASSIGN, TALK], &calls);
     // Create, address, talk, the bytes that fill the store and the one that is lost.
-    assert_eq!(script.steps.len(), 3 + 4 + 1, "{told}");
-    assert!(play([planted::SILENT_LOSS, MODEL], &script).is_err());
+    assert_eq!(script.steps.len(), 3 + 4 + 1, "{script}");
+    assert!(play(both, &script).is_err());
     assert!(play(TheBridge::BOTH, &script).is_ok());
 }

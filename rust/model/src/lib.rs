@@ -321,6 +321,11 @@ impl Bridge {
             Ok(new) => new,
             Err(refusal) => return Answer::Refused(refusal),
         };
+        // "10, held bytes, checked after 8": "Writing R10, C00 or C01 while the receive store holds
+        // anything is refused", whatever the value.
+        if matches!(number, 10 | 16 | 17) && self.receive.held > 0 {
+            return Answer::Refused(10);
+        }
         let before = self.enabled_and_holding();
         self.registers = new;
         if number == 11 {

@@ -1,5 +1,8 @@
-//! The paper's examples, its list of slips, the whole-run demands and what a break does, as calls on
-//! the model.
+//! The paper's examples, its list of slips, the whole-run demands, what a break does and what a held line
+//! refuses, as calls on the model.
+
+#[path = "paper/held_line.rs"]
+mod held_line;
 
 use raftershim_model::boundary::{self, room};
 use raftershim_model::{block, Answer, Bridge, WithRoom};
@@ -127,6 +130,33 @@ fn frames_of(rule_on: bool, pair: [u8; 2], cells: &[u16]) -> Vec<u16> {
         frames_of_piece(rule_on, pair, &bytes, ended)
     });
     frames.collect()
+}
+
+/// What the reading rule goes by: whether R10 bit 3 is on, and the pair C00, C01.
+type Rule = (bool, [u8; 2]);
+
+/// The rule in force.
+fn rule_of(bridge: &Bridge) -> Rule {
+    let registers = &bridge.registers;
+    (registers.r10 & 8 != 0, [registers.c[0], registers.c[1]])
+}
+
+/// The frames of cells that are each read by a rule of their own: each stretch of one rule is read by
+/// itself, and ends as at a break where another rule follows.
+fn frames_of_stretches(cells: &[(Rule, u16)]) -> Vec<u16> {
+    let mut frames = Vec::new();
+    let mut rest = cells;
+    while let Some(&(rule, _)) = rest.first() {
+        let end = rest.iter().position(|cell| cell.0 != rule);
+        let (stretch, after) = rest.split_at(end.unwrap_or(rest.len()));
+        let mut stretch: Vec<u16> = stretch.iter().map(|cell| cell.1).collect();
+        if let (Some(last), false) = (stretch.last_mut(), after.is_empty()) {
+            *last |= BREAK;
+        }
+        frames.extend(frames_of(rule.0, rule.1, &stretch));
+        rest = after;
+    }
+    frames
 }
 
 /// The frames of bytes without a break between them; `ended` says whether one follows the last.
@@ -724,8 +754,9 @@ fn show_is_the_unbroken_run() {
 /// What a run's observer keeps, from the calls, the worlds before them and the answers alone.
 #[derive(Clone)]
 struct History {
-    /// Bytes and breaks held at the start, then all accepted, as cells.
-    accepted: Vec<u16>,
+    /// Bytes and breaks held at the start, then all accepted, as cells, each with the rule in force when
+    /// it was accepted.
+    accepted: Vec<(Rule, u16)>,
     /// Data frames sent from the receive store, the service bit aside.
     sent: Vec<u16>,
     /// Bytes held for the line at the start, then all added.
@@ -742,11 +773,16 @@ struct History {
     in_spell: usize,
 }
 
+/// These cells, all read by this rule.
+fn ruled(rule: Rule, cells: Vec<u16>) -> Vec<(Rule, u16)> {
+    cells.into_iter().map(|cell| (rule, cell)).collect()
+}
+
 impl History {
     fn starting(world: &World) -> History {
         let bridge = &world.bridge;
         History {
-            accepted: world.held(),
+            accepted: ruled(rule_of(bridge), world.held()),
             sent: Vec::new(),
             added: world.waiting(),
             handed_out: Vec::new(),
@@ -756,6 +792,41 @@ impl History {
                 && !bridge.holding
                 && world.rx.len() - bridge.receive.held > bridge.margin,
             in_spell: 0,
+        }
+    }
+
+    /// The same run after a register write. The statements on news and on losses speak of runs without
+    /// one, so these start again.
+    fn written(self, world: &World) -> History {
+        History {
+            accepted: self.accepted,
+            sent: self.sent,
+            added: self.added,
+            handed_out: self.handed_out,
+            ..History::starting(world)
+        }
+    }
+
+    /// The history after one call that was not refused. Demand 3 speaks of runs without a reset or a
+    /// device clear, so a new run starts after them.
+    fn after(
+        mut self,
+        before: &World,
+        (call, answer): (Call, Answer),
+        after: &World,
+        found: &mut Found,
+    ) -> History {
+        match call {
+            Call::Reset => History::starting(after),
+            _ if call == offer(4, 20) => History::starting(after),
+            Call::Write(..) => {
+                found.rules += u32::from(rule_of(&before.bridge) != rule_of(&after.bridge));
+                self.written(after)
+            }
+            _ => {
+                self.note(before, call, answer, found);
+                self
+            }
         }
     }
 
@@ -786,7 +857,7 @@ impl History {
     /// the first there is nothing that it could part.
     fn note_break(&mut self, found: &mut Found) {
         if let Some(last) = self.accepted.last_mut() {
-            *last |= BREAK;
+            last.1 |= BREAK;
             found.breaks += 1;
         }
     }
@@ -801,7 +872,7 @@ impl History {
         self.in_spell = if bridge.holding { self.in_spell + 1 } else { 0 };
         self.no_loss_promised &= self.in_spell <= bridge.margin;
         if bridge.receive.held < before.rx.len() {
-            self.accepted.push(byte.into());
+            self.accepted.push((rule_of(bridge), byte.into()));
         } else {
             assert!(!self.no_loss_promised);
             self.news_owed = true;
@@ -842,13 +913,14 @@ impl History {
         }
     }
 
-    /// Demand 3 and the promise for the transmit store, after every call.
+    /// Demand 3 and the promise for the transmit store, after every call. What is held was accepted
+    /// last, and is read by the rules of these.
     fn check(&self, world: &World) {
-        let registers = &world.bridge.registers;
-        let pair = [registers.c[0], registers.c[1]];
-        let frames = |cells: &[u16]| frames_of(registers.r10 & 8 != 0, pair, cells);
-        let sent_then_held = [self.sent.clone(), frames(&world.held())].concat();
-        assert_eq!(sent_then_held, frames(&self.accepted));
+        let held = world.held();
+        let rules = &self.accepted[self.accepted.len() - held.len()..];
+        let held: Vec<(Rule, u16)> = rules.iter().map(|of| of.0).zip(held).collect();
+        let sent_then_held = [self.sent.clone(), frames_of_stretches(&held)].concat();
+        assert_eq!(sent_then_held, frames_of_stretches(&self.accepted));
         assert!(world.bridge.overrun_seen || !self.news_owed);
         let out_then_waiting = [self.handed_out.clone(), world.waiting()].concat();
         assert_eq!(out_then_waiting, self.added);
@@ -864,6 +936,8 @@ struct Found {
     losses: u32,
     breaks: u32,
     news: u32,
+    /// Writes that changed the reading rule.
+    rules: u32,
 }
 
 /// Makes every call of the alphabet, checks, and goes on from each result.
@@ -880,16 +954,7 @@ fn explore(world: &World, history: &History, calls: &[Call], depth: u32, found: 
         assert!(next.bridge.fits(next.rx.len(), next.tx.len()));
         let idle = next.bridge.talker != ACTIVE_DATA && next.bridge.talker != ACTIVE_STATUS;
         assert!(!idle || next.bridge.under_way == 0 && !next.bridge.finishing);
-        // Demand 3 speaks of runs without these calls, so a new run starts after them.
-        let cuts = matches!(call, Call::Reset | Call::Write(..)) || call == offer(4, 20);
-        let mut noted = if cuts {
-            History::starting(&next)
-        } else {
-            history.clone()
-        };
-        if !cuts {
-            noted.note(world, call, answer, found);
-        }
+        let noted = history.clone().after(world, (call, answer), &next, found);
         noted.check(&next);
         if depth > 1 {
             explore(&next, &noted, calls, depth - 1, found);
@@ -1138,7 +1203,7 @@ fn no_other_call_tells_any_room() {
         Call::Next,
         Call::Break,
         Call::Key,
-        Call::Write(10, 8),
+        Call::Write(11, 8),
         Call::Write(3, 0),
         Call::Reset,
     ];
@@ -1198,17 +1263,14 @@ fn a_break_marks_the_newest_held_cell_and_writes_nothing_else() {
 
 #[test]
 fn the_low_nine_bits_of_a_cell_count_and_no_other() {
-    let pairs = [&[Call::Write(10, 8)], &TALK[..]].concat();
     for off in [false, true] {
-        let mut world = World::after(8, 3, 3, &pairs);
+        let rule = Call::Write(10, if off { 0 } else { 8 });
+        let mut world = World::after(8, 3, 3, &[&[rule], &TALK[..]].concat());
         for item in [50, 13, 10, 46, 13, BREAK, 10] {
             world.call(came(item));
         }
         for cell in &mut world.rx {
             *cell |= 0xfe00;
-        }
-        if off {
-            world.call(Call::Write(10, 0));
         }
         // The newest cell is byte and mark exactly after a break, and its bits above go.
         world.call(Call::Break);

@@ -89,6 +89,9 @@ fn written(block: &mut Block, number: u32, value: u32) -> u64 {
     if (place == GO && value == block[STOP]) || (place == STOP && value == block[GO]) {
         return REFUSED | 8;
     }
+    if matches!(place, R10 | C00 | C01) && RECEIVE.held(block) != 0 {
+        return REFUSED | 10;
+    }
     let watch = Watch::every_condition(block);
     block[place] = value;
     if place == R11 {

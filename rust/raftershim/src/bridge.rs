@@ -274,12 +274,14 @@ where
         done(call!(self, raftershim_reset))
     }
 
-    /// Writes a register. Its page warns of characters that vanish from the data.
+    /// Writes a register. Its page warns of characters that vanish from the data, and says when R10,
+    /// C00 and C01 can be written.
     ///
     /// # Errors
     ///
     /// Refusal 6 if the value is too large, 7 if it has a control bit that is not carried, 8 if the
-    /// go and stop characters would be equal, and 2.
+    /// go and stop characters would be equal, 10 if it is R10, C00 or C01 and the receive store holds
+    /// anything, and 2.
     ///
     /// ```
     /// use raftershim::{Bridge, Refusal, Register, Stores};
@@ -288,6 +290,8 @@ where
     /// bridge.write_register(Register::R10, Register::R10_FIND_LINE_END)?;
     /// assert_eq!(bridge.write_register(Register::R10, 16), Err(Refusal::VALUE_TOO_LARGE));
     /// assert_eq!(bridge.write_register(Register::C05, 17), Err(Refusal::GO_IS_STOP));
+    /// bridge.line_byte(50)?;
+    /// assert_eq!(bridge.write_register(Register::C00, b';'), Err(Refusal::HELD_BYTES));
     /// # Ok::<(), Refusal>(())
     /// ```
     #[must_use = "a refused write has changed nothing"]

@@ -53,8 +53,8 @@ pub struct Notes<G, X> {
 /// - A byte that the serial port lost was never seen here, so the app says where it is missing, by
 ///   [`line_gap`](Meter::line_gap).
 ///
-/// Neither status polls nor keys change any of this. R10, C00 and C01 count as they are when a byte is
-/// read. Write them only when all is read.
+/// Neither status polls nor keys change any of this. Nor does a write of R10, C00 or C01: it is refused
+/// while anything is held, so each byte is read by those that were in force when it came.
 ///
 /// ```
 /// use raftershim::{Meter, Notes, Reading, Stores};
@@ -424,9 +424,30 @@ where
     /// Writes a register, as [`Bridge::write_register`] does. Without
     /// [`Register::R10_FIND_LINE_END`] in R10 no reading ever ends.
     ///
+    /// R10, C00 and C01 are written when all that came is read. Up to two bytes that wait for the end of
+    /// their line are held after [`Reading::NotEnded`]: read again when more has come. If no more will
+    /// come, [`line_break`](Meter::line_break) cuts the reading off, and it is then told as a gap.
+    ///
     /// # Errors
     ///
-    /// Refusal 6, 7, 8 or 2.
+    /// Refusal 6, 7, 8, 10 or 2.
+    ///
+    /// ```
+    /// use raftershim::{Meter, Notes, Reading, Refusal, Register, Stores};
+    ///
+    /// let stores = Stores { receive: [0; 64], transmit: [0; 64] };
+    /// let mut meter = Meter::create(stores, Notes { gaps: [0; 8], text: [0; 32] }, 8)?;
+    /// // Half a reading is held, so its end of line stays what it is.
+    /// meter.line_bytes(b"2.")?;
+    /// assert_eq!(meter.write_register(Register::C00, b';'), Err(Refusal::HELD_BYTES));
+    /// meter.line_bytes(b"5\r\n")?;
+    /// assert!(matches!(meter.reading()?, Reading::Whole(text) if text.as_bytes() == b"2.5"));
+    /// meter.write_register(Register::C00, b';')?;
+    /// meter.write_register(Register::C01, b';')?;
+    /// meter.line_bytes(b"7;;")?;
+    /// assert!(matches!(meter.reading()?, Reading::Whole(text) if text.as_bytes() == b"7"));
+    /// # Ok::<(), Refusal>(())
+    /// ```
     #[must_use = "a refused write has changed nothing"]
     pub fn write_register(&mut self, register: Register, value: u8) -> Result<(), Refusal> {
         self.bridge.write_register(register, value)

@@ -112,7 +112,7 @@ extern "C" {
         tx_len: u64,
     ) -> u64;
 
-    /// Writes a register. Answers done, or refusal 2, 5, 6, 7 or 8.
+    /// Writes a register. Answers done, or refusal 2, 5, 6, 7, 8 or 10.
     ///
     /// # Safety
     ///

@@ -15,6 +15,14 @@ use crate::Refusal;
 /// sends as data. With C05 set to 46, the point, every point is swallowed, and 2.5 is read as 25
 /// without a warning. Where the meter's data may hold any byte, write 0 to R11 first.
 ///
+/// # No rule changes under a held line
+///
+/// R10, C00 and C01 say how what comes on the line is read. Each byte is read as they were when it was
+/// stored, so a write of one of them is refused with [`Refusal::HELD_BYTES`] while the receive store
+/// holds anything. The value does not matter: one that the register has already is refused too. Read
+/// all that is held, and then write. A byte that waits for the end of its line is held as well. Where
+/// that end never comes, a break lets it be read, and a device clear or a reset throws it away.
+///
 /// ```
 /// use raftershim::{Bridge, Register, Stores};
 ///
@@ -34,14 +42,16 @@ pub enum Register {
     R01 = 1,
     /// R02: the MSRQ key and the break. At start 0.
     R02 = 2,
-    /// R10: line ends. At start 0.
+    /// R10: line ends. At start 0. It is not written while bytes from the line are held.
     R10 = 10,
     /// R11: the receiver protocol. At start 8, so it is on. Writing R11 lets our sending start
     /// again at once.
     R11 = 11,
-    /// C00: the first character of the pair that ends a line on the way to the loop. At start 13.
+    /// C00: the first character of the pair that ends a line on the way to the loop. At start 13. It is
+    /// not written while bytes from the line are held.
     C00 = 16,
-    /// C01: the second character of the pair that ends a line on the way to the loop. At start 10.
+    /// C01: the second character of the pair that ends a line on the way to the loop. At start 10. It is
+    /// not written while bytes from the line are held.
     C01 = 17,
     /// C02: the first character of the pair put behind an end byte on the way to the line. At
     /// start 13.

@@ -7,8 +7,8 @@ fn frame(number: u16) -> Frame {
     Frame::try_from(number).unwrap()
 }
 
-/// The nine refusals with their numbers and the sentences that a person hears.
-const REFUSALS: [(u16, Refusal, &str); 9] = [
+/// The ten refusals with their numbers and the sentences that a person hears.
+const REFUSALS: [(u16, Refusal, &str); 10] = [
     (
         1,
         Refusal::SIZES,
@@ -48,6 +48,11 @@ const REFUSALS: [(u16, Refusal, &str); 9] = [
         8,
         Refusal::GO_IS_STOP,
         "refusal 8: the go and stop characters would be equal",
+    ),
+    (
+        10,
+        Refusal::HELD_BYTES,
+        "refusal 10: held bytes, R10, C00 and C01 are written only while the receive store holds none",
     ),
     (
         13,

@@ -221,6 +221,24 @@ fn a_stop_character_that_is_the_point_swallows_it_unsaid() {
 }
 
 #[test]
+fn the_pair_is_changed_when_all_is_read() {
+    let mut meter = meter();
+    let change = |meter: &mut Small| meter.write_register(Register::C01, b';');
+    assert_eq!(meter.line_bytes(b"2.5"), Ok(0));
+    assert_eq!(change(&mut meter), Err(Refusal::HELD_BYTES));
+    // The 5 waits for the end of its line, so it is held.
+    assert_eq!(read(&mut meter), "not ended 2.");
+    assert_eq!(change(&mut meter), Err(Refusal::HELD_BYTES));
+    // No end of line will come: the reading is cut off, told, and then nothing is held.
+    assert_eq!(meter.line_break(), Ok(()));
+    assert_eq!(change(&mut meter), Err(Refusal::HELD_BYTES));
+    assert_eq!(read(&mut meter), "gap 2.5");
+    assert_eq!(change(&mut meter), Ok(()));
+    assert_eq!(meter.line_bytes(b"7\r;"), Ok(0));
+    assert_eq!(read(&mut meter), "whole 7");
+}
+
+#[test]
 fn what_a_used_bridge_holds_is_told_as_gaps() {
     let mut bridge = Bridge::create(STORES, 3).unwrap();
     let finding = Register::R10_FIND_LINE_END;

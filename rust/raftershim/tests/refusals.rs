@@ -41,7 +41,7 @@ where
     [
         ("reset", |bridge| bridge.reset().map(Answer::from)),
         ("write_register", |bridge| {
-            bridge.write_register(Register::R10, 8).map(Answer::from)
+            bridge.write_register(Register::R11, 8).map(Answer::from)
         }),
         ("line_byte", |bridge| bridge.line_byte(50).map(Answer::from)),
         ("line_break", |bridge| bridge.line_break().map(Answer::from)),
@@ -247,5 +247,73 @@ fn register_writes_are_refused_by_value_bit_and_character() {
     ];
     for (register, value, refusal) in writes {
         refused(small(), refusal, |b| b.write_register(register, value));
+        refused(holding(), refusal, |b| b.write_register(register, value));
     }
+}
+
+/// A bridge that holds a byte from the line.
+fn holding() -> Small {
+    let mut bridge = small();
+    assert_eq!(bridge.line_byte(50), Ok(LineByte::Stored));
+    bridge
+}
+
+/// The registers that say how a line is read, and values that they take.
+const OF_THE_RULE: [(Register, &[u8]); 3] = [
+    (Register::R10, &[0, 4, 8, 12]),
+    (Register::C00, &[13, 0, 255]),
+    (Register::C01, &[10, 0, 255]),
+];
+
+#[test]
+fn no_rule_changes_under_a_held_line() {
+    for (register, values) in OF_THE_RULE {
+        for &value in values {
+            refused(holding(), Refusal::HELD_BYTES, |b| {
+                b.write_register(register, value)
+            });
+            assert_eq!(small().write_register(register, value), Ok(()));
+        }
+    }
+    refused(holding(), Refusal::VALUE_TOO_LARGE, |b| {
+        b.write_register(Register::R10, 16)
+    });
+    refused(holding(), Refusal::BIT_NOT_CARRIED, |b| {
+        b.write_register(Register::R10, 2)
+    });
+    for register in Register::ALL {
+        let of_the_rule = OF_THE_RULE.iter().any(|(of, _)| *of == register);
+        let written = holding().write_register(register, 0);
+        assert_eq!(written.is_err(), of_the_rule, "{register}");
+    }
+}
+
+#[test]
+fn a_rule_changes_when_all_is_read() {
+    let mut bridge = holding();
+    for frame in [
+        Frame::auto_address(Address::FIRST),
+        Frame::talk_address(Address::FIRST),
+    ] {
+        bridge.loop_frame(frame).unwrap();
+    }
+    let find = Register::R10_FIND_LINE_END;
+    refused(bridge.clone(), Refusal::HELD_BYTES, |b| {
+        b.write_register(Register::R10, find)
+    });
+    // The byte is under way, and no longer held.
+    let sent = bridge.loop_frame(Frame::SEND_DATA);
+    assert_eq!(sent, Ok(Frame::data_byte(50)));
+    assert_eq!(bridge.write_register(Register::R10, find), Ok(()));
+    // Bytes that wait for the end of their line are held.
+    for byte in [51, 13] {
+        assert_eq!(bridge.line_byte(byte), Ok(LineByte::Stored));
+    }
+    let over = bridge.loop_frame(Frame::data_byte(50));
+    assert_eq!(over, Ok(Frame::END_OF_TRANSMISSION));
+    refused(bridge.clone(), Refusal::HELD_BYTES, |b| {
+        b.write_register(Register::C00, 59)
+    });
+    bridge.loop_frame(Frame::DEVICE_CLEAR).unwrap();
+    assert_eq!(bridge.write_register(Register::C00, 59), Ok(()));
 }

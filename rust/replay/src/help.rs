@@ -21,6 +21,7 @@ state: say the state, a fact a line.
 
 These are calls of the bridge.
 register R10 8: write a register. It is R00 to R12, C00 to C05, or a number.
+While the receive store holds anything, R10, C00 and C01 are refused by 10, held bytes.
 line 50: take a byte from the line. Several may follow, and text in quotation marks: line \"2.5\" 13 10.
 The answer to line says how many bytes were stored, lost, taken as go or taken as stop, as in 4 stored, 1 lost.
 The word room after the last byte or after a frame asks for the room that is left, as in line \"2.5\" room and frame 0,50 room.

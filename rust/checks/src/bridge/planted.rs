@@ -1,6 +1,7 @@
 //! Wrong bridges, each the model with one fault planted: the checks must find every one.
 
 pub mod breaks;
+pub mod held_line;
 
 use super::call::Call;
 use super::{Lent, TheBridge};
@@ -42,6 +43,24 @@ pub const ANOTHER_VERSION_TAKEN: Implementation = planted(version_taken::<TheBri
 
 /// Blocks of version 2 are taken as ours, whose receive store had bytes.
 pub const VERSION_BEFORE_TAKEN: Implementation = planted(version_taken::<TheBridge, 2>);
+
+/// The state in the block, if it is one that fits the stores.
+fn fitting(lent: &Lent) -> Option<Bridge> {
+    block::unpack(lent.block).filter(|state| state.fits(lent.one.len(), lent.other.len()))
+}
+
+/// Makes a call as the model does that holds nothing from the line, and then holds what it held.
+fn as_if_empty(mut lent: Lent, call: Call, state: &Bridge) -> u64 {
+    let mut none = *state;
+    none.receive.held = 0;
+    lent.block.copy_from_slice(&block::pack(&none));
+    let answer = right::<TheBridge>(lent.again(), call);
+    if let Some(mut after) = block::unpack(lent.block) {
+        (after.receive, after.holding) = (state.receive, state.holding);
+        lent.block.copy_from_slice(&block::pack(&after));
+    }
+    answer
+}
 
 /// What is free in the receive and in the transmit store.
 fn free(state: &Bridge) -> [usize; 2] {

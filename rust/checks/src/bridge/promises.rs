@@ -99,8 +99,10 @@ impl Promises {
         }
         match seen {
             Seen::Accepted(_) | Seen::Lost => self.room.arrived(before),
-            // Demand 3 speaks of runs without these, so a new run starts after them.
-            Seen::Register | Seen::DeviceClear | Seen::Reset => self.room = Room::starting(after),
+            // This statement speaks of runs without these, so a new run starts after them.
+            Seen::Register(_) | Seen::DeviceClear | Seen::Reset => {
+                self.room = Room::starting(after)
+            }
             _ => {}
         }
         if seen == Seen::Lost && self.room.promised {

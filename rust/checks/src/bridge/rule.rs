@@ -1,4 +1,5 @@
-//! The reading rule, written once more, over a plain sequence of cells.
+//! The reading rule, written once more, over a plain sequence of cells, each with the rule by which it is
+//! read.
 
 use model::Registers;
 
@@ -9,16 +10,31 @@ pub const BREAK: u16 = 1 << 8;
 
 /// What counts of a cell: the byte and the mark.
 pub const fn counting(cell: u16) -> u16 {
-    cell & 511
+    cell & ALL
 }
 
+/// The bits of a cell that count.
+const ALL: u16 = BREAK | 255;
+
 /// What the rule goes by: R10 bit 3 and the pair C00, C01.
-#[derive(Clone, Copy)]
+#[derive(Clone, Copy, Debug, Default, PartialEq, Eq, Hash)]
 pub struct Rule {
     on: bool,
     pair: [u8; 2],
-    /// What it looks at of a cell that is not the last of a pair.
-    bits: u16,
+}
+
+/// A cell, and the rule that was in force when its byte was accepted: by that it is read.
+#[derive(Clone, Copy, Debug, Default, PartialEq, Eq, Hash)]
+pub struct Accepted {
+    pub cell: u16,
+    pub rule: Rule,
+}
+
+impl Accepted {
+    /// A break follows its byte.
+    pub fn mark(&mut self) {
+        self.cell |= BREAK;
+    }
 }
 
 impl Rule {
@@ -26,63 +42,111 @@ impl Rule {
         Rule {
             on: registers.r10 & 8 != 0,
             pair: [registers.c[0], registers.c[1]],
-            bits: counting(u16::MAX),
         }
     }
 
-    /// The same rule without walls: it heeds no break.
-    pub fn heedless(self) -> Rule {
-        Rule { bits: 255, ..self }
+    /// The cell of a byte that is accepted while this rule is in force.
+    pub fn accepts(self, cell: u16) -> Accepted {
+        Accepted { cell, rule: self }
     }
 
-    /// Whether the cell here is C00 and no break follows it.
-    fn first_at(&self, cells: &[u16], place: usize) -> bool {
-        let cell = cells.get(place).map(|cell| cell & self.bits);
-        cell == Some(self.pair[0].into())
+    /// These cells, all of them accepted while this rule is in force.
+    pub fn accepts_all(self, cells: &[u16]) -> Vec<Accepted> {
+        cells.iter().map(|&cell| self.accepts(cell)).collect()
     }
 
-    /// Whether the pair stands here, with no break in it. One may follow it.
-    fn pair_at(&self, cells: &[u16], place: usize) -> bool {
-        let last = cells.get(place + 1).map(|cell| cell & 255);
-        self.first_at(cells, place) && last == Some(self.pair[1].into())
+    /// One send from cells that are all read by this rule: how many of them go, and the frame, if there
+    /// is one.
+    pub fn send(self, cells: &[u16]) -> (usize, Option<u16>) {
+        let get = |place| self.accepts(cells[place]);
+        let len = cells.len();
+        Line {
+            len,
+            get,
+            bits: ALL,
+        }
+        .send()
+    }
+}
+
+/// One send: how many cells go, and the frame, if there is one.
+pub fn send(accepted: &[Accepted]) -> (usize, Option<u16>) {
+    sent(accepted, ALL)
+}
+
+/// Whether this send is another one because of a break.
+pub fn heeds(accepted: &[Accepted]) -> bool {
+    send(accepted) != sent(accepted, 255)
+}
+
+/// All frames of a whole sequence.
+pub fn frames(mut accepted: &[Accepted]) -> Vec<u16> {
+    let mut frames = Vec::new();
+    while let (gone, Some(frame)) = send(accepted) {
+        frames.push(frame);
+        accepted = &accepted[gone..];
+    }
+    frames
+}
+
+/// One send that looks at these bits of a cell.
+fn sent(accepted: &[Accepted], bits: u16) -> (usize, Option<u16>) {
+    let get = |place: usize| accepted[place];
+    let len = accepted.len();
+    Line { len, get, bits }.send()
+}
+
+/// A sequence of so many, and which bits of their cells are looked at.
+struct Line<F> {
+    len: usize,
+    get: F,
+    bits: u16,
+}
+
+impl<F: Fn(usize) -> Accepted> Line<F> {
+    /// The rule by which the cell here is read, and what is looked at of the cell. Where the next one is
+    /// read by another rule there is a wall between them, as if a break had come.
+    fn at(&self, place: usize) -> Option<(Rule, u16)> {
+        let get = |place| (place < self.len).then(|| (self.get)(place));
+        let Accepted { cell, rule } = get(place)?;
+        let wall = get(place + 1).map_or(false, |next| next.rule != rule);
+        Some((rule, cell & self.bits | if wall { BREAK } else { 0 }))
     }
 
-    /// One send: how many cells go, and the frame, if there is one.
-    pub fn send(&self, cells: &[u16]) -> (usize, Option<u16>) {
+    /// Whether the cell here is C00 and no wall follows it.
+    fn first_at(&self, place: usize) -> bool {
+        let here = self.at(place);
+        here.map_or(false, |(rule, cell)| cell == rule.pair[0].into())
+    }
+
+    /// Whether the pair stands here, with no wall in it. One may follow it.
+    fn pair_at(&self, place: usize) -> bool {
+        let last = self.at(place + 1);
+        self.first_at(place)
+            && last.map_or(false, |(rule, cell)| {
+                rule.on && cell & 255 == rule.pair[1].into()
+            })
+    }
+
+    fn send(&self) -> (usize, Option<u16>) {
         let mut gone = 0;
-        while self.on && self.pair_at(cells, gone) {
+        while self.pair_at(gone) {
             gone += 2;
         }
-        let cell = match cells.get(gone) {
-            Some(cell) => cell & self.bits,
+        let (rule, cell) = match self.at(gone) {
+            Some(here) => here,
             None => return (gone, None),
         };
-        let broken = cell & BREAK != 0;
-        if self.on && !broken {
-            if self.pair_at(cells, gone + 1) {
+        if rule.on && cell & BREAK == 0 {
+            if self.pair_at(gone + 1) {
                 return (gone + 3, Some(END | cell));
             }
-            let left = cells.len() - gone;
-            if left == 1 || left == 2 && self.first_at(cells, gone + 1) {
+            let left = self.len - gone;
+            if left == 1 || left == 2 && self.first_at(gone + 1) {
                 return (gone, None);
             }
         }
         (gone + 1, Some(cell & 255))
-    }
-
-    /// Whether this send is another one because of a break.
-    pub fn heeds(&self, cells: &[u16]) -> bool {
-        self.send(cells) != self.heedless().send(cells)
-    }
-
-    /// All frames of a whole sequence.
-    pub fn frames(&self, mut cells: &[u16]) -> Vec<u16> {
-        let mut frames = Vec::new();
-        while let (gone, Some(frame)) = self.send(cells) {
-            frames.push(frame);
-            cells = &cells[gone..];
-        }
-        frames
     }
 }
 
@@ -90,11 +154,18 @@ impl Rule {
 mod tests {
     use super::*;
 
-    /// The rule with the pair 13, 10.
+    /// The rule with the pair 13, 10, that with the pair 10, 13, and none.
     const RULE: Rule = Rule {
         on: true,
         pair: [13, 10],
-        bits: 511,
+    };
+    const TURNED: Rule = Rule {
+        on: true,
+        pair: [10, 13],
+    };
+    const OFF: Rule = Rule {
+        on: false,
+        pair: [13, 10],
     };
     /// Cells, and the send from them.
     type Row<'a> = (&'a [u16], (usize, Option<u16>));
@@ -125,18 +196,47 @@ mod tests {
         ];
         for (cells, sent) in rows {
             assert_eq!(RULE.send(cells), sent, "{cells:?}");
+            assert_eq!(send(&RULE.accepts_all(cells)), sent, "{cells:?}");
         }
-        let off = Rule { on: false, ..RULE };
-        assert_eq!(off.frames(&[50, B13, 10, 13, B10]), [50, 13, 10, 13, 10]);
+        let off = OFF.accepts_all(&[50, B13, 10, 13, B10]);
+        assert_eq!(frames(&off), [50, 13, 10, 13, 10]);
     }
 
     #[test]
     fn a_send_that_a_break_changes_is_told_from_others() {
         for cells in [&[B50][..], &[B50, 13, 10], &[50, B13, 10], &[B13, 10]] {
-            assert!(RULE.heeds(cells), "{cells:?}");
+            assert!(heeds(&RULE.accepts_all(cells)), "{cells:?}");
         }
         for cells in [&[B50, 46][..], &[50, 13, B10], &[13, B10], &[50, 46, B13]] {
-            assert!(!RULE.heeds(cells), "{cells:?}");
+            assert!(!heeds(&RULE.accepts_all(cells)), "{cells:?}");
+        }
+    }
+
+    /// Stretches, each with its rule, and the frames of all of them.
+    type Stretches<'a> = (&'a [(Rule, &'a [u16])], &'a [u16]);
+
+    #[test]
+    fn each_byte_is_read_by_its_own_rule_and_no_indicator_spans_two() {
+        let rows: [Stretches; 9] = [
+            (&[(RULE, &[50, 13]), (RULE, &[10])], &[END | 50]),
+            (&[(RULE, &[50, 13]), (TURNED, &[10])], &[50, 13]),
+            (&[(RULE, &[50, 13, 10]), (TURNED, &[13])], &[END | 50]),
+            (&[(RULE, &[50]), (TURNED, &[10, 13])], &[50]),
+            (
+                &[(RULE, &[50, 13, 10]), (TURNED, &[51, 10, 13])],
+                &[END | 50, END | 51],
+            ),
+            (&[(RULE, &[50]), (OFF, &[13, 10])], &[50, 13, 10]),
+            (&[(OFF, &[50, 13]), (RULE, &[10, 46])], &[50, 13, 10]),
+            (&[(RULE, &[13, 10]), (OFF, &[13, 10])], &[13, 10]),
+            (&[(RULE, &[13]), (TURNED, &[46]), (RULE, &[10])], &[13, 46]),
+        ];
+        for (stretches, due) in rows {
+            let all = stretches
+                .iter()
+                .flat_map(|(rule, cells)| rule.accepts_all(cells));
+            let all: Vec<Accepted> = all.collect();
+            assert_eq!(frames(&all), due, "{stretches:?}");
         }
     }
 }

@@ -2,8 +2,8 @@
 
 use super::promises::Promises;
 use super::room;
-use super::rule::{counting, Rule, BREAK};
-use super::seen::{seen, Seen, CHANGED_BY_A_BREAK};
+use super::rule::{counting, frames, send, Accepted, Rule};
+use super::seen::{seen, Seen};
 use super::watch::counted;
 use super::TheBridge;
 use crate::machine::{Made, Stores, Watcher};
@@ -11,8 +11,9 @@ use model::{Bridge, Ring};
 
 /// What a run's watcher writes down.
 pub struct Run {
-    /// Bytes and breaks held for the loop at the start, then all accepted, as cells.
-    accepted: Vec<u16>,
+    /// Bytes and breaks held for the loop at the start, then all accepted, as cells, each with the rule
+    /// in force when it was accepted, and those of the start with the rule in force there.
+    accepted: Vec<Accepted>,
     /// How many of those the sends have read off, by the reading rule.
     read_off: usize,
     /// Data frames sent from the receive store, the service bit aside.
@@ -38,7 +39,7 @@ fn unread(state: &Bridge, rx: &[u16]) -> Vec<u16> {
 impl Watcher<TheBridge> for Run {
     fn starting(state: &Bridge, (rx, tx): Stores<TheBridge>) -> Run {
         Run {
-            accepted: unread(state, rx),
+            accepted: Rule::of(&state.registers).accepts_all(&unread(state, rx)),
             read_off: 0,
             sent: Vec::new(),
             added: held(state.transmit, tx),
@@ -47,48 +48,51 @@ impl Watcher<TheBridge> for Run {
         }
     }
 
-    /// Writes down a call. A register write, a device clear and a reset end the run that demand 3
-    /// speaks of: it is held to the demand as it was before them, and the next one starts with what
-    /// is left by history. None of the three writes a store. A break follows the byte that was
-    /// accepted last, whether that is still held or not.
+    /// Writes down a call. A device clear and a reset end the run that demand 3 speaks of: it is held
+    /// to the demand as it was before them, and the next one starts with nothing. Neither writes a
+    /// store. A register write ends no run. A break follows the byte that was accepted last, whether
+    /// that is still held or not.
     fn note(&mut self, made: &Made<TheBridge>) -> Result<u32, String> {
         let (before, after) = (made.before, made.after);
         let event = seen(before, made.call, made.answer);
-        let changed = event.is_send() && self.heeds(before);
+        let rows = event.rows(made, self.unread());
         match event {
-            Seen::Accepted(byte) => self.accepted.push(byte.into()),
+            Seen::Accepted(byte) => {
+                let rule = Rule::of(&before.registers);
+                self.accepted.push(rule.accepts(byte.into()));
+            }
             Seen::Break => self
                 .accepted
                 .last_mut()
                 .into_iter()
-                .for_each(|c| *c |= BREAK),
+                .for_each(Accepted::mark),
             Seen::Sent(frame) => {
                 self.sent.push(frame);
-                self.read(before);
+                self.read();
             }
-            Seen::SentNone => self.read(before),
+            Seen::SentNone => self.read(),
             Seen::Added(bytes, len) => self.added.extend_from_slice(&bytes[..len]),
             Seen::HandedOut(byte) => self.handed_out.push(byte),
-            Seen::Register | Seen::DeviceClear | Seen::Reset => {
+            Seen::DeviceClear | Seen::Reset => {
                 self.check(before, made.stores)?;
-                self.start_again(event != Seen::Register);
+                self.start_again();
             }
             _ => {}
         }
         counted(event, before, after)?;
         self.promises.note(before, event, after)?;
         room::told(made.call, made.answer, self.free(made.stores))?;
-        Ok(event.rows() | if changed { CHANGED_BY_A_BREAK } else { 0 })
+        Ok(rows)
     }
 
     /// "The data frames sent from the receive store, followed by those the reading rule gives for
     /// the bytes still held, are those it gives for the bytes held at the start and then all
-    /// accepted"; and what was handed out, then what is held for the line, are the bytes added.
+    /// accepted", "each byte read by the rule in force when it was accepted"; and what was handed
+    /// out, then what is held for the line, are the bytes added.
     fn check(&self, state: &Bridge, (rx, tx): Stores<TheBridge>) -> Result<(), String> {
-        let rule = Rule::of(&state.registers);
-        let mut frames = self.sent.clone();
-        frames.extend(rule.frames(&unread(state, rx)));
-        if frames != rule.frames(&self.accepted) {
+        let mut read = self.sent.clone();
+        read.extend(frames(&self.still_held(&unread(state, rx))?));
+        if read != frames(&self.accepted) {
             return Err("frames sent and held are not those of the bytes accepted".into());
         }
         let mut line = self.handed_out.clone();
@@ -101,28 +105,30 @@ impl Watcher<TheBridge> for Run {
 }
 
 impl Run {
-    /// Whether the next send is another one because of a break.
-    fn heeds(&self, before: &Bridge) -> bool {
-        Rule::of(&before.registers).heeds(&self.accepted[self.read_off..])
+    /// What was accepted and not read off.
+    fn unread(&self) -> &[Accepted] {
+        &self.accepted[self.read_off..]
     }
 
     /// A send reads off what the reading rule says of the bytes accepted.
-    fn read(&mut self, before: &Bridge) {
-        let unread = &self.accepted[self.read_off..];
-        self.read_off += Rule::of(&before.registers).send(unread).0;
+    fn read(&mut self) {
+        self.read_off += send(self.unread()).0;
     }
 
-    /// Starts the next run with what this one, which was checked, has left; with nothing if that is
-    /// thrown away.
-    fn start_again(&mut self, thrown_away: bool) {
-        self.accepted.drain(..self.read_off);
-        self.added.drain(..self.handed_out.len());
-        if thrown_away {
-            self.accepted.clear();
-            self.added.clear();
-        }
+    /// The cells that are held, with the rules of as many that were accepted last.
+    fn still_held(&self, cells: &[u16]) -> Result<Vec<Accepted>, String> {
+        let gone = self.accepted.len().checked_sub(cells.len());
+        let newest = &self.accepted[gone.ok_or("more is held than was accepted")?..];
+        let both = cells.iter().zip(newest);
+        Ok(both.map(|(&cell, of)| of.rule.accepts(cell)).collect())
+    }
+
+    /// Starts the next run with nothing, after this one was checked.
+    fn start_again(&mut self) {
+        self.accepted.clear();
         self.read_off = 0;
         self.sent.clear();
+        self.added.clear();
         self.handed_out.clear();
     }
 

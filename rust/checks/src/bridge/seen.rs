@@ -1,6 +1,9 @@
 //! What a call did, as one sees it who knows the state before, the call and the answer.
 
 use super::call::Call;
+use super::rule::{heeds, Accepted, Rule};
+use super::TheBridge;
+use crate::machine::Made;
 use model::boundary::{kind, value, BYTE, REFUSED};
 use model::{Bridge, ACTIVE_DATA, ACTIVE_STATUS, ADDRESSED, SERVICE};
 
@@ -28,7 +31,8 @@ pub enum Seen {
     Added([u8; 3], usize),
     /// A line byte was given that is not our own go or stop.
     HandedOut(u8),
-    Register,
+    /// The register with this number was written.
+    Register(u32),
     DeviceClear,
     Reset,
 }
@@ -43,20 +47,27 @@ pub const ROWS: &[&str] = &[
     "status bytes back",
     "status bytes damaged or forgotten",
     "breaks",
+    "writes of R10, C00 and C01 taken",
     "sends that a break changed",
+    "changes of the reading rule",
 ];
-
-/// The bit for the last row.
-pub const CHANGED_BY_A_BREAK: u32 = 1 << 8;
 
 impl Seen {
     /// Whether it was a send, with a frame or without.
-    pub fn is_send(self) -> bool {
+    fn is_send(self) -> bool {
         matches!(self, Seen::Sent(_) | Seen::SentNone)
     }
 
-    /// A bit for the row that counts it, if there is one.
-    pub fn rows(self) -> u32 {
+    /// A bit for each row that counts this call, where this was unread before it.
+    pub fn rows(self, made: &Made<TheBridge>, unread: &[Accepted]) -> u32 {
+        let of = |bridge: &Bridge| Rule::of(&bridge.registers);
+        let broken = self.is_send() && heeds(unread);
+        let changed = matches!(self, Seen::Register(_)) && of(made.before) != of(made.after);
+        self.row() | u32::from(broken) << 9 | u32::from(changed) << 10
+    }
+
+    /// A bit for the row that counts it by itself, if there is one.
+    fn row(self) -> u32 {
         match self {
             Seen::Accepted(_) => 1,
             Seen::Lost => 1 << 1,
@@ -66,6 +77,7 @@ impl Seen {
             Seen::StatusBack => 1 << 5,
             Seen::StatusGone => 1 << 6,
             Seen::Break => 1 << 7,
+            Seen::Register(10 | 16 | 17) => 1 << 8,
             _ => 0,
         }
     }
@@ -84,7 +96,7 @@ pub fn seen(before: &Bridge, call: Call, answer: u64) -> Seen {
         Call::Frame(frame) => from_loop(before, frame as u16, value(answer) as u16),
         Call::Break => Seen::Break,
         Call::Key => Seen::Key,
-        Call::Register(..) => Seen::Register,
+        Call::Register(number, _) => Seen::Register(number),
         Call::Reset => Seen::Reset,
     }
 }

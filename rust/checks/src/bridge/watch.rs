@@ -3,8 +3,8 @@
 use super::call::Call;
 use super::promises::Promises;
 use super::room;
-use super::rule::{Rule, BREAK};
-use super::seen::{seen, Seen, CHANGED_BY_A_BREAK};
+use super::rule::{self, Accepted, Rule};
+use super::seen::{seen, Seen};
 use super::TheBridge;
 use crate::few::Few;
 use crate::machine::{Cell, Made, Stores, Watcher};
@@ -15,7 +15,7 @@ use model::{Bridge, Ring};
 #[derive(Clone, Copy, Debug, PartialEq, Eq, Hash)]
 pub struct Watch {
     /// Accepted from the line and not read off by the reading rule, with marks where breaks came.
-    unread: Few<u16>,
+    unread: Few<Accepted>,
     /// Added by frames and not handed out.
     waiting: Few<u8>,
     promises: Promises,
@@ -33,22 +33,22 @@ impl Watcher<TheBridge> for Watch {
 
     fn note(&mut self, made: &Made<TheBridge>) -> Result<u32, String> {
         let event = seen(made.before, made.call, made.answer);
-        let rule = Rule::of(&made.before.registers);
-        let changed = event.is_send() && rule.heeds(self.unread.cells());
+        let rows = event.rows(made, self.unread.cells());
         self.held_to(made.before, event, made.after, made.stores)?;
         self.shown(made.call, made.answer, made.stores)?;
         let (rx, tx) = made.stores;
         let held = [self.unread.cells().len(), self.waiting.cells().len()];
         let free = [rx.len() - held[0], tx.len() - held[1]];
         room::told(made.call, made.answer, free)?;
-        Ok(event.rows() | if changed { CHANGED_BY_A_BREAK } else { 0 })
+        Ok(rows)
     }
 }
 
 impl Watch {
     /// Holds the state after a call to demand 3. A frame sent must be the first that the rule gives
-    /// for what is unread, and what is left unread must be what is held: so frames sent, then those
-    /// of the bytes held, are those of all bytes accepted.
+    /// for what is unread, each byte read by the rule in force when it was accepted, and what is left
+    /// unread must be what is held: so frames sent, then those of the bytes held, are those of all
+    /// bytes accepted, whatever registers are written in between.
     fn held_to(
         &mut self,
         before: &Bridge,
@@ -56,10 +56,11 @@ impl Watch {
         after: &Bridge,
         stores: Stores<TheBridge>,
     ) -> Result<(), String> {
-        let read = Rule::of(&before.registers).send(self.unread.cells());
+        let read = rule::send(self.unread.cells());
+        let in_force = Rule::of(&before.registers);
         match (seen, read) {
-            (Seen::Accepted(byte), _) => self.unread.push(byte.into()),
-            (Seen::Break, _) => self.unread.last_mut().into_iter().for_each(|c| *c |= BREAK),
+            (Seen::Accepted(byte), _) => self.unread.push(in_force.accepts(byte.into())),
+            (Seen::Break, _) => self.unread.last_mut().into_iter().for_each(Accepted::mark),
             (Seen::Sent(frame), (gone, Some(first))) if frame == first => self.unread.remove(gone),
             (Seen::SentNone, (gone, None)) => self.unread.remove(gone),
             (Seen::Sent(_) | Seen::SentNone, _) => return Err("another frame is due".into()),
@@ -74,16 +75,21 @@ impl Watch {
             }
             _ => {}
         }
-        holds(after.receive, stores.0, self.unread.cells())?;
+        holds(after.receive, stores.0, self.unread_cells().cells())?;
         holds(after.transmit, stores.1, self.waiting.cells())?;
         counted(seen, before, after)?;
         self.promises.note(before, seen, after)
     }
 
+    /// What is unread, as it stands in the store.
+    fn unread_cells(&self) -> Few<u16> {
+        self.unread.map(|accepted| accepted.cell)
+    }
+
     /// Holds a part that is shown, given as start and length, to what the store holds.
     fn shown(&self, call: Call, part: u64, (rx, tx): Stores<TheBridge>) -> Result<(), String> {
         match call {
-            Call::ShowReceive => part_due(part, rx, self.unread.cells()),
+            Call::ShowReceive => part_due(part, rx, self.unread_cells().cells()),
             Call::ShowTransmit => part_due(part, tx, self.waiting.cells()),
             _ => Ok(()),
         }

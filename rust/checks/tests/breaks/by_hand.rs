@@ -168,16 +168,21 @@ fn a_mark_takes_no_room_and_ends_with_its_byte() {
 }
 
 #[test]
-fn without_the_rule_marks_are_written_and_mean_nothing_until_it_is_on() {
+fn without_the_rule_marks_are_written_and_mean_nothing() {
     let mut bridge = talker(8, CR_LF);
     bridge.expect(Register(10, 0), DONE);
     comes(&mut bridge, &[50, 13, BREAK, 10, 13, BREAK, 10]);
     assert_eq!(held(&bridge), [50, B13, 10, B13, 10]);
     bridge.expect(SEND, out(0, 50));
     bridge.expect(frame(0, 50), out(0, 13));
+    // The marks mean nothing and are held, so the rule stays off until all are read.
+    bridge.expect(Register(10, 8), refused(10));
+    for byte in [(13, 10), (10, 13), (13, 10)] {
+        bridge.expect(frame(0, byte.0), out(0, byte.1));
+    }
     bridge.expect(Register(10, 8), DONE);
-    // Now 10 stands before a marked 13.
-    bridge.expect(frame(0, 13), out(0, 10));
+    comes(&mut bridge, &[10, 13, BREAK, 10]);
+    bridge.expect(frame(0, 10), out(0, 10));
     bridge.expect(frame(0, 10), out(0, 13));
     bridge.expect(frame(0, 13), out(5, 64));
     assert_eq!(held(&bridge), [10]);

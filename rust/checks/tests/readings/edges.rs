@@ -2,24 +2,22 @@
 
 use crate::both::{our_meter, Both, Counts, Letter};
 use crate::every_order::TINY;
-use Letter::{AskData, Line, Read, Register};
+use Letter::{Gap, Line, LineEnd, Read, Register};
 
 #[test]
 fn two_lines_that_end_in_one_send_are_told_in_their_order() {
-    // 9 is read. The app itself takes 8 with the rule off, so the end of their line comes alone.
-    // The line after it has lost all its text, between the two characters of its end.
+    // 9 is read with the rule off, and nothing is held, so the rule is switched on again. The end of the
+    // line of 9 comes alone. The line after it has lost all its text, between the two characters of its
+    // end.
     let letters = [
-        Line(b'9'),
-        Line(b'8'),
-        Read,
-        Line(b'\r'),
-        Line(b'\n'),
-        Line(b'\r'),
-        Line(b'7'),
         Register(10, 0),
-        AskData,
-        Line(b'\n'),
+        Line(b'9'),
+        Read,
         Register(10, 8),
+        LineEnd,
+        Line(b'\r'),
+        Gap,
+        Line(b'\n'),
         Read,
         Read,
         Read,
@@ -31,5 +29,5 @@ fn two_lines_that_end_in_one_send_are_told_in_their_order() {
         held.unwrap_or_else(|finding| panic!("{finding}"));
     }
     let told = (counts.whole, counts.gaps, counts.not_ended);
-    assert_eq!(told, (0, 2, 2));
+    assert_eq!(told, (1, 1, 2));
 }

@@ -59,7 +59,8 @@ impl Store for Receive {
         (7, Some(true)),
     ];
     const TELLS_ROOM: bool = true;
-    const MARKS: bool = true;
+    const MARKS: Option<Call> = Some(Call::Break);
+    const ALONE: u16 = MARK;
 
     fn of((rx, tx): Stores<'_, TheBridge>) -> (&[u16], bool) {
         (rx, is_blank(tx))

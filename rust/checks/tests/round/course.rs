@@ -3,6 +3,7 @@
 use crate::history::History;
 use crate::met::Met;
 use crate::store::{Call, State, Store, MARK};
+use model::boundary::{kind, REFUSED};
 use model::Ring;
 use raftershim_checks::answer::{in_words, with_room, DONE};
 use raftershim_checks::implementation::Both;
@@ -99,10 +100,11 @@ impl<'a, S: Store> Course<'a, S> {
         })
     }
 
-    /// Makes calls that leave the store alone.
+    /// Makes calls that are taken and leave the store alone.
     pub fn make(&mut self, calls: &[Call<S>]) -> Told {
         for &call in calls {
-            self.made(call)?;
+            let taken = kind(self.made(call)?.answer) != REFUSED;
+            self.law(taken, format_args!("{call} is taken"))?;
             self.as_by_history()?;
         }
         Ok(())
@@ -114,6 +116,12 @@ impl<'a, S: Store> Course<'a, S> {
         let mark = if self.offered % 3 == 1 { MARK } else { 0 };
         let byte = 1 + self.offered % 255;
         self.offer(byte as u16 | mark)
+    }
+
+    /// Offers an item unlike those around it that goes by itself, whatever comes behind it.
+    pub fn offer_alone(&mut self) -> Told<bool> {
+        let byte = 1 + self.offered % 255;
+        self.offer(byte as u16 | S::ALONE)
     }
 
     /// Offers an item. Gives whether there was room for it.
@@ -135,6 +143,11 @@ impl<'a, S: Store> Course<'a, S> {
         self.met.put(made.rings());
         offer.mark.map_or(Ok(()), |call| self.mark(call))?;
         Ok(room)
+    }
+
+    /// Marks the newest cell that is held, so that it waits for no more, where that is a call of its own.
+    pub fn let_nothing_wait(&mut self) -> Told {
+        S::MARKS.map_or(Ok(()), |call| self.mark(call))
     }
 
     /// Marks the newest cell that is held, if there is one.

@@ -105,7 +105,7 @@ impl Met {
         for place in full_at(self.len) {
             ask(self.full.contains(&place), format!("full at {place}"));
         }
-        for place in full_at(self.len).into_iter().filter(|_| S::MARKS) {
+        for place in full_at(self.len).into_iter().filter(|_| S::MARKS.is_some()) {
             ask(self.marks.contains(&place), format!("marked at {place}"));
         }
         for (&count, name) in self.parts.iter().zip(PARTS) {

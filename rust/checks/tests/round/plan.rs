@@ -54,27 +54,25 @@ impl<S: Store> Course<'_, S> {
     }
 
     /// Puts a lot behind so many cells, hands those out, and lets one call remove what it can of
-    /// the lot.
+    /// the lot. Pairs are found and added from before the first cell comes until the last is gone.
     fn put_and_remove(&mut self, lot: &[u16], ahead: usize) -> Told {
         let [pairs, no_pairs] = S::PAIRS;
-        for _ in 0..ahead {
-            self.offer_next()?;
-        }
         self.make(pairs)?;
+        for _ in 0..ahead {
+            self.offer_alone()?;
+        }
         for &item in lot {
             self.offer(item)?;
         }
-        self.make(no_pairs)?;
         self.show()?;
-        for _ in 0..ahead {
+        for _ in 0..=ahead {
             self.take()?;
         }
-        self.make(pairs)?;
-        self.take()?;
-        self.make(no_pairs)?;
         self.show()?;
         self.drain()?;
-        Ok(())
+        self.let_nothing_wait()?;
+        self.drain()?;
+        self.make(no_pairs)
     }
 
     /// Fills the store, offers one item more, shows it full, and drains it.

@@ -105,8 +105,8 @@ impl Wrong {
             NoPower => !len.is_power_of_two(),
             PutsOfMore => S::PUTS.iter().any(|&cells| cells > 1),
             RemovalsOfMore => S::REMOVALS.iter().any(|&(cells, _)| cells > 1),
-            Marks => S::MARKS,
-            MarksAndNoPower => S::MARKS && !len.is_power_of_two(),
+            Marks => S::MARKS.is_some(),
+            MarksAndNoPower => S::MARKS.is_some() && !len.is_power_of_two(),
         }
     }
 }

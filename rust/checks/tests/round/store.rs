@@ -73,7 +73,8 @@ pub trait Store: Sized + 'static {
     const NUMBER: u32;
     /// What makes the machine take items into the store and hand them out.
     const READY: &'static [Call<Self>];
-    /// What makes it find and add the pairs that close lines, and what ends that, if it knows them.
+    /// What makes it find and add the pairs that close lines, and what ends that, if it knows them. Both
+    /// come while it holds nothing.
     const PAIRS: [&'static [Call<Self>]; 2] = [&[], &[]];
     const SHOW: Call<Self>;
     /// Items in a row that are put and removed across the end while pairs are found and added.
@@ -84,8 +85,10 @@ pub trait Store: Sized + 'static {
     const PUTS: &'static [usize] = &[1];
     /// Whether an offer is answered with the room that is left.
     const TELLS_ROOM: bool = false;
-    /// Whether a call of its own marks the newest cell.
-    const MARKS: bool = false;
+    /// The call that marks the newest cell, if that is one of its own.
+    const MARKS: Option<Call<Self>> = None;
+    /// The mark of items that go one by one while pairs are found and added.
+    const ALONE: u16 = 0;
 
     /// This store, and whether the other one is as it was at first.
     fn of(stores: Stores<'_, Self::Of>) -> (&[Self::Cell], bool);

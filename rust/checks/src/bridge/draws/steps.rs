@@ -20,6 +20,9 @@ pub enum What {
     Back(u16),
     /// Command 32 or 64 with our address, or an address for us where we have none.
     ToUs(u32),
+    /// A write of a register of the reading rule, first and whenever nothing is held; in between a line
+    /// that the rule finds walls and ends in, and what reads it out.
+    Ruled(u32, u32),
 }
 
 impl drive::What<TheBridge> for What {
@@ -40,15 +43,24 @@ impl drive::What<TheBridge> for What {
             What::Back(change) => Call::Frame((state.under_way ^ change).into()),
             What::ToUs(_) if state.address == UNASSIGNED => frame(5, 128 + u32::from(done)),
             What::ToUs(command) => frame(4, command + u32::from(state.address)),
+            What::Ruled(number, value) => match (done, state.receive.held) {
+                (0, _) => Call::Register(number, value),
+                (8.., 0) => Call::Register(number, value),
+                (1..=4, _) => What::Walled(value as u8).call(state, done),
+                (7, _) => Call::Break,
+                _ if state.listener => What::ToUs(64).call(state, done),
+                _ => What::Back(0).call(state, done),
+            },
         }
     }
 }
 
 /// How many kinds of things are done.
-pub const KINDS: usize = 76;
+pub const KINDS: usize = 80;
 
 /// What is done, and how often at most: weighted so that stores fill, frames return, status is under
-/// way and breaks come often.
+/// way and breaks come often, and that the reading rule is written while something is held and while
+/// nothing is.
 pub fn what(kind: usize, number: u32) -> (What, u8) {
     let of = |calls: &[Call]| What::Make(calls[number as usize % calls.len()]);
     match kind {
@@ -71,7 +83,21 @@ pub fn what(kind: usize, number: u32) -> (What, u8) {
         64..=65 => (of(&[Call::ShowReceive, Call::ShowTransmit, Call::Reset]), 1),
         66..=68 => (What::Make(Call::Break), 2),
         69..=73 => (What::Walled(number as u8), 8),
-        _ => (What::Make(Call::Register(10, 8 | number & 4)), 1),
+        74..=75 => (What::Make(Call::Register(10, 8 | number & 4)), 1),
+        _ => {
+            let (register, value) = of_the_rule(number);
+            (What::Ruled(register, value), 20)
+        }
+    }
+}
+
+/// A write of the reading rule: mostly ends of lines are found then, by one of a few pairs.
+fn of_the_rule(number: u32) -> (u32, u32) {
+    let [kind, low, ..] = number.to_le_bytes().map(u32::from);
+    match kind % 4 {
+        0 => (10, 12 & low),
+        1 => (10, 8 | 4 & low),
+        of => (14 + of, [13, 10, 50][low as usize % 3]),
     }
 }
 

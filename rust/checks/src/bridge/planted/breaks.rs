@@ -11,8 +11,7 @@ pub use walls::*;
 
 use super::Implementation;
 use crate::bridge::garbled::Within;
-use crate::bridge::Lent;
-use model::{block, Bridge};
+use model::Bridge;
 
 /// Faults that show on stores that hold nothing but what calls wrote, so that the history alone finds
 /// them.
@@ -47,11 +46,6 @@ pub struct UpperBitsStay;
 
 impl Within for UpperBitsStay {
     const WITHIN: Implementation = UPPER_BITS_STAY;
-}
-
-/// The state in the block, if it is one that fits the stores.
-fn fitting(lent: &Lent) -> Option<Bridge> {
-    block::unpack(lent.block).filter(|state| state.fits(lent.one.len(), lent.other.len()))
 }
 
 /// The place of the held cell with this index.

@@ -1,8 +1,8 @@
 //! Marks that go elsewhere, that are forgotten or added, or that outlive their byte.
 
-use super::{fitting, place};
+use super::place;
 use crate::bridge::call::Call;
-use crate::bridge::planted::Implementation;
+use crate::bridge::planted::{fitting, Implementation};
 use crate::bridge::rule::BREAK;
 use crate::bridge::{Lent, TheBridge};
 use crate::planted::{planted, right};

@@ -1,8 +1,8 @@
 //! Breaks that part nothing, too little or too much when frames are read.
 
-use super::{fitting, held, place};
+use super::{held, place};
 use crate::bridge::call::Call;
-use crate::bridge::planted::Implementation;
+use crate::bridge::planted::{as_if_empty, fitting, Implementation};
 use crate::bridge::rule::BREAK;
 use crate::bridge::{Lent, TheBridge};
 use crate::planted::{planted, right};
@@ -73,20 +73,11 @@ fn undecided(state: &Bridge, store: &[u16]) -> Option<usize> {
 }
 
 /// Bytes that are undecided at a break wait for ever.
-pub const HELD_BACK_FOR_EVER: Implementation = planted(|mut lent, call| {
-    let state = match fitting(&lent) {
-        Some(state) if sends(&state, call) && undecided(&state, lent.one).is_some() => state,
-        _ => return right::<TheBridge>(lent, call),
-    };
-    let mut none = state;
-    none.receive.held = 0;
-    lent.block.copy_from_slice(&block::pack(&none));
-    let answer = right::<TheBridge>(lent.again(), call);
-    if let Some(mut after) = block::unpack(lent.block) {
-        (after.receive, after.holding) = (state.receive, state.holding);
-        lent.block.copy_from_slice(&block::pack(&after));
+pub const HELD_BACK_FOR_EVER: Implementation = planted(|lent, call| match fitting(&lent) {
+    Some(state) if sends(&state, call) && undecided(&state, lent.one).is_some() => {
+        as_if_empty(lent, call, &state)
     }
-    answer
+    _ => right::<TheBridge>(lent, call),
 });
 
 /// Bytes that are undecided at a break are thrown away.
