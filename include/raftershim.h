@@ -68,7 +68,7 @@ extern "C" {
 
 /*
  * The two refusals that pass. Busy: the frame is offered again when the line has taken bytes. Held bytes: the register is written again
- * when all that the receive store holds is read, which is when RAFTERSHIM_RECEIVE_HELD is 0.
+ * when RAFTERSHIM_RECEIVE_HELD is 0, that is when all has been read. Bytes that wait for more are not read: a break decides them.
  */
 #define RAFTERSHIM_BUSY 4u
 #define RAFTERSHIM_HELD_BYTES 10u
@@ -199,7 +199,8 @@ uint64_t raftershim_reset(uint8_t *block, uint64_t block_len, const uint16_t *rx
  * So each byte is read by the R10, C00 and C01 that were in force when it was stored. The value does not matter: one that the register
  * has already is refused too, and so is a change of R10 bit 2 alone, and so are C00 and C01 while R10 bit 3 is off. Bytes that wait to be
  * decided are held, and so is an end of line that no send has removed yet; a frame under way is not. What waits is decided by the bytes
- * that follow or by a break, and can then be read. A reset and a device clear throw it away.
+ * that follow, of which the last wait in their turn unless they are C00 and C01, or by a break, after which all can be read. A reset and
+ * a device clear throw it away.
  */
 uint64_t raftershim_write_register(uint8_t *block, uint64_t block_len, const uint16_t *rx, uint64_t rx_len, const uint8_t *tx,
                                    uint64_t tx_len, uint32_t number, uint32_t value);

@@ -56,25 +56,38 @@ module _ (s : State) (n v : ℕ) where
       go false h = let z = eqb-false ofTable 0 h in absurd (z (sym (write-refused z) ∙ e))
 
   -- 10 is the number of no other check
-  write-ten : ofWrite ≡ 10 → heldLine s n ≡ true
+  write-ten : ofWrite ≡ 10 → (ofTable ≡ 0) × (heldLine s n ≡ true)
   unfolding checksOn writeChecks
   write-ten e =
       go (eqb (carriedOf n) nothing) (tooLarge (carriedOf n) v) (bitNotCarried (carriedOf n) v) (goIsStop (written (s .regs) n v)) (heldLine s n) e
     where
-      go : (five six seven eight ten : Bool) → _≡_ {A = ℕ} (cond five 5 (cond six 6 (cond seven 7 (cond eight 8 (cond ten 10 0))))) 10 → ten ≡ true
-      go false false false false true e = refl
+      go : (five six seven eight ten : Bool) → _≡_ {A = ℕ} (cond five 5 (cond six 6 (cond seven 7 (cond eight 8 (cond ten 10 0))))) 10 →
+          (_≡_ {A = ℕ} (cond five 5 (cond six 6 (cond seven 7 (cond eight 8 0)))) 0) × (ten ≡ true)
+      go false false false false true e = (refl, refl)
       go true six seven eight ten e = absurd (omega arith)
       go false true seven eight ten e = absurd (omega arith)
       go false false true eight ten e = absurd (omega arith)
       go false false false true ten e = absurd (omega arith)
       go false false false false false e = absurd (omega arith)
 
--- and it is given to a state that fits
-pub ten-held : (w : World) (n v : ℕ) → firstRefusal (checks (on (write n v)) w) ≡ 10 →
-    (fits (w .state) (length (w .rx)) (length (w .tx)) ≡ true) × (heldLine (w .state) n ≡ true)
+-- and it is given to a state that fits, for a write that the table lets through
+pub record TenGiven (w : World) (n v : ℕ) : Type 0 where
+  pub fit : fits (w .state) (length (w .rx)) (length (w .tx)) ≡ true
+  pub let-through : firstRefusal (writeChecks (w .state .regs) n v) ≡ 0
+  pub held : heldLine (w .state) n ≡ true
+
+pub ten-given : (w : World) (n v : ℕ) → firstRefusal (checks (on (write n v)) w) ≡ 10 → TenGiven w n v
 unfolding checks
-ten-held w n v e = let k = go (fits (w .state) (length (w .rx)) (length (w .tx))) _ e in (k .0, write-ten (w .state) n v (k .1))
+ten-given w n v e =
+    let k = go (fits (w .state) (length (w .rx)) (length (w .tx))) _ e in
+    let t = write-ten (w .state) n v (k .1) in
+    record { fit = k .0; let-through = t .0; held = t .1 }
   where
     go : (t : Bool) (m : ℕ) → cond (not t) 2 m ≡ 10 → (t ≡ true) × (m ≡ 10)
     go true m e = (refl, e)
     go false m e = absurd (omega arith)
+
+-- and to every such write
+pub gives-ten : (w : World) (n v : ℕ) → TenGiven w n v → firstRefusal (checks (on (write n v)) w) ≡ 10
+unfolding checks
+gives-ten w n v k = rw (k .fit) (write-let (w .state) n v (k .let-through) ∙ (λ i. cond (k .held i) 10 0))

@@ -72,7 +72,7 @@ pub fn reset(s: State, rx: &[u16], tx: &[u8]) -> Outcome
     done(s, t)
 }
 
-// Whether a write of this register would change how a line that is held is read: it is R10, C00 or C01, and the receive store holds a cell.
+// Whether the register is of the reading rule, R10, C00 or C01, and the receive store holds a cell; what is written does not count.
 fn held_line(s: State, number: u32) -> bool
     ensures { λ r. ⌜ r ≡ heldLine s number ⌝ }
 {

@@ -8,10 +8,10 @@ use borrow.Author.Tests.{eqb-true, eq-eqb}
 use Rattle.branches.proofs.Branches.{and-left, and-right, cond-true, cond-false, by-cond}
 use Rattle.reading.specs.declared.Rule.{Rule}
 use Rattle.reading.specs.Reading.{inCuts, byCuts, frames}
-use Rattle.reading.specs.Received.{Received, aBreak}
+use Rattle.reading.specs.Received.{Received}
 use Rattle.reading.specs.Steps.{cut}
 use Rattle.reading.proofs.Walls.{walled}
-use Rattle.laws.specs.ByRules.{Under, under, allUnder, sameRule, Stretch, stretch, joined, stretches, readEach, byRules, EachByItsRule}
+use Rattle.laws.specs.ByRules.{Ruled, ruled, allRuled, sameRule, Stretch, stretch, joined, stretches, readEach, readWith, wall, byRules, EachByItsRule}
 
 -- ---- rules that are one
 
@@ -42,64 +42,74 @@ module _ (r : Rule) where
   -- all of these before what stands in stretches
   allJoined : List Received → List Stretch → List Stretch
   allJoined [] ss = ss
-  allJoined (x ∷ xs) ss = joined (under r x) (allJoined xs ss)
+  allJoined (x ∷ xs) ss = joined (ruled r x) (allJoined xs ss)
 
-  stretches-joined : (xs : List Received) (ys : List Under) → stretches (allUnder r xs ++ ys) ≡ allJoined xs (stretches ys)
+  stretches-joined : (xs : List Received) (ys : List Ruled) → stretches (allRuled r xs ++ ys) ≡ allJoined xs (stretches ys)
   unfolding stretches allJoined
   stretches-joined [] ys = refl
-  stretches-joined (x ∷ xs) ys = ap (joined (under r x)) (stretches-joined xs ys)
+  stretches-joined (x ∷ xs) ys = ap (joined (ruled r x)) (stretches-joined xs ys)
 
   -- with none behind them they are one
   joined-alone : (x : Received) (xs : List Received) → allJoined (x ∷ xs) [] ≡ stretch r (x ∷ xs) ∷ []
   unfolding joined allJoined
   joined-alone x [] = refl
-  joined-alone x (y ∷ xs) = ap (joined (under r x)) (joined-alone y xs) ∙ cond-true (sameRule r r) _ _ (own-rule r)
+  joined-alone x (y ∷ xs) = ap (joined (ruled r x)) (joined-alone y xs) ∙ cond-true (sameRule r r) _ _ (own-rule r)
 
   module _ (s : Stretch) (ss : List Stretch) where
     -- the first behind them is of the same rule
     joined-same : (xs : List Received) → sameRule r (s .rule) ≡ true → allJoined xs (s ∷ ss) ≡ stretch (s .rule) (xs ++ s .items) ∷ ss
     unfolding joined allJoined
     joined-same [] e = refl
-    joined-same (x ∷ xs) e = ap (joined (under r x)) (joined-same xs e) ∙ cond-true (sameRule r (s .rule)) _ _ e
+    joined-same (x ∷ xs) e = ap (joined (ruled r x)) (joined-same xs e) ∙ cond-true (sameRule r (s .rule)) _ _ e
 
     -- or of another
     joined-other : (x : Received) (xs : List Received) → sameRule r (s .rule) ≡ false → allJoined (x ∷ xs) (s ∷ ss) ≡ stretch r (x ∷ xs) ∷ s ∷ ss
     unfolding joined allJoined
     joined-other x [] e = cond-false (sameRule r (s .rule)) _ _ e
-    joined-other x (y ∷ xs) e = ap (joined (under r x)) (joined-other y xs e) ∙ cond-true (sameRule r r) _ _ (own-rule r)
+    joined-other x (y ∷ xs) e = ap (joined (ruled r x)) (joined-other y xs e) ∙ cond-true (sameRule r r) _ _ (own-rule r)
 
 -- ---- what stands behind, as one rule sees it
 
+-- what may stand between two stretches: no rule gives a frame for it alone
+abbrev pub Silent : List Received → Type 0
+Silent between = (r : Rule) → frames (cut r) between ≡ []
+
+pub wall-silent : Silent wall
+unfolding byCuts inCuts
+wall-silent r = walled r .first []
+
+pub none-silent : Silent []
+unfolding byCuts inCuts
+none-silent r = refl
+
 -- whatever of one rule stands before: it is read with these behind it, and then come those frames
-pub record Behind (r : Rule) (ys : List Under) : Type 0 where
+pub record Behind (between : List Received) (r : Rule) (ys : List Ruled) : Type 0 where
   pub items : List Received
   pub later : List ℕ
-  pub reads : (xs : List Received) → byRules (allUnder r xs ++ ys) ≡ frames (cut r) (xs ++ items) ++ later
+  pub reads : (xs : List Received) → readWith between (allRuled r xs ++ ys) ≡ frames (cut r) (xs ++ items) ++ later
 
-module _ (r : Rule) where
+module _ (between : List Received) (silent : Silent between) (r : Rule) where
   read-other : (xs : List Received) (s : Stretch) (ss : List Stretch) → sameRule r (s .rule) ≡ false →
-      readEach (allJoined r xs (s ∷ ss)) ≡ frames (cut r) (xs ++ (aBreak ∷ [])) ++ readEach (s ∷ ss)
-  unfolding readEach allJoined byCuts inCuts
-  read-other [] s ss e = ap (λ (l : List ℕ). l ++ readEach (s ∷ ss)) (sym (walled r .first []))
-  read-other (x ∷ xs) s ss e = ap readEach (joined-other r s ss x xs e)
+      readEach between (allJoined r xs (s ∷ ss)) ≡ frames (cut r) (xs ++ between) ++ readEach between (s ∷ ss)
+  unfolding readEach allJoined
+  read-other [] s ss e = ap (λ (l : List ℕ). l ++ readEach between (s ∷ ss)) (sym (silent r))
+  read-other (x ∷ xs) s ss e = ap (readEach between) (joined-other r s ss x xs e)
 
-  read-alone : (xs : List Received) → readEach (allJoined r xs []) ≡ frames (cut r) xs
+  read-alone : (xs : List Received) → readEach between (allJoined r xs []) ≡ frames (cut r) xs
   unfolding readEach allJoined byCuts inCuts
   read-alone [] = refl
-  read-alone (x ∷ xs) = ap readEach (joined-alone r x xs)
+  read-alone (x ∷ xs) = ap (readEach between) (joined-alone r x xs)
 
   read-same : (xs : List Received) (s : Stretch) (ss : List Stretch) → sameRule r (s .rule) ≡ true →
-      readEach (allJoined r xs (s ∷ ss)) ≡ readEach (stretch r (xs ++ s .items) ∷ ss)
-  read-same xs s ss e = ap readEach (joined-same r s ss xs e ∙ ap (λ (q : Rule). stretch q (xs ++ s .items) ∷ ss) (sym (same-rule r (s .rule) e)))
+      readEach between (allJoined r xs (s ∷ ss)) ≡ readEach between (stretch r (xs ++ s .items) ∷ ss)
+  read-same xs s ss e =
+      ap (readEach between) (joined-same r s ss xs e ∙ ap (λ (q : Rule). stretch q (xs ++ s .items) ∷ ss) (sym (same-rule r (s .rule) e)))
 
   -- by the stretches behind
-  abbrev Reads : List Stretch → List Received → List ℕ → Type 0
-  Reads ss items later = (xs : List Received) → readEach (allJoined r xs ss) ≡ frames (cut r) (xs ++ items) ++ later
-
   record Known (ss : List Stretch) : Type 0 where
     items : List Received
     later : List ℕ
-    reads : Reads ss items later
+    reads : (xs : List Received) → readEach between (allJoined r xs ss) ≡ frames (cut r) (xs ++ items) ++ later
 
   known : (ss : List Stretch) → Known ss
   unfolding readEach
@@ -110,42 +120,43 @@ module _ (r : Rule) where
       one e [] = record { items = s .items; later = []; reads = λ xs. read-same xs s [] e ∙ sym (append-nil _) }
       one e (t ∷ ts) =
           record {
-            items = s .items ++ (aBreak ∷ []);
-            later = readEach (t ∷ ts);
+            items = s .items ++ between;
+            later = readEach between (t ∷ ts);
             reads =
-                λ xs. read-same xs s (t ∷ ts) e ∙ ap (λ (l : List Received). frames (cut r) l ++ readEach (t ∷ ts)) (append-assoc xs (s .items) (aBreak ∷ []));
+                λ xs. read-same xs s (t ∷ ts) e ∙ ap (λ (l : List Received). frames (cut r) l ++ readEach between (t ∷ ts)) (append-assoc xs (s .items) between);
           }
 
       by-rule : (t : Bool) → sameRule r (s .rule) ≡ t → (ss : List Stretch) → Known (s ∷ ss)
       by-rule true e ss = one e ss
-      by-rule false e ss = record { items = aBreak ∷ []; later = readEach (s ∷ ss); reads = λ xs. read-other xs s ss e }
+      by-rule false e ss = record { items = between; later = readEach between (s ∷ ss); reads = λ xs. read-other xs s ss e }
 
-  pub behind : (ys : List Under) → Behind r ys
+  pub behind : (ys : List Ruled) → Behind between r ys
   behind ys =
       let k = known (stretches ys) in
-      record { items = k .items; later = k .later; reads = λ xs. ap readEach (stretches-joined r xs ys) ∙ k .reads xs }
+      record { items = k .items; later = k .later; reads = λ xs. ap (readEach between) (stretches-joined r xs ys) ∙ k .reads xs }
 
--- ---- what reading by rules is
+  -- where all are of one rule
+  pub one-rule : (xs : List Received) → readWith between (allRuled r xs) ≡ frames (cut r) xs
+  unfolding stretches
+  one-rule xs = ap (readWith between) (sym (append-nil (allRuled r xs))) ∙ ap (readEach between) (stretches-joined r xs []) ∙ read-alone xs
 
-pub one-rule : (r : Rule) (xs : List Received) → byRules (allUnder r xs) ≡ frames (cut r) xs
-unfolding stretches
-one-rule r xs = ap byRules (sym (append-nil (allUnder r xs))) ∙ ap readEach (stretches-joined r xs []) ∙ read-alone r xs
+-- ---- where the rule changes
 
-module _ (r : Rule) (xs : List Received) (y : Under) (other : sameRule r (y .rule) ≡ false) where
+module _ (r : Rule) (xs : List Received) (y : Ruled) (other : sameRule r (y .rule) ≡ false) where
   abbrev Apart : List Stretch → Type 0
-  Apart ss = readEach (allJoined r xs ss) ≡ frames (cut r) (xs ++ (aBreak ∷ [])) ++ readEach ss
+  Apart ss = readEach wall (allJoined r xs ss) ≡ frames (cut r) (xs ++ wall) ++ readEach wall ss
 
   joined-apart : (ss : List Stretch) → Apart (joined y ss)
   unfolding joined
-  joined-apart [] = read-other r xs _ [] other
+  joined-apart [] = read-other wall wall-silent r xs _ [] other
   joined-apart (s ∷ ss) =
       by-cond Apart (sameRule (y .rule) (s .rule)) _ _
-      (λ e. read-other r xs _ ss (ap (sameRule r) (sym (same-rule (y .rule) (s .rule) e)) ∙ other))
-      (λ e. read-other r xs _ (s ∷ ss) other)
+      (λ e. read-other wall wall-silent r xs _ ss (ap (sameRule r) (sym (same-rule (y .rule) (s .rule) e)) ∙ other))
+      (λ e. read-other wall wall-silent r xs _ (s ∷ ss) other)
 
-  rule-changes : (ys : List Under) → byRules (allUnder r xs ++ (y ∷ ys)) ≡ frames (cut r) (xs ++ (aBreak ∷ [])) ++ byRules (y ∷ ys)
+  rule-changes : (ys : List Ruled) → byRules (allRuled r xs ++ (y ∷ ys)) ≡ frames (cut r) (xs ++ wall) ++ byRules (y ∷ ys)
   unfolding stretches
-  rule-changes ys = ap readEach (stretches-joined r xs (y ∷ ys)) ∙ joined-apart (stretches ys)
+  rule-changes ys = ap (readEach wall) (stretches-joined r xs (y ∷ ys)) ∙ joined-apart (stretches ys)
 
 pub each-by-its-rule : EachByItsRule
-each-by-its-rule = record { one = one-rule; change = λ r xs y ys e. rule-changes r xs y e ys }
+each-by-its-rule = record { one = one-rule wall wall-silent; change = λ r xs y ys e. rule-changes r xs y e ys }

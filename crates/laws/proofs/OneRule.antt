@@ -12,14 +12,14 @@ use Rattle.reading.specs.declared.Rule.{Rule}
 use Rattle.answers.specs.Answers.{Said}
 use Rattle.bridge.specs.Calls.{reset, write, lineByte, lineBreak, key, nextLineByte, loopFrame, Call, create, show, on, World, Did}
 use Rattle.laws.specs.Bridges.{bridge}
-use Rattle.laws.specs.ByRules.{under, allUnder, byRules}
+use Rattle.laws.specs.ByRules.{ruled, allRuled, wall, byRules}
 use Rattle.laws.specs.Observers.{taken, onWrite, restarts, writes, clears, changes, empties, bytesAndBreaks, sent}
 use Rattle.laws.specs.Worlds.{heldToSend, ruleIn}
 use Rattle.laws.specs.Starting.{registerValues}
 use Rattle.laws.specs.Registers.{numbers, writtenTo, RegistersGo}
 use Rattle.laws.specs.Demands.{byItsRule}
 use Rattle.laws.specs.OneRule.{OneRuleFollows}
-use Rattle.laws.proofs.ByRules.{one-rule}
+use Rattle.laws.proofs.ByRules.{wall-silent, one-rule}
 
 -- ---- a call that changes nothing of the kind
 
@@ -64,15 +64,15 @@ module _ (B : Call → World → Did) (registers-go : Obeys (bridge B) Registers
 
   -- so all that is accepted has the rule of the start
   all-by-one : (cs : List Call) (w : World) → some changes (course (bridge B) cs w) ≡ false →
-      all (byItsRule bytesAndBreaks) (course (bridge B) cs w) ≡ allUnder (ruleIn w) (all bytesAndBreaks (course (bridge B) cs w))
+      all (byItsRule bytesAndBreaks) (course (bridge B) cs w) ≡ allRuled (ruleIn w) (all bytesAndBreaks (course (bridge B) cs w))
   unfolding all course
   all-by-one [] w n = refl
   all-by-one (c ∷ cs) w n =
       let k = first-not changes (seen (bridge B) c w) (course (bridge B) cs (B c w .world)) n in
       ap (λ l. byItsRule bytesAndBreaks c w (B c w .said) ++ l)
       (all-by-one cs (B c w .world) (k .1)
-      ∙ ap (λ r. allUnder r (all bytesAndBreaks (course (bridge B) cs (B c w .world)))) (same-rule c w (k .0)))
-      ∙ sym (map-append (under (ruleIn w)) (bytesAndBreaks c w (B c w .said)) _)
+      ∙ ap (λ r. allRuled r (all bytesAndBreaks (course (bridge B) cs (B c w .world)))) (same-rule c w (k .0)))
+      ∙ sym (map-append (ruled (ruleIn w)) (bytesAndBreaks c w (B c w .said)) _)
 
   none-empty : (cs : List Call) (w : World) → some changes (course (bridge B) cs w) ≡ false → some empties (course (bridge B) cs w) ≡ false
   unfolding some course
@@ -85,8 +85,8 @@ pub one-rule-follows : OneRuleFollows
 one-rule-follows B reads registers-go cs w _ fair n =
     let ss = course (bridge B) cs w in
     let e = end w ss in
-    ap (λ l. all sent ss ++ l) (sym (one-rule (ruleIn e) (heldToSend e)))
+    ap (λ l. all sent ss ++ l) (sym (one-rule wall wall-silent (ruleIn e) (heldToSend e)))
     ∙ reads cs w tt fair (none-empty B registers-go cs w n)
-    ∙ ap (λ l. byRules (allUnder (ruleIn w) (heldToSend w) ++ l)) (all-by-one B registers-go cs w n)
-    ∙ ap byRules (sym (map-append (under (ruleIn w)) (heldToSend w) (all bytesAndBreaks ss)))
-    ∙ one-rule (ruleIn w) (heldToSend w ++ all bytesAndBreaks ss)
+    ∙ ap (λ l. byRules (allRuled (ruleIn w) (heldToSend w) ++ l)) (all-by-one B registers-go cs w n)
+    ∙ ap byRules (sym (map-append (ruled (ruleIn w)) (heldToSend w) (all bytesAndBreaks ss)))
+    ∙ one-rule wall wall-silent (ruleIn w) (heldToSend w ++ all bytesAndBreaks ss)

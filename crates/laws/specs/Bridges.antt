@@ -6,7 +6,7 @@ use Rattle.machine.specs.Machine.{narrowed}
 use Rattle.answers.specs.Answers.{Said, Answered}
 use Rattle.bridge.specs.Calls.{OnState, reset, write, lineByte, lineBreak, key, nextLineByte, loopFrame, Call, create, show, on, World, Did}
 
--- what takes the nine calls and shows worlds and answers, and a law of it
+-- what takes the calls and shows worlds and answers, and a law of it
 abbrev pub Machine : Type 1
 Machine = machine.Machine World Call Said
 

@@ -9,17 +9,17 @@ use Rattle.reading.specs.Reading.{frames}
 use Rattle.reading.specs.Received.{Received, aBreak}
 use Rattle.reading.specs.Steps.{cut}
 
--- a byte or a break, and the rule
-pub record Under : Type 0 where
+-- a byte or a break, and its rule
+pub record Ruled : Type 0 where
   pub rule : Rule
   pub item : Received
 
-abbrev pub under : Rule → Received → Under
-under r x = record { rule = r; item = x }
+abbrev pub ruled : Rule → Received → Ruled
+ruled r x = record { rule = r; item = x }
 
--- these, all under one rule
-abbrev pub allUnder : Rule → List Received → List Under
-allUnder r xs = map (under r) xs
+-- these, all of one rule
+abbrev pub allRuled : Rule → List Received → List Ruled
+allRuled r xs = map (ruled r) xs
 
 -- two rules are one: both on or both off, with the same C00 and C01
 abbrev pub sameRule : Rule → Rule → Bool
@@ -34,29 +34,39 @@ abbrev pub stretch : Rule → List Received → Stretch
 stretch r xs = record { rule = r; items = xs }
 
 -- one more, before these stretches: it is of the first of them where the rule is the same
-unfoldable pub joined : Under → List Stretch → List Stretch
+unfoldable pub joined : Ruled → List Stretch → List Stretch
 joined x [] = stretch (x .rule) (x .item ∷ []) ∷ []
 joined x (s ∷ ss) = cond (sameRule (x .rule) (s .rule)) (stretch (s .rule) (x .item ∷ s .items) ∷ ss) (stretch (x .rule) (x .item ∷ []) ∷ s ∷ ss)
 
-unfoldable pub stretches : List Under → List Stretch
+unfoldable pub stretches : List Ruled → List Stretch
 stretches [] = []
 stretches (x ∷ xs) = joined x (stretches xs)
 
--- each stretch is read by its own rule; a change of the rule is a wall, as a break is: nothing is put together across it, and what stands before
--- it waits for nothing
-unfoldable pub readEach : List Stretch → List ℕ
-readEach [] = []
-readEach (s ∷ []) = frames (cut (s .rule)) (s .items)
-readEach (s ∷ t ∷ ss) = frames (cut (s .rule)) (s .items ++ (aBreak ∷ [])) ++ readEach (t ∷ ss)
+-- each stretch is read by its own rule, where this stands behind one that another follows
+unfoldable pub readEach : List Received → List Stretch → List ℕ
+readEach between [] = []
+readEach between (s ∷ []) = frames (cut (s .rule)) (s .items)
+readEach between (s ∷ t ∷ ss) = frames (cut (s .rule)) (s .items ++ between) ++ readEach between (t ∷ ss)
 
--- the frames, each byte read by its rule
-abbrev pub byRules : List Under → List ℕ
-byRules xs = readEach (stretches xs)
+abbrev pub readWith : List Received → List Ruled → List ℕ
+readWith between xs = readEach between (stretches xs)
 
--- that it is so
+-- the frames, each byte read by its rule: a change of the rule is a wall, as a break is, so that nothing is put together across it and nothing
+-- before it waits or is left out
+abbrev pub wall : List Received
+wall = aBreak ∷ []
+
+abbrev pub byRules : List Ruled → List ℕ
+byRules = readWith wall
+
+-- the same without a wall, where what waits for more is left out
+abbrev pub byRulesAlone : List Ruled → List ℕ
+byRulesAlone = readWith []
+
+-- what reading by rules comes to
 pub record EachByItsRule : Type 0 where
   -- where all are of one rule, it is what that rule gives
-  pub one : (r : Rule) (xs : List Received) → byRules (allUnder r xs) ≡ frames (cut r) xs
+  pub one : (r : Rule) (xs : List Received) → byRules (allRuled r xs) ≡ frames (cut r) xs
   -- where the rule changes, what stands before is read as before a break, and what stands behind as if nothing had been
-  pub change : (r : Rule) (xs : List Received) (y : Under) (ys : List Under) → sameRule r (y .rule) ≡ false →
-      byRules (allUnder r xs ++ (y ∷ ys)) ≡ frames (cut r) (xs ++ (aBreak ∷ [])) ++ byRules (y ∷ ys)
+  pub change : (r : Rule) (xs : List Received) (y : Ruled) (ys : List Ruled) → sameRule r (y .rule) ≡ false →
+      byRules (allRuled r xs ++ (y ∷ ys)) ≡ frames (cut r) (xs ++ wall) ++ byRules (y ∷ ys)

@@ -10,10 +10,10 @@ use Rattle.machine.specs.Turns.{Reading, Kept}
 use Rattle.bridge.specs.Calls.{Call, on, loopFrame, World}
 use Rattle.answers.specs.Answers.{Said, done, none, byte, frame, refused, part, cell, lines}
 use Rattle.reading.specs.Received.{Received}
-use Rattle.laws.specs.ByRules.{Under, allUnder, byRules}
+use Rattle.laws.specs.ByRules.{Ruled, allRuled, byRules, byRulesAlone}
 use Rattle.laws.specs.Observers.{taken, isFrame, bytesAndBreaks, bytesAndMarks, lost, sent, changes, empties}
 use Rattle.laws.specs.Spells.{spells, AtMost}
-use Rattle.laws.specs.Bridges.{Law}
+use Rattle.laws.specs.Bridges.{Law, Saw}
 use Rattle.laws.specs.Worlds.{heldToSend, ruleIn, room, protocol, holdsOff}
 use Rattle.laws.specs.Events.{overrun, Stays}
 
@@ -44,31 +44,35 @@ ElevenBits = ofCalls (λ s. isEleven (s .answer) ≡ true)
 
 -- ---- demand 3
 
--- what is seen, each byte and break with the rule that is in force before the call: no call that accepts one changes it
-abbrev pub byItsRule : (Call → World → Said → List Received) → Call → World → Said → List Under
-byItsRule see c w a = allUnder (ruleIn w) (see c w a)
+-- what is seen, each byte and break with the rule before the call; RegistersGo says that no call that accepts one changes it
+abbrev pub byItsRule : (Call → World → Said → List Received) → Call → World → Said → List Ruled
+byItsRule see c w a = allRuled (ruleIn w) (see c w a)
 
--- what is held has the rule of the moment
-abbrev pub heldByItsRule : World → List Under
-heldByItsRule w = allUnder (ruleIn w) (heldToSend w)
+-- what is held, with the rule of the moment; that each was accepted under it, RuleStays says, and RegistersGo of the call that accepted it
+abbrev pub heldByTheRule : World → List Ruled
+heldByTheRule w = allRuled (ruleIn w) (heldToSend w)
 
 -- the receive side: bytes and breaks are accepted and held, frames are read from them, by the rule of each
-abbrev pub lineToLoop : Reading World Call Said Under ℕ
-lineToLoop = record { accepted = byItsRule bytesAndBreaks; sent = sent; held = heldByItsRule; reads = λ w. byRules }
+abbrev pub lineToLoop : Reading World Call Said Ruled ℕ
+lineToLoop = record { accepted = byItsRule bytesAndBreaks; sent = sent; held = heldByTheRule; reads = λ w. byRules }
 
--- first: in a run without create, reset and device clear, register writes or not, the frames sent and then what the reading rule gives for
--- the bytes and breaks still held are together what it gives for all there were, those held at first and then those accepted, also the breaks
--- that came while nothing was held; each is read by the rule that was in force when it was accepted, those held at first by the rule of then;
--- the service bit aside
+-- first: in a run without create, reset and device clear, the frames sent and then those of the bytes and breaks still held are together those of
+-- all there were, held at first and then accepted, also of the breaks that came while nothing was held; the service bit aside. Registers may be
+-- written: what was accepted is read by the rule that was in force then, and what was held at first by the rule of the start
 abbrev pub FramesRead : Law
 FramesRead = Kept lineToLoop empties
 
+-- all that there was in a run, those seen so among it
+abbrev pub allThereWas : (Call → World → Said → List Received) → World → List Saw → List Ruled
+allThereWas see w ss = heldByTheRule w ++ all (byItsRule see) ss
+
+-- where the rule changes nothing waits for more: all that there was reads the same without a wall there
+abbrev pub NothingWaits : Law
+NothingWaits = ofRuns (λ w ss. Without empties ss → byRules (allThereWas bytesAndBreaks w ss) ≡ byRulesAlone (allThereWas bytesAndBreaks w ss))
+
 -- a break that comes while nothing is held changes no frame: all that there was reads the same without it
 abbrev pub UnheldBreaks : Law
-UnheldBreaks =
-    ofRuns
-    (λ w ss. Without empties ss →
-    byRules (heldByItsRule w ++ all (byItsRule bytesAndBreaks) ss) ≡ byRules (heldByItsRule w ++ all (byItsRule bytesAndMarks) ss))
+UnheldBreaks = ofRuns (λ w ss. Without empties ss → byRules (allThereWas bytesAndBreaks w ss) ≡ byRules (allThereWas bytesAndMarks w ss))
 
 -- second: after a loss the overrun bit stays until a status byte that was sent later is back unchanged; also where registers are written
 abbrev pub OverrunStays : Law

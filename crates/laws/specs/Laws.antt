@@ -11,7 +11,7 @@ use Rattle.laws.specs.Showing.{ShowsSo}
 use Rattle.laws.specs.Events.{broken, overrun, pressed, Stays, Alone}
 use Rattle.laws.specs.StatusTold.{StatusTold, TellsUntilBack}
 use Rattle.laws.specs.Cleared.{Clears, NotInvented, NotAtStart}
-use Rattle.laws.specs.Demands.{RefusedStays, OneFrameOut, ElevenBits, FramesRead, UnheldBreaks, NoneLost}
+use Rattle.laws.specs.Demands.{RefusedStays, OneFrameOut, ElevenBits, FramesRead, NothingWaits, UnheldBreaks, NoneLost}
 use Rattle.laws.specs.LineBytes.{LineKept, LineSince}
 use Rattle.laws.specs.LastSent.{LastKept, LastSince, OwnGiven}
 use Rattle.laws.specs.Counting.{CountsGo, CountsSince}
@@ -21,7 +21,7 @@ use Rattle.laws.specs.Returns.{ReturnsJudged}
 use Rattle.laws.specs.Roles.{RoleGoes, RemoteGoes}
 use Rattle.laws.specs.Passing.{FramesPass}
 use Rattle.laws.specs.Registers.{RegistersGo}
-use Rattle.laws.specs.HeldLine.{RuleStays, HeldLine}
+use Rattle.laws.specs.HeldLine.{RuleStays, RefusedWhileHeld}
 use Rattle.laws.specs.Requests.{RequestsGo}
 use Rattle.laws.specs.Holding.{HoldingGoes}
 use Rattle.laws.specs.NextByte.{ForbiddenGoes, NextGiven}
@@ -32,8 +32,8 @@ abbrev pub laws : List Law
 laws =
     AnswersSo ∷ RefusedExactly ∷ RefusedStays ∷ OneFrameOut ∷ ElevenBits ∷ ShowsSo
     ∷ Places receive ∷ Places transmit ∷ PlacesSince receive ∷ PlacesSince transmit ∷ NineBits ∷ KeepsFit ∷ CreateMakesFit ∷ KeepsStores
-    ∷ StartsSo ∷ MarginRecorded ∷ SizesStay ∷ ResetGivesStart ∷ RegistersGo ∷ RuleStays ∷ HeldLine ∷ RoleGoes
-    ∷ FramesRead ∷ UnheldBreaks ∷ NoneLost ∷ FramesSince ∷ SendRule ∷ NoneRemoved ∷ ReturnsJudged ∷ FramesPass ∷ EmptySendResumes
+    ∷ StartsSo ∷ MarginRecorded ∷ SizesStay ∷ ResetGivesStart ∷ RegistersGo ∷ RuleStays ∷ RefusedWhileHeld ∷ RoleGoes
+    ∷ FramesRead ∷ NothingWaits ∷ UnheldBreaks ∷ NoneLost ∷ FramesSince ∷ SendRule ∷ NoneRemoved ∷ ReturnsJudged ∷ FramesPass ∷ EmptySendResumes
     ∷ Stays broken ∷ Stays overrun ∷ Stays pressed ∷ Alone broken ∷ Alone pressed
     ∷ TellsUntilBack broken ∷ TellsUntilBack overrun ∷ TellsUntilBack pressed ∷ StatusTold
     ∷ Clears broken ∷ Clears overrun ∷ Clears pressed

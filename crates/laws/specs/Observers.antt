@@ -186,11 +186,11 @@ writes c a = onWrite (λ n v. taken a) false c
 unfoldable pub clears : Call → World → Said → Bool
 clears c w a = onFrame (λ f. taken a && deviceClear (w .state) f) false c
 
--- demand 3, first: create, reset, register write or device clear
+-- demand 3, what a run has none of: create, reset, register write or device clear
 abbrev pub changes : Call → World → Said → Bool
 changes c w a = restarts c a || (writes c a || clears c w a)
 
--- Loop to line, last: create, reset or device clear
+-- Loop to line, last, and demand 3, first, which allows register writes: create, reset or device clear
 abbrev pub empties : Call → World → Said → Bool
 empties c w a = restarts c a || clears c w a
 

@@ -1,5 +1,5 @@
 -- What a reader may hold us to, first: two results that a call's promise allows are equal, the reply with the room that it tells, the state and every
--- byte of both stores, refusals included. It is said of `Promised`, which the contracts of all nine calls cite.
+-- byte of both stores, refusals included. It is said of `Promised`, which the contracts of all ten calls cite.
 use Prim.Native.Nat.{ℕ}
 use mathlib.Core.Path.{_≡_}
 use mathlib.Core.Bool.{true, false}

@@ -12,7 +12,8 @@ use Rattle.branches.proofs.Branches.{and-left, by-cond}
 use Rattle.machine.specs.Course.{Each}
 use Rattle.machine.specs.Machine as machine
 use Rattle.machine.specs.Machine.{Obeys, AllFair, course}
-use Rattle.machine.specs.Turns.{Reading, TurnReads}
+use Rattle.machine.specs.Turns.{Reading, TurnReads, Kept}
+use Rattle.machine.proofs.Course.{neither}
 use Rattle.machine.proofs.Turns.{from-turns}
 use Rattle.store.specs.Ring.{held, full, putRing, putBytes}
 use Rattle.store.specs.Bytes.{Bytes}
@@ -34,11 +35,11 @@ use Rattle.loopside.specs.Sends.{ruleOf}
 use Rattle.answers.specs.Answers.{Said}
 use Rattle.bridge.specs.Calls.{lineByte, reset, write, lineBreak, key, nextLineByte, loopFrame, Call, create, show, on, World}
 use Rattle.laws.specs.Bridges.{ByteCall}
-use Rattle.laws.specs.ByRules.{Under, under, allUnder, byRules}
-use Rattle.laws.specs.Observers.{taken, isFlow, arrived, accepted, breaks, marks, bytesAndBreaks, bytesAndMarks, sent, empties}
+use Rattle.laws.specs.ByRules.{Ruled, ruled, allRuled, readWith, wall}
+use Rattle.laws.specs.Observers.{taken, isFlow, arrived, accepted, breaks, marks, bytesAndBreaks, bytesAndMarks, sent, restarts, empties}
 use Rattle.laws.specs.Worlds.{heldCells, heldToSend, ruleIn, reading, holdsSome}
-use Rattle.laws.specs.Demands.{byItsRule, heldByItsRule, FramesRead, UnheldBreaks}
-use Rattle.laws.proofs.ByRules.{behind}
+use Rattle.laws.specs.Demands.{byItsRule, heldByTheRule, FramesRead, NothingWaits, UnheldBreaks}
+use Rattle.laws.proofs.ByRules.{Silent, wall-silent, none-silent, behind, one-rule}
 use Rattle.runs.proofs.Shapes.{Seen, seen, Core, core, Fits, Shape, isStill, isBegun}
 use Rattle.runs.proofs.Shapes.{isWritten, isCleared, isStored, isLost, isBroken, isSent, isNone, isLeft, isHanded}
 use Rattle.runs.proofs.View.{view}
@@ -47,7 +48,7 @@ use Rattle.runs.proofs.HeldLine.{kept}
 use Rattle.runs.proofs.Broken.{held-broken, broke}
 use Rattle.runs.proofs.Sends.{held-sent, seen-plain}
 use Rattle.runs.proofs.Runs.{first-not}
-use Rattle.runs.proofs.Steps.{answer, after, Without, ours}
+use Rattle.runs.proofs.Steps.{answer, after, end, all, Without, ours}
 
 -- what a send leaves
 abbrev afterSend : World → List ℕ
@@ -147,21 +148,22 @@ module _ (w : World) where
   none-held (n ∷ cells) e = absurd (omega (arith, ltb-false 0 (length (n ∷ cells)) e))
 
   -- and what is held after it has the rule of before: a write that changes it finds nothing held
-  same-rules : (x : Seen) (h : Core) (rx tx : List ℕ) → Shape w x h rx tx → x .empties ≡ false →
-      allUnder rule (receivedIn (held rx (h .rx))) ≡ allUnder (ruleOf (h .regs)) (receivedIn (held rx (h .rx)))
+  same-rules : (x : Seen) (h : Core) (rx tx : List ℕ) → Shape w x h rx tx → x .startsAnew ≡ false →
+      allRuled rule (receivedIn (held rx (h .rx))) ≡ allRuled (ruleOf (h .regs)) (receivedIn (held rx (h .rx)))
   same-rules x h rx tx shape n =
-      ⊎-elim (λ e. ap (λ (r : Rule). allUnder r (receivedIn (held rx (h .rx)))) (sym e))
-      (λ none. let z = ap receivedIn (none .1) ∙ none-held (heldCells w) (none .0) in ap (allUnder rule) z ∙ sym (ap (allUnder (ruleOf (h .regs))) z))
+      ⊎-elim (λ e. ap (λ (r : Rule). allRuled r (receivedIn (held rx (h .rx)))) (sym e))
+      (λ none. let z = ap receivedIn (none .1) ∙ none-held (heldCells w) (none .0) in ap (allRuled rule) z ∙ sym (ap (allRuled (ruleOf (h .regs))) z))
       (kept w x h rx tx shape n)
 
 -- ---- from one rule to the rules of a run: what is read by the rule of the moment, whatever of it comes, is read so among items of other rules
 
-module _ (r : Rule) (xs acc rest : List Received) (fs : List ℕ)
-    (turned : (ys : List Received) → frames (cut r) (xs ++ (acc ++ ys)) ≡ fs ++ frames (cut r) (rest ++ ys)) where
-  read-among : (ys : List Under) → byRules (allUnder r xs ++ (allUnder r acc ++ ys)) ≡ fs ++ byRules (allUnder r rest ++ ys)
-  read-among ys =
-      let k = behind r ys in
-      ap byRules (sym (append-assoc (allUnder r xs) (allUnder r acc) ys) ∙ ap (λ l. l ++ ys) (sym (map-append (under r) xs acc)))
+module _ (between : List Received) (silent : Silent between) where
+  read-among : (r : Rule) (xs acc rest : List Received) (fs : List ℕ) →
+      ((ys : List Received) → frames (cut r) (xs ++ (acc ++ ys)) ≡ fs ++ frames (cut r) (rest ++ ys)) → (ys : List Ruled) →
+      readWith between (allRuled r xs ++ (allRuled r acc ++ ys)) ≡ fs ++ readWith between (allRuled r rest ++ ys)
+  read-among r xs acc rest fs turned ys =
+      let k = behind between silent r ys in
+      ap (readWith between) (sym (append-assoc (allRuled r xs) (allRuled r acc) ys) ∙ ap (λ l. l ++ ys) (sym (map-append (ruled r) xs acc)))
       ∙ k .reads (xs ++ acc)
       ∙ ap (λ l. frames (cut r) l ++ k .later) (append-assoc xs acc (k .items))
       ∙ ap (λ l. l ++ k .later) (turned (k .items))
@@ -176,9 +178,6 @@ module _ (these : Call → World → Said → Bool)
   abbrev counted : Call → World → Said → List Received
   counted c w a = cond (these c w a) (aBreak ∷ []) (map aByte (accepted c w a))
 
-  abbrev counting : Reading World Call Said Under ℕ
-  counting = record { accepted = byItsRule counted; sent = sent; held = heldByItsRule; reads = λ w. byRules }
-
   turned : (c : Call) (w : World) → ByteCall c → empties c w (answer c w) ≡ false → (ys : List Received) →
       reading w (heldToSend w ++ (counted c w (answer c w) ++ ys)) ≡ sent c w (answer c w) ++ reading w (heldToSend (after c w) ++ ys)
   turned c w k n ys = pick (these c w (answer c w)) refl
@@ -191,28 +190,51 @@ module _ (these : Call → World → Said → Bool)
           break-reads w ys (b .fits) ∙ (λ i. sym (b .sent) i ++ reading w (receivedIn (held (sym (b .store) i) (sym (b .core) i .rx)) ++ ys))
       pick false e = keeps w _ _ _ _ (view c w) n (others c w e) (accepted-bytes c w (answer c w) k) ys
 
-  turn : (c : Call) (w : World) → ByteCall c → empties c w (answer c w) ≡ false → TurnReads counting (machine.seen ours c w)
-  unfolding ruleOf
-  turn c w k n ys =
-      read-among (ruleIn w) (heldToSend w) (counted c w (answer c w)) (heldToSend (after c w)) (sent c w (answer c w)) (turned c w k n) ys
-      ∙ ap (λ l. sent c w (answer c w) ++ byRules (l ++ ys)) (same-rules w _ _ _ _ (view c w) n)
+  module _ (between : List Received) (silent : Silent between) where
+    abbrev counting : Reading World Call Said Ruled ℕ
+    counting = record { accepted = byItsRule counted; sent = sent; held = heldByTheRule; reads = λ w. readWith between }
 
-  turns : (cs : List Call) (w : World) → AllFair ours cs → Without empties cs w → Each (TurnReads counting) (course ours cs w)
-  unfolding course
-  turns [] w k n = tt
-  turns (c ∷ cs) w k n = let m = first-not empties c cs w n in (turn c w (k .0) (m .0), turns cs (after c w) (k .1) (m .1))
+    turn : (c : Call) (w : World) → ByteCall c → empties c w (answer c w) ≡ false → TurnReads counting (machine.seen ours c w)
+    unfolding ruleOf
+    turn c w k n ys =
+        read-among between silent (ruleIn w) (heldToSend w) (counted c w (answer c w)) (heldToSend (after c w)) (sent c w (answer c w)) (turned c w k n) ys
+        ∙ ap (λ l. sent c w (answer c w) ++ readWith between (l ++ ys)) (same-rules w _ _ _ _ (view c w) (neither (restarts c (answer c w)) _ n .0))
 
--- (3a): all breaks count
+    turns : (cs : List Call) (w : World) → AllFair ours cs → Without empties cs w → Each (TurnReads counting) (course ours cs w)
+    unfolding course
+    turns [] w k n = tt
+    turns (c ∷ cs) w k n = let m = first-not empties c cs w n in (turn c w (k .0) (m .0), turns cs (after c w) (k .1) (m .1))
+
+    read : Obeys ours (Kept counting empties)
+    read cs w _ k n = from-turns counting ours cs w (turns cs w k n)
+
+-- ---- all breaks count
+
+every : (c : Call) (w : World) → breaks c w (answer c w) ≡ true → breaks c w (answer c w) ≡ true
+every c w e = e
+
+no-other : (c : Call) (w : World) → breaks c w (answer c w) ≡ false → breaks c w (answer c w) ≡ true → holdsSome w ≡ false
+no-other c w e b = absurd (true≢false (sym b ∙ e))
+
+-- (3a)
 pub frames-read : Obeys ours FramesRead
 unfolding bytesAndBreaks
-frames-read cs w _ k n =
-    from-turns (counting breaks (λ c w e. e) (λ c w e b. absurd (true≢false (sym b ∙ e)))) ours cs w
-    (turns breaks (λ c w e. e) (λ c w e b. absurd (true≢false (sym b ∙ e))) cs w k n)
+frames-read = read breaks every no-other wall wall-silent
 
--- so do only those that come while something is held
+-- the same where the rule changes and nothing waits
+pub nothing-waits : Obeys ours NothingWaits
+unfolding bytesAndBreaks
+nothing-waits cs w u k n =
+    let e = end cs w in
+    sym (frames-read cs w u k n)
+    ∙ ap (λ l. all sent cs w ++ l) (one-rule wall wall-silent (ruleIn e) (heldToSend e) ∙ sym (one-rule [] none-silent (ruleIn e) (heldToSend e)))
+    ∙ read breaks every no-other [] none-silent cs w u k n
+
+-- ---- only those count that come while something is held
+
 pub unheld-breaks : Obeys ours UnheldBreaks
 unfolding bytesAndMarks
-unheld-breaks cs w u k n = sym (frames-read cs w u k n) ∙ from-turns (counting marks are others) ours cs w (turns marks are others cs w k n)
+unheld-breaks cs w u k n = sym (frames-read cs w u k n) ∙ read marks are others wall wall-silent cs w u k n
   where
     are : (c : Call) (w : World) → marks c w (answer c w) ≡ true → breaks c w (answer c w) ≡ true
     are c w e = and-left (breaks c w (answer c w)) (holdsSome w) e

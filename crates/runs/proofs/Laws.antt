@@ -9,7 +9,7 @@ use Rattle.laws.proofs.Fitting.{keeps-fit, create-makes-fit, keeps-stores}
 use Rattle.laws.proofs.Rooms.{room-told}
 use Rattle.laws.proofs.Showing.{shows-so}
 use Rattle.laws.proofs.Starting.{starts-so, margin-recorded, reset-gives-start}
-use Rattle.runs.proofs.FramesRead.{frames-read, unheld-breaks}
+use Rattle.runs.proofs.FramesRead.{frames-read, nothing-waits, unheld-breaks}
 use Rattle.runs.proofs.Events.{events-stay}
 use Rattle.runs.proofs.Margin.{none-lost}
 use Rattle.runs.proofs.Rooms.{room-holds}
@@ -26,7 +26,7 @@ use Rattle.runs.proofs.ElevenBits.{eleven-bits}
 use Rattle.runs.proofs.Roles.{role-goes, remote-goes}
 use Rattle.runs.proofs.Passing.{frames-pass}
 use Rattle.runs.proofs.Settings.{registers-go, sizes-stay}
-use Rattle.runs.proofs.HeldLine.{rule-stays, held-line-obeyed}
+use Rattle.runs.proofs.HeldLine.{rule-stays, refused-while-held}
 use Rattle.runs.proofs.Alone.{broken-alone, pressed-alone}
 use Rattle.runs.proofs.SendRule.{send-rule}
 use Rattle.runs.proofs.Since.{frames-since}
@@ -42,8 +42,8 @@ pub all-obeyed : OursObeysAll
 all-obeyed =
     answers-so also refused-exactly also refused-stays also one-frame-out also eleven-bits also shows-so
     also places receive also places transmit also places-since receive also places-since transmit also nine-bits also keeps-fit also create-makes-fit also keeps-stores
-    also starts-so also margin-recorded also sizes-stay also reset-gives-start also registers-go also rule-stays also held-line-obeyed also role-goes
-    also frames-read also unheld-breaks also none-lost also frames-since also send-rule also none-removed also returns-judged also frames-pass also empty-send-resumes
+    also starts-so also margin-recorded also sizes-stay also reset-gives-start also registers-go also rule-stays also refused-while-held also role-goes
+    also frames-read also nothing-waits also unheld-breaks also none-lost also frames-since also send-rule also none-removed also returns-judged also frames-pass also empty-send-resumes
     also events-stay broken also events-stay overrun also events-stay pressed also broken-alone also pressed-alone
     also tells-until-back broken also tells-until-back overrun also tells-until-back pressed also status-told
     also events-clear broken also events-clear overrun also events-clear pressed

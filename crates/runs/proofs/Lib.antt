@@ -9,6 +9,7 @@ pub mod Shapes
 pub mod Refusals
 pub mod Quiet
 pub mod RuleKept
+pub mod RuleValues
 pub mod LineView
 pub mod FrameKinds
 pub mod FrameView

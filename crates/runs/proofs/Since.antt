@@ -9,7 +9,7 @@ use Rattle.state.specs.Sizes.{startState}
 use Rattle.bridge.specs.Calls.{World}
 use Rattle.reading.specs.Received.{Received, received, receivedIn}
 use Rattle.laws.specs.Observers.{bytesAndBreaks}
-use Rattle.laws.specs.ByRules.{allUnder, byRules}
+use Rattle.laws.specs.ByRules.{allRuled, byRules}
 use Rattle.laws.specs.Worlds.{heldToSend, ruleIn}
 use Rattle.laws.specs.Demands.{byItsRule}
 use Rattle.laws.specs.SendRule.{FramesSince}
@@ -37,7 +37,7 @@ emptied w x h rx tx (isHanded F e) n = absurd (false≢true n)
 pub frames-since : Obeys ours FramesSince
 frames-since c cs w B j k e n =
     frames-read cs (after c w) tt k n
-    ∙ ap (λ (l : List Received). byRules (allUnder (ruleIn (after c w)) l ++ all (byItsRule bytesAndBreaks) cs (after c w))) none
+    ∙ ap (λ (l : List Received). byRules (allRuled (ruleIn (after c w)) l ++ all (byItsRule bytesAndBreaks) cs (after c w))) none
   where
     none : heldToSend (after c w) ≡ []
     none = emptied w (seen c w (answer c w)) (core (after c w .state)) (after c w .rx) (after c w .tx) (view c w) e

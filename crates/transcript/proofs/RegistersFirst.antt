@@ -14,11 +14,11 @@ use Rattle.state.specs.Conditions.{settled}
 use Rattle.line.specs.HoldingOff.{setAfresh, afterWrite}
 use Rattle.answers.specs.Refusals.{firstRefusal}
 use Rattle.bridge.specs.Calls.{on, write, World, Did, ofReadingRule, heldLine, checks, outcome, settledBy, notRefused, step}
-use Rattle.bridge.proofs.Checks.{ten-held}
+use Rattle.bridge.proofs.Checks.{ten-given}
 use Rattle.laws.proofs.Refusing.{by-refusal}
 use Rattle.transcript.specs.declared.Set.{Set}
 use Rattle.transcript.specs.Transcript.{setRegisters}
-use Rattle.transcript.specs.RegistersFirst.{NeverHeld}
+use Rattle.transcript.specs.RegistersFirst.{NeverTen}
 
 abbrev Nothing : World → Type 0
 Nothing w = w .state .rx .len ≡ 0
@@ -34,7 +34,7 @@ module _ (n v : ℕ) (w : World) (none : Nothing w) where
   -- and is not refused by 10
   not-held : firstRefusal (checks (on (write n v)) w) ≡ 10 → ⊥
   unfolding heldLine
-  not-held e = omega (arith, none, ltb-true 0 (w .state .rx .len) (and-left (ltb 0 (w .state .rx .len)) (ofReadingRule n) (ten-held w n v e .1)))
+  not-held e = omega (arith, none, ltb-true 0 (w .state .rx .len) (and-left (ltb 0 (w .state .rx .len)) (ofReadingRule n) (ten-given w n v e .held)))
 
   not-ten : faultOf (step (on (write n v)) w .said) ≡ 10 → ⊥
   unfolding notRefused outcome said faultOf
@@ -50,6 +50,6 @@ set-never (suc n) x i w none =
     (λ _. set-never n x (i + 2) (step (on (write k v)) w .world) (write-nothing k v w none))
     (λ _. not-ten k v w none)
 
-pub never-held : NeverHeld
+pub never-ten : NeverTen
 unfolding startState
-never-held x p rx tx = set-never (p .regs) x 2 _ refl
+never-ten x p rx tx = set-never (p .regs) x 2 _ refl

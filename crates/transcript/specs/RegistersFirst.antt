@@ -6,5 +6,5 @@ use Rattle.transcript.specs.declared.Sections.{Sections}
 use Rattle.transcript.specs.Transcript.{registersSet}
 
 -- for every input, on any stores
-abbrev pub NeverHeld : Type 0
-NeverHeld = (x : List ℕ) (p : Sections) (rx tx : List ℕ) → registersSet x p rx tx .fault ≡ 10 → ⊥
+abbrev pub NeverTen : Type 0
+NeverTen = (x : List ℕ) (p : Sections) (rx tx : List ℕ) → registersSet x p rx tx .fault ≡ 10 → ⊥

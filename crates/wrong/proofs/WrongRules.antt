@@ -9,16 +9,16 @@ use Rattle.reading.specs.declared.Rule.{Rule}
 use Rattle.state.specs.State.{withRegisters}
 use Rattle.bridge.specs.Calls.{on, write, lineByte, reset}
 use Rattle.laws.specs.Answering.{RefusedExactly}
-use Rattle.laws.specs.Demands.{FramesRead}
+use Rattle.laws.specs.Demands.{FramesRead, NothingWaits}
 use Rattle.laws.specs.SendRule.{FramesSince}
-use Rattle.laws.specs.HeldLine.{RuleStays, HeldLine}
+use Rattle.laws.specs.HeldLine.{RuleStays, RefusedWhileHeld}
 use Rattle.refuting.proofs.Apart.{lists-differ, numbers-differ, answers-differ}
 use Rattle.refuting.proofs.StandsIn.{holds, no-round}
 use Rattle.wrong.specs.Trials.{holdingFirst, halfPair, pairFirst, oneToFour, oneGone}
 use Rattle.wrong.specs.SmallWorlds.{holdingBytes}
 use Rattle.wrong.specs.Seeing.{having}
 use Rattle.wrong.specs.WrongRules.{readsByTheNewPair, refusesOnlyChanges, letsR10Through, heedsOnlyWhenOn, heedsOnlyUndecided}
-use Rattle.wrong.specs.WrongRules.{writeEmpties, refusesUnderWay, refusesAllHeld, tenFirst}
+use Rattle.wrong.specs.WrongRules.{writeEmpties, writeBreaks, refusesUnderWay, refusesAllHeld, tenFirst, refusesAsUnknown}
 use Rattle.wrong.specs.Broken.{Breaks}
 use Rattle.wrong.proofs.Computing.{computes}
 use Rattle.wrong.proofs.Written.{Turn, leaves, Does}
@@ -75,6 +75,23 @@ reads-by-the-new-pair-since law =
     (rw (no-round 4 0 refl, holds (49 ∷ 13 ∷ 0 ∷ 0 ∷ []) 0 1 refl)
     at (law (on reset) (on (lineByte 49) ∷ on (write 10 8) ∷ []) (holdingFirst 2 halfPair) tt tt (omega arith, (tt, tt)) refl refl))
 
+-- ---- what waits where the rule changes
+
+-- 50 and 13 wait under the old pair when 65 comes under the new one
+pub reads-by-the-new-pair-waits : Breaks readsByTheNewPair NothingWaits
+unfolding computes
+reads-by-the-new-pair-waits law =
+    lists-differ _ _ refl
+    (rw (holds halfPair 0 2 refl) at (law (on (write 17 65) ∷ on (lineByte 65) ∷ []) (holdingFirst 2 halfPair) tt (tt, (omega arith, tt)) refl))
+
+-- the same where they were marked, so that they are read as before a wall
+pub write-breaks-falls : Breaks writeBreaks NothingWaits
+unfolding computes
+write-breaks-falls law =
+    lists-differ _ _ refl
+    (rw (holds halfPair 0 2 refl, no-round 4 1 refl)
+    at (law (on (write 17 65) ∷ on (lineByte 65) ∷ []) (holdingFirst 2 halfPair) tt (tt, (omega arith, tt)) refl))
+
 -- ---- the rule
 
 -- C01 was 10 and is 65
@@ -92,25 +109,25 @@ lets-r10-through-changes law =
 -- ---- refusals
 
 -- C01 is 10, and becomes 10
-pub refuses-only-changes-falls : Breaks refusesOnlyChanges HeldLine
+pub refuses-only-changes-falls : Breaks refusesOnlyChanges RefusedWhileHeld
 unfolding computes
 refuses-only-changes-falls law =
     true≢false (law (on (write 17 10)) (holdingFirst 2 halfPair) tt 17 10 refl .always refl (rw (holds halfPair 0 2 refl)))
 
 -- R10 bit 2 alone
-pub lets-r10-through-takes : Breaks letsR10Through HeldLine
+pub lets-r10-through-takes : Breaks letsR10Through RefusedWhileHeld
 unfolding computes
 lets-r10-through-takes law =
     true≢false (law (on (write 10 4)) (holdingBytes 1) tt 10 4 refl .always refl (rw (holds oneToFour 0 1 refl)))
 
 -- 0,49 is under way, and nothing is held
-pub refuses-under-way-falls : Breaks refusesUnderWay HeldLine
+pub refuses-under-way-falls : Breaks refusesUnderWay RefusedWhileHeld
 unfolding computes
 refuses-under-way-falls law =
     false≢true (rw (holds oneToFour 1 0 refl) at (law (on (write 10 8)) (oneGone 1 0 false) tt 10 8 refl .something refl))
 
 -- C04
-pub refuses-all-held-falls : Breaks refusesAllHeld HeldLine
+pub refuses-all-held-falls : Breaks refusesAllHeld RefusedWhileHeld
 unfolding computes
 refuses-all-held-falls law =
     false≢true (law (on (write 20 65)) (holdingBytes 1) tt 20 65 refl .register (rw (holds oneToFour 0 1 refl)))
@@ -120,3 +137,14 @@ pub ten-first-falls : Breaks tenFirst RefusedExactly
 unfolding computes
 ten-first-falls law =
     answers-differ _ _ refl (rw (holds oneToFour 0 1 refl) at (law (on (write 10 1)) (holdingBytes 1) tt .given (λ e. omega arith)))
+
+pub ten-first-comes-first : Breaks tenFirst RefusedWhileHeld
+unfolding computes
+ten-first-comes-first law =
+    false≢true (law (on (write 10 1)) (holdingBytes 1) tt 10 1 refl .last (rw (holds oneToFour 0 1 refl)))
+
+-- 5 is answered, and 10 is not
+pub refuses-as-unknown-falls : Breaks refusesAsUnknown RefusedWhileHeld
+unfolding computes
+refuses-as-unknown-falls law =
+    answers-differ _ _ refl (law (on (write 10 8)) (holdingBytes 1) tt 10 8 refl .ten refl (rw (holds oneToFour 0 1 refl)) refl refl)

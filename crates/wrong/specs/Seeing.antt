@@ -1,6 +1,7 @@
 -- Our bridge changed where something is seen of a call, and changes that several wrong bridges make.
 use Prim.Native.Nat.{ℕ}
 use mathlib.Core.Bool.{Bool, true, false, cond, _&&_, not}
+use mathlib.Core.List.{List}
 use Rattle.status.specs.declared.Events.{Events}
 use Rattle.store.specs.Ring.{dropRing}
 use Rattle.reading.specs.Steps.{startsWithPair}
@@ -36,6 +37,10 @@ having change w = world (change (w .state)) (w .rx) (w .tx)
 
 abbrev pub inState : (State → State) → Did → Did
 inState change d = record { said = d .said; room = d .room; world = having change (d .world) }
+
+-- what was done, with this in the receive store
+abbrev pub keeping : List ℕ → Did → Did
+keeping rx d = record { said = d .said; room = d .room; world = world (d .world .state) rx (d .world .tx) }
 
 -- ---- what is seen
 

@@ -18,13 +18,9 @@ use Rattle.laws.specs.Observers.{any, accepted, breaks}
 use Rattle.laws.specs.Worlds.{holdsSome, heldToSend, ruleIn}
 use Rattle.laws.specs.Holding.{sends}
 use Rattle.wrong.specs.Changing.{leaving}
-use Rattle.wrong.specs.Seeing.{insteadAt, inState, afterSight, emptySend, having}
+use Rattle.wrong.specs.Seeing.{insteadAt, inState, keeping, afterSight, emptySend, having}
 
 -- ---- bridges that read other cells than stand there
-
--- what was done, with this in the receive store
-abbrev keeping : List ℕ → Did → Did
-keeping rx d = record { said = d .said; room = d .room; world = world (d .world .state) rx (d .world .tx) }
 
 -- sends as if these cells stood in the receive store, and leaves it as it is
 abbrev readingAs : (World → ℕ → ℕ) → Call → World → Did

@@ -10,19 +10,20 @@ use Rattle.role.specs.Role.{isActive}
 use Rattle.store.specs.Ring.{emptyRing}
 use Rattle.reading.specs.Reading.{leftOver}
 use Rattle.reading.specs.Steps.{cut}
+use Rattle.line.specs.Breaks.{breakCells}
 use Rattle.state.specs.State.{withRx}
 use Rattle.bridge.specs.Calls.{Call, World, Did, checks, notRefused}
 use Rattle.laws.specs.Observers.{taken, onWrite}
 use Rattle.laws.specs.Worlds.{heldToSend, holdsSome, ruleIn}
 use Rattle.laws.specs.HeldLine.{namesRule}
 use Rattle.wrong.specs.Changing.{instead, refusing, heedless}
-use Rattle.wrong.specs.Seeing.{insteadAt, inState}
+use Rattle.wrong.specs.Seeing.{insteadAt, inState, keeping}
 
 -- ours refuses it because something is held
 abbrev underHeld : Call → World → Bool
 underHeld c w = eqb (firstRefusal (checks c w)) 10
 
--- takes every such write, so that the second half of a reading is read by the new pair
+-- takes R10, C00 and C01 though something is held, so that the second half of a reading is read by the new pair
 abbrev pub readsByTheNewPair : Call → World → Did
 readsByTheNewPair = heedless 10
 
@@ -34,7 +35,7 @@ takesWhere test = instead (λ c w. underHeld c w && onWrite (λ n v. test n v w)
 abbrev pub refusesOnlyChanges : Call → World → Did
 refusesOnlyChanges = takesWhere (λ n v w. eqb v (valueOf (w .state .regs) n))
 
--- lets R10 through
+-- takes R10 though something is held
 abbrev pub letsR10Through : Call → World → Did
 letsR10Through = takesWhere (λ n v w. eqb n 10)
 
@@ -46,9 +47,13 @@ heedsOnlyWhenOn = takesWhere (λ n v w. not (bit 3 (w .state .regs .r10)))
 abbrev pub heedsOnlyUndecided : Call → World → Did
 heedsOnlyUndecided = takesWhere (λ n v w. eqb (length (leftOver (cut (ruleIn w)) (heldToSend w))) 0)
 
--- takes the write and empties the receive store
+-- takes R10, C00 and C01 though something is held, and empties the receive store
 abbrev pub writeEmpties : Call → World → Did
 writeEmpties = instead underHeld (λ c w. inState (λ s. withRx s (emptyRing (s .rx .cap))) (notRefused c w))
+
+-- takes R10, C00 and C01 though something is held, and marks it as if a break had come
+abbrev pub writeBreaks : Call → World → Did
+writeBreaks = instead underHeld (λ c w. keeping (breakCells (w .state) (w .rx)) (notRefused c w))
 
 -- refuses a write of the three too while a frame is under way and nothing is held
 abbrev pub refusesUnderWay : Call → World → Did
@@ -58,6 +63,10 @@ refusesUnderWay = insteadAt (λ c w a. taken a && onWrite (λ n v. namesRule n &
 abbrev pub refusesAllHeld : Call → World → Did
 refusesAllHeld = insteadAt (λ c w a. taken a && onWrite (λ n v. holdsSome w) false c) (refusing 10)
 
--- answers 10 before 6 and 7
+-- answers 10 before 2, 6 and 7
 abbrev pub tenFirst : Call → World → Did
 tenFirst = instead (λ c w. onWrite (λ n v. namesRule n && holdsSome w) false c) (refusing 10)
+
+-- refuses R10, C00 and C01 while something is held as it refuses a register that is not carried
+abbrev pub refusesAsUnknown : Call → World → Did
+refusesAsUnknown = instead underHeld (refusing 5)

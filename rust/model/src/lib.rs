@@ -321,8 +321,8 @@ impl Bridge {
             Ok(new) => new,
             Err(refusal) => return Answer::Refused(refusal),
         };
-        // "10, held bytes, checked after 8": "Writing R10, C00 or C01 while the receive store holds
-        // anything is refused", whatever the value.
+        // Held bytes, after 8: no register of the reading rule is written while anything is held,
+        // whatever the value.
         if matches!(number, 10 | 16 | 17) && self.receive.held > 0 {
             return Answer::Refused(10);
         }

@@ -425,8 +425,8 @@ where
     /// [`Register::R10_FIND_LINE_END`] in R10 no reading ever ends.
     ///
     /// R10, C00 and C01 are written when all that came is read. Up to two bytes that wait for the end of
-    /// their line are held after [`Reading::NotEnded`]: read again when more has come. If no more will
-    /// come, [`line_break`](Meter::line_break) cuts the reading off, and it is then told as a gap.
+    /// their line are held after [`Reading::NotEnded`]: read again when the end has come. If it never
+    /// will, [`line_break`](Meter::line_break) cuts the reading off, and it is then told as a gap.
     ///
     /// # Errors
     ///

@@ -73,7 +73,8 @@ refusals! {
     GO_IS_STOP = 8, "the go and stop characters would be equal";
 
     /// Refusal 10: R10, C00 or C01 is written while the receive store holds at least one byte.
-    /// Nothing is lost: read what is held, and write again. The page of
+    /// Nothing is lost: read what is held, and write again. Bytes that wait for the end of their line
+    /// are read after a break. The page of
     /// [`Register`](crate::Register#no-rule-changes-under-a-held-line) says how.
     HELD_BYTES = 10, "held bytes, R10, C00 and C01 are written only while the receive store holds none";
 

@@ -21,7 +21,8 @@ use crate::Refusal;
 /// stored, so a write of one of them is refused with [`Refusal::HELD_BYTES`] while the receive store
 /// holds anything. The value does not matter: one that the register has already is refused too. Read
 /// all that is held, and then write. A byte that waits for the end of its line is held as well. Where
-/// that end never comes, a break lets it be read, and a device clear or a reset throws it away.
+/// that end never comes, since the meter ends its lines otherwise, each line leaves a byte or two that
+/// wait: a break lets them be read, and a device clear or a reset throws them away.
 ///
 /// ```
 /// use raftershim::{Bridge, Register, Stores};
