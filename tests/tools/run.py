@@ -1,6 +1,8 @@
 """Plants the faults that each tool is there for, and sees the tool find each.
 
-Usage: python3 tests/tools/run.py [NAME...]   (a NAME is a file of this folder; without one, all are run)
+Usage: python3 tests/tools/run.py              all of them
+       python3 tests/tools/run.py --unbuilt    those that need nothing built, or --built for the others
+       python3 tests/tools/run.py NAME...      these; a NAME is a file of this folder
 """
 import importlib
 import sys
@@ -9,13 +11,15 @@ import time
 sys.dont_write_bytecode = True
 from planting import Missed
 
-ALL = "contracts undivided must_fail documents laws make archive layout bench board examples onepass program counted install".split()
+UNBUILT = "contracts undivided must_fail documents laws make layout bench onepass program counted install".split()
+BUILT = "archive board examples".split()
+GROUPS = {(): UNBUILT + BUILT, ("--unbuilt",): UNBUILT, ("--built",): BUILT}
 
 
 def main():
     """Runs each file's faults and says how many there were; 1 if a tool missed one."""
     missed = 0
-    for name in sys.argv[1:] or ALL:
+    for name in GROUPS.get(tuple(sys.argv[1:]), sys.argv[1:]):
         began = time.monotonic()
         try:
             print(f"{name}: {importlib.import_module(name).run()} cases as they must be ({time.monotonic() - began:.0f} s)", flush=True)
