@@ -1,9 +1,10 @@
 -- A register write that is taken while something is held leaves the reading rule. Assumes nothing.
 use Prim.Native.Nat.{ℕ}
-use mathlib.Core.Path.{_≡_, refl, sym, ap, _∙_}
-use mathlib.Core.Bool.{Bool, true, false, _&&_, _||_, true≢false}
+use mathlib.Core.Path.{_≡_, sym, ap, _∙_}
+use mathlib.Core.Bool.{Bool, true, false, _&&_, _||_}
 use lib.Dec.{eqb, ltb}
 use lib.ListN.{length}
+use Rattle.machine.proofs.Course.{neither}
 use Rattle.registers.specs.Writing.{written}
 use Rattle.store.proofs.Laws.{held-length}
 use Rattle.state.proofs.Fits.{rx-fits}
@@ -16,26 +17,16 @@ module _ (w : World) (F : Fits w) where
   size : length (heldCells w) ≡ w .state .rx .len
   size = held-length (w .rx) (w .state .rx) (rx-fits (w .state) (w .rx) (w .tx) F .ring)
 
-  -- what is seen to be held is what the state counts
-  pub counts-held : ltb 0 (w .state .rx .len) ≡ holdsSome w
-  counts-held = ap (ltb 0) (sym size)
-
-  -- so the write is refused by what is seen
+  -- the write is refused by what is seen to be held
   pub held-line : (n : ℕ) → heldLine (w .state) n ≡ (holdsSome w && ofReadingRule n)
   unfolding heldLine
-  held-line n = ap (λ (t : Bool). t && ofReadingRule n) counts-held
-
--- none of three
-none-of : (a b c : Bool) → ((a || b) || c) ≡ false → (a ≡ false) × ((b ≡ false) × (c ≡ false))
-none-of false false false e = (refl, (refl, refl))
-none-of true b c e = absurd (true≢false e)
-none-of false true c e = absurd (true≢false e)
-none-of false false true e = absurd (true≢false e)
+  held-line n = ap (λ (k : ℕ). ltb 0 k && ofReadingRule n) (sym size)
 
 pub rule-kept : (w : World) (n v : ℕ) → Fits w → heldLine (w .state) n ≡ false → holdsSome w ≡ true →
     ruleOf (written (w .state .regs) n v) ≡ ruleOf (w .state .regs)
 unfolding ruleOf written
 rule-kept w n v F free some =
     let none : ofReadingRule n ≡ false = ap (λ (t : Bool). t && ofReadingRule n) (sym some) ∙ sym (held-line w F n) ∙ free in
-    let k = none-of (eqb n 10) (eqb n 16) (eqb n 17) none in
-    rw (k .0, k .1 .0, k .1 .1)
+    let last = neither (eqb n 10 || eqb n 16) (eqb n 17) none in
+    let first = neither (eqb n 10) (eqb n 16) (last .0) in
+    rw (first .0, first .1, last .1)

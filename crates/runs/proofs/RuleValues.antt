@@ -9,7 +9,7 @@ use Rattle.branches.proofs.Branches.{and-left, and-right}
 use Rattle.machine.proofs.Course.{neither}
 use Rattle.answers.specs.Refusals.{firstRefusal}
 use Rattle.registers.specs.declared.Registers.{Registers}
-use Rattle.registers.specs.Table.{nothing, table, rowIn, carriedOf}
+use Rattle.registers.specs.Table.{nothing, character, table, rowIn, carriedOf}
 use Rattle.registers.specs.Bits.{bit, tooLarge, bitNotCarried}
 use Rattle.registers.specs.Writing.{written, goIsStop, writeChecks}
 use Rattle.registers.specs.RegistersFit.{registersFit, allInRange, values}
@@ -61,22 +61,16 @@ module _ (v : ℕ) where
       let four : v % 4 ≡ 0 = omega (arith, even, half) in
       (λ i. lt-ltb v 16 (omega (arith, low)) i && eq-eqb (v % 4) 0 four i)
 
-  -- C00 and C01 are characters
-  c00-passes : ltb v 256 ≡ true → Passed 16 v
-  unfolding tooLarge bitNotCarried carriedOf rowIn table
-  c00-passes e = record { carried = refl; small = le-ltb 255 v (omega (arith, ltb-true v 256 e)); bits = refl }
+-- ---- C00 and C01, which are characters
 
-  c01-passes : ltb v 256 ≡ true → Passed 17 v
-  unfolding tooLarge bitNotCarried carriedOf rowIn table
-  c01-passes e = record { carried = refl; small = le-ltb 255 v (omega (arith, ltb-true v 256 e)); bits = refl }
+module _ (n v : ℕ) (whole : carriedOf n ≡ character) where
+  char-passes : ltb v 256 ≡ true → Passed n v
+  unfolding tooLarge bitNotCarried
+  char-passes e = record { carried = rw whole; small = rw whole (le-ltb 255 v (omega (arith, ltb-true v 256 e))); bits = rw whole }
 
-  c00-stands : Passed 16 v → ltb v 256 ≡ true
-  unfolding tooLarge carriedOf rowIn table
-  c00-stands p = lt-ltb v 256 (omega (arith, ltb-false 255 v (p .small)))
-
-  c01-stands : Passed 17 v → ltb v 256 ≡ true
-  unfolding tooLarge carriedOf rowIn table
-  c01-stands p = lt-ltb v 256 (omega (arith, ltb-false 255 v (p .small)))
+  char-stands : Passed n v → ltb v 256 ≡ true
+  unfolding tooLarge
+  char-stands p = lt-ltb v 256 (omega (arith, ltb-false 255 v (rw whole at (p .small))))
 
 -- ---- by number
 
@@ -97,14 +91,15 @@ module _ (g : Registers) (n v : ℕ) where
   go-stop-stay = at-three (λ n. goIsStop (written g n v) ≡ goIsStop g) refl refl refl n
 
   pub stands-let : registersFit g ≡ true → namesRule n ≡ true → canStand n v ≡ true → firstRefusal (writeChecks g n v) ≡ 0
-  unfolding writeChecks registersFit
+  unfolding writeChecks registersFit carriedOf rowIn table
   stands-let fit names can =
-      let p = at-three (λ n. canStand n v ≡ true → Passed n v) (r10-passes v) (c00-passes v) (c01-passes v) n names can in
+      let p = at-three (λ n. canStand n v ≡ true → Passed n v) (r10-passes v) (char-passes 16 v refl) (char-passes 17 v refl) n names can in
       let differ = go-stop-stay names ∙ not-true (goIsStop g) (and-right (allInRange (values g)) _ fit) in
       rw (p .carried, p .small, p .bits, differ)
 
   pub let-stands : namesRule n ≡ true → firstRefusal (writeChecks g n v) ≡ 0 → canStand n v ≡ true
+  unfolding carriedOf rowIn table
   let-stands names e =
       let a = accepted g n v e in
-      at-three (λ n. Passed n v → canStand n v ≡ true) (r10-stands v) (c00-stands v) (c01-stands v) n names
+      at-three (λ n. Passed n v → canStand n v ≡ true) (r10-stands v) (char-stands 16 v refl) (char-stands 17 v refl) n names
       (record { carried = a .carried; small = a .small; bits = a .bits })
