@@ -170,7 +170,7 @@ static void held_lines(void) {
     free_line();
 }
 
-/* "Store 8, m 3: the fourth byte does not hold off, the fifth begins holding off, the ninth is lost; two held ends it." */
+/* a store of 8 with margin 3: holding off begins with the fifth byte and not before, the ninth is lost, and with two held it ends */
 static void holding(void) {
     IS(create(8, 3, 3), DONE);
     for (uint8_t b = 1; b <= 4; b++) IS(line(b), TAKEN(8 - b));
@@ -198,7 +198,7 @@ static void holding(void) {
     IS(frame(3, 8), OUT(3, 5, 65));
 }
 
-/* "Transmit store 3, R10 bit 2 on: an end byte is taken at none held, busy at one." "Frame 2,047 passes; 2,048: refusal 3." */
+/* a transmit store of 3 with R10 bit 2 on has room for an end byte only while it holds none; the last frame is 2,047, and 2,048 is none */
 static void listening(void) {
     IS(create(8, 3, 3), DONE);
     IS(frame(5, 158), OUT(3, 5, 159));

@@ -85,10 +85,9 @@ impl Watcher<TheBridge> for Run {
         Ok(rows)
     }
 
-    /// "The data frames sent from the receive store, followed by those the reading rule gives for
-    /// the bytes still held, are those it gives for the bytes held at the start and then all
-    /// accepted", "each byte read by the rule in force when it was accepted"; and what was handed
-    /// out, then what is held for the line, are the bytes added.
+    /// Demand 3, first: what went to the loop from the receive store, and then the frames of what is
+    /// still held, are the frames of all there was, held at first and then accepted, each byte by its
+    /// own rule. And what was handed out, then what is held for the line, are the bytes added.
     fn check(&self, state: &Bridge, (rx, tx): Stores<TheBridge>) -> Result<(), String> {
         let mut read = self.sent.clone();
         read.extend(frames(&self.still_held(&unread(state, rx))?));
