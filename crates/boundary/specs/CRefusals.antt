@@ -7,7 +7,7 @@ use lib.Dec.{eqb}
 use Rattle.answers.specs.Refusals.{Check, check, firstRefusal}
 use Rattle.answers.specs.Refusing.{Refuses}
 use Rattle.boundary.specs.Product.{Product, Kind, creating, showing, calling}
-use Rattle.boundary.specs.CCalls.{Lent, stateIn, fitting, cStep}
+use Rattle.boundary.specs.CCalls.{Lent, heldIn, fitting, cStep}
 use Rattle.boundary.specs.Numbers.{cAnswer}
 use Rattle.boundary.specs.CRuns.{Lendable}
 
@@ -24,7 +24,7 @@ module _ (P : Product) where
   unfoldable pub cChecks : Kind (P .Side) (P .OnState) → Lent → List Check
   cChecks (creating m) l = cannotCreate m l ∷ []
   cChecks (showing side) l = []
-  cChecks (calling c) l = misfitBlock l ∷ P .checksOn c (stateIn P (l .block))
+  cChecks (calling c) l = misfitBlock l ∷ P .checksOn c (heldIn P l)
 
   -- Sizes and refusals, the table: every C call, on any buffers of bytes and right numbers, a block of any length among them, answers by its
   -- number the refusal of the first of its checks that is given, and only then a refusal

@@ -57,9 +57,9 @@ pub record Product : Type 1 where
   pub roomIn : Did → ℕ
   pub leftIn : Did → World
   pub step : Call → World → Did
-  -- what create tests of its number and the lengths of two stores, and the tests of a call on a state that fits
+  -- what create tests of its number and the lengths of two stores, and the tests of a call on a state that fits its stores
   pub obeyed : ℕ → ℕ → ℕ → Bool
-  pub checksOn : OnState → State → List Check
+  pub checksOn : OnState → Held State → List Check
   -- what the types of the code give of a world and of a call
   pub Fine : World → Type 0
   pub Fair : Call → Type 0
@@ -115,4 +115,4 @@ module _ (P : Product) where
   unfoldable pub checks : Kind (P .Side) (P .OnState) → Held (P .State) → List Check
   checks (creating m) h = check 1 (not (P .obeyed m (length (h .first)) (length (h .second)))) ∷ []
   checks (showing side) h = []
-  checks (calling c) h = check 2 (not (fitsHeld h)) ∷ P .checksOn c (h .state)
+  checks (calling c) h = check 2 (not (fitsHeld h)) ∷ P .checksOn c h

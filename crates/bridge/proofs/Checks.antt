@@ -12,7 +12,6 @@ use Rattle.registers.specs.Table.{nothing, carriedOf}
 use Rattle.registers.specs.Bits.{tooLarge, bitNotCarried}
 use Rattle.registers.specs.Writing.{written, goIsStop, writeChecks}
 use Rattle.registers.proofs.Refusals.{accepted}
-use Rattle.state.specs.declared.State.{State}
 use Rattle.state.specs.Sizes.{fits}
 use Rattle.bridge.specs.Calls.{on, write, World, heldLine, checksOn, checks}
 
@@ -26,40 +25,40 @@ first-ahead (c ∷ cs) ys h = go (c .given) h (first-ahead cs ys)
     go true k later = refl
     go false k later = later k
 
-module _ (s : State) (n v : ℕ) where
+module _ (w : World) (n v : ℕ) where
   abbrev ofTable : ℕ
-  ofTable = firstRefusal (writeChecks (s .regs) n v)
+  ofTable = firstRefusal (writeChecks (w .state .regs) n v)
 
   abbrev ofWrite : ℕ
-  ofWrite = firstRefusal (checksOn (write n v) s)
+  ofWrite = firstRefusal (checksOn (write n v) w)
 
   -- what the table refuses is refused by its number
   pub write-refused : (ofTable ≡ 0 → ⊥) → ofWrite ≡ ofTable
   unfolding checksOn
-  write-refused h = first-ahead (writeChecks (s .regs) n v) (check 10 (heldLine s n) ∷ []) h
+  write-refused h = first-ahead (writeChecks (w .state .regs) n v) (check 10 (heldLine (w .state) n) ∷ []) h
 
   -- what it lets through is refused where the line is held
-  pub write-let : ofTable ≡ 0 → ofWrite ≡ cond (heldLine s n) 10 0
+  pub write-let : ofTable ≡ 0 → ofWrite ≡ cond (heldLine (w .state) n) 10 0
   unfolding checksOn writeChecks
-  write-let e = let a = accepted (s .regs) n v e in rw (a .carried, a .small, a .bits, a .differ)
+  write-let e = let a = accepted (w .state .regs) n v e in rw (a .carried, a .small, a .bits, a .differ)
 
   -- what an accepted write passed
-  pub write-passed : ofWrite ≡ 0 → (ofTable ≡ 0) × (heldLine s n ≡ false)
+  pub write-passed : ofWrite ≡ 0 → (ofTable ≡ 0) × (heldLine (w .state) n ≡ false)
   write-passed e = go (eqb ofTable 0) refl
     where
       free : (t : Bool) → _≡_ {A = ℕ} (cond t 10 0) 0 → t ≡ false
       free true h = absurd (omega arith)
       free false h = refl
 
-      go : (t : Bool) → eqb ofTable 0 ≡ t → (ofTable ≡ 0) × (heldLine s n ≡ false)
-      go true h = let z = eqb-true ofTable 0 h in (z, free (heldLine s n) (sym (write-let z) ∙ e))
+      go : (t : Bool) → eqb ofTable 0 ≡ t → (ofTable ≡ 0) × (heldLine (w .state) n ≡ false)
+      go true h = let z = eqb-true ofTable 0 h in (z, free (heldLine (w .state) n) (sym (write-let z) ∙ e))
       go false h = let z = eqb-false ofTable 0 h in absurd (z (sym (write-refused z) ∙ e))
 
   -- 10 is the number of no other check
-  write-ten : ofWrite ≡ 10 → (ofTable ≡ 0) × (heldLine s n ≡ true)
+  write-ten : ofWrite ≡ 10 → (ofTable ≡ 0) × (heldLine (w .state) n ≡ true)
   unfolding checksOn writeChecks
   write-ten e =
-      go (eqb (carriedOf n) nothing) (tooLarge (carriedOf n) v) (bitNotCarried (carriedOf n) v) (goIsStop (written (s .regs) n v)) (heldLine s n) e
+      go (eqb (carriedOf n) nothing) (tooLarge (carriedOf n) v) (bitNotCarried (carriedOf n) v) (goIsStop (written (w .state .regs) n v)) (heldLine (w .state) n) e
     where
       go : (five six seven eight ten : Bool) → _≡_ {A = ℕ} (cond five 5 (cond six 6 (cond seven 7 (cond eight 8 (cond ten 10 0))))) 10 →
           (_≡_ {A = ℕ} (cond five 5 (cond six 6 (cond seven 7 (cond eight 8 0)))) 0) × (ten ≡ true)
@@ -80,7 +79,7 @@ pub ten-given : (w : World) (n v : ℕ) → firstRefusal (checks (on (write n v)
 unfolding checks
 ten-given w n v e =
     let k = go (fits (w .state) (length (w .rx)) (length (w .tx))) _ e in
-    let t = write-ten (w .state) n v (k .1) in
+    let t = write-ten w n v (k .1) in
     record { fit = k .0; let-through = t .0; held = t .1 }
   where
     go : (t : Bool) (m : ℕ) → cond (not t) 2 m ≡ 10 → (t ≡ true) × (m ≡ 10)
@@ -90,4 +89,4 @@ ten-given w n v e =
 -- and to every such write
 pub gives-ten : (w : World) (n v : ℕ) → TenGiven w n v → firstRefusal (checks (on (write n v)) w) ≡ 10
 unfolding checks
-gives-ten w n v k = rw (k .fit) (write-let (w .state) n v (k .let-through) ∙ (λ i. cond (k .held i) 10 0))
+gives-ten w n v k = rw (k .fit) (write-let w n v (k .let-through) ∙ (λ i. cond (k .held i) 10 0))

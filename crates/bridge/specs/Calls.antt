@@ -11,24 +11,27 @@ use Rattle.store.specs.declared.Ring.{Ring}
 use Rattle.store.specs.Ring.{room, run}
 use Rattle.state.specs.declared.State.{State}
 use Rattle.state.specs.declared.Outcome.{Outcome}
+use Rattle.state.specs.declared.Out.{Out}
 use Rattle.bridge.specs.declared.Told.{Told}
 use Rattle.answers.specs.declared.Answer.the-variants as answer
 use Rattle.answers.specs.Answers.{Said, said, refused, part}
 use Rattle.state.specs.Sizes.{sizesObeyed, startState, fits}
 use Rattle.loopside.specs.LoopToLine.{busy}
 use Rattle.line.specs.Breaks.{breakCells}
-use Rattle.line.specs.HoldingOff.{lineState, lineBytes, afterWrite, nextOut, afterGiving, outAnswer}
+use Rattle.line.specs.HoldingOff.{lineState, lineBytes, afterWrite, nextOut, isNext, gone, outAnswer}
 use Rattle.state.specs.Conditions.{settled, breakState, keyState}
 use Rattle.loopside.specs.Frames.{deviceClear, frameTaken, frameBytes}
 
--- What is built, calls: seven are made on a state
+-- What is built, calls: eight are made on a state. Ask, then take: the next line byte is asked for, and taken by its name; what was one call
+-- that gave it is these two
 pub data OnState : Type 0 where
   reset : OnState
   write : ℕ → ℕ → OnState
   lineByte : ℕ → OnState
   lineBreak : OnState
   key : OnState
-  nextLineByte : OnState
+  askLineByte : OnState
+  takeLineByte : ℕ → OnState
   loopFrame : ℕ → OnState
 
 -- the two stores
@@ -56,7 +59,8 @@ ofFrame see nothing (write n v) = nothing
 ofFrame see nothing (lineByte b) = nothing
 ofFrame see nothing lineBreak = nothing
 ofFrame see nothing key = nothing
-ofFrame see nothing nextLineByte = nothing
+ofFrame see nothing askLineByte = nothing
+ofFrame see nothing (takeLineByte b) = nothing
 
 abbrev pub ofLineByte : {X : Type 0} → (ℕ → X) → X → OnState → X
 ofLineByte see nothing (lineByte b) = see b
@@ -64,8 +68,20 @@ ofLineByte see nothing reset = nothing
 ofLineByte see nothing (write n v) = nothing
 ofLineByte see nothing lineBreak = nothing
 ofLineByte see nothing key = nothing
-ofLineByte see nothing nextLineByte = nothing
+ofLineByte see nothing askLineByte = nothing
+ofLineByte see nothing (takeLineByte b) = nothing
 ofLineByte see nothing (loopFrame f) = nothing
+
+-- a line byte that is named to be taken
+abbrev pub ofTake : {X : Type 0} → (ℕ → X) → X → OnState → X
+ofTake see nothing (takeLineByte b) = see b
+ofTake see nothing reset = nothing
+ofTake see nothing (write n v) = nothing
+ofTake see nothing (lineByte b) = nothing
+ofTake see nothing lineBreak = nothing
+ofTake see nothing key = nothing
+ofTake see nothing askLineByte = nothing
+ofTake see nothing (loopFrame f) = nothing
 
 abbrev pub ofWrite : {X : Type 0} → (ℕ → ℕ → X) → X → OnState → X
 ofWrite see nothing (write n v) = see n v
@@ -73,7 +89,8 @@ ofWrite see nothing reset = nothing
 ofWrite see nothing (lineByte b) = nothing
 ofWrite see nothing lineBreak = nothing
 ofWrite see nothing key = nothing
-ofWrite see nothing nextLineByte = nothing
+ofWrite see nothing askLineByte = nothing
+ofWrite see nothing (takeLineByte b) = nothing
 ofWrite see nothing (loopFrame f) = nothing
 
 -- two calls on a state are of one kind
@@ -83,8 +100,9 @@ kindOn (write n v) = 1
 kindOn (lineByte b) = 2
 kindOn lineBreak = 3
 kindOn key = 4
-kindOn nextLineByte = 5
-kindOn (loopFrame f) = 6
+kindOn askLineByte = 5
+kindOn (takeLineByte b) = 6
+kindOn (loopFrame f) = 7
 
 abbrev pub is : OnState → OnState → Bool
 is c d = eqb (kindOn c) (kindOn d)
@@ -111,9 +129,13 @@ did o rx tx = record { said = said (o .answer); room = 0; world = world (o .stat
 abbrev pub told : Told → List ℕ → List ℕ → Did
 told t rx tx = record { said = said (t .outcome .answer); room = t .room; world = world (t .outcome .state) rx tx }
 
--- what showing did: the part that it returned, and the world as it was
+-- what a call did that only looks: its answer, and the world as it was
+abbrev pub looked : Said → World → Did
+looked a w = record { said = a; room = 0; world = w }
+
+-- showing returned this part
 abbrev pub handed : List ℕ → World → Did
-handed xs w = record { said = part xs; room = 0; world = w }
+handed xs w = looked (part xs) w
 
 -- ---- refusals
 
@@ -129,22 +151,27 @@ ofReadingRule n = (eqb n 10 || eqb n 16) || eqb n 17
 unfoldable pub heldLine : State → ℕ → Bool
 heldLine s n = ltb 0 (s .rx .len) && ofReadingRule n
 
+-- what goes out next on the line
+abbrev pub nextIn : World → Out
+nextIn w = nextOut (w .state) (w .tx)
+
 -- the table after that, in the order of its numbers: a register write has 5 to 8, which look at the registers alone, and 10, which looks at
--- the receive store; a loop frame has 3 and 4
-unfoldable pub checksOn : OnState → State → List Check
-checksOn (write n v) s = writeChecks (s .regs) n v ++ (check 10 (heldLine s n) ∷ [])
-checksOn (loopFrame f) s = check 3 (ltb 2047 f) ∷ check 4 (busy s f) ∷ []
-checksOn reset s = []
-checksOn (lineByte b) s = []
-checksOn lineBreak s = []
-checksOn key s = []
-checksOn nextLineByte s = []
+-- the receive store; a loop frame has 3 and 4; Ask, then take, 12: nothing is next, or the byte named is not
+unfoldable pub checksOn : OnState → World → List Check
+checksOn (write n v) w = writeChecks (w .state .regs) n v ++ (check 10 (heldLine (w .state) n) ∷ [])
+checksOn (loopFrame f) w = check 3 (ltb 2047 f) ∷ check 4 (busy (w .state) f) ∷ []
+checksOn (takeLineByte b) w = check 12 (not (isNext (nextIn w) b)) ∷ []
+checksOn reset w = []
+checksOn (lineByte b) w = []
+checksOn lineBreak w = []
+checksOn key w = []
+checksOn askLineByte w = []
 
 -- Sizes and refusals, the table: create has 1, showing has no number
 unfoldable pub checks : Call → World → List Check
 checks (create m) w = check 1 (not (sizesObeyed m (length (w .rx)) (length (w .tx)))) ∷ []
 checks (show side) w = []
-checks (on c) w = misfit w ∷ checksOn c (w .state)
+checks (on c) w = misfit w ∷ checksOn c w
 
 -- ---- what a call that is not refused does
 
@@ -165,7 +192,8 @@ outcome (write n v) w = doneWith (afterWrite (w .state) n (written (w .state .re
 outcome (lineByte b) w = doneWith (lineState (w .state) b)
 outcome lineBreak w = doneWith (breakState (w .state))
 outcome key w = doneWith (keyState (w .state))
-outcome nextLineByte w = record { state = afterGiving (w .state) (nextOut (w .state) (w .tx)); answer = outAnswer (nextOut (w .state) (w .tx)) }
+outcome askLineByte w = record { state = w .state; answer = outAnswer (nextIn w) }
+outcome (takeLineByte b) w = doneWith (gone (w .state) (nextIn w))
 outcome (loopFrame f) w = frameTaken (w .state) (w .rx) f
 
 -- Status byte, requests: one begins in any call on a state, and a device clear leaves none
@@ -179,7 +207,8 @@ rxAfter lineBreak w = breakCells (w .state) (w .rx)
 rxAfter reset w = w .rx
 rxAfter (write n v) w = w .rx
 rxAfter key w = w .rx
-rxAfter nextLineByte w = w .rx
+rxAfter askLineByte w = w .rx
+rxAfter (takeLineByte b) w = w .rx
 rxAfter (loopFrame f) w = w .rx
 
 unfoldable pub txAfter : OnState → World → List ℕ
@@ -194,7 +223,8 @@ roomOf reset s = 0
 roomOf (write n v) s = 0
 roomOf lineBreak s = 0
 roomOf key s = 0
-roomOf nextLineByte s = 0
+roomOf askLineByte s = 0
+roomOf (takeLineByte b) s = 0
 
 -- a store and what is recorded of it
 abbrev pub storeOf : Store → World → List ℕ

@@ -1,9 +1,11 @@
 // The bridge: a software HP-IL/RS-232 interface. The state goes in by value and comes back; both stores are lent at every call, the
 // receive store as cells, each a byte and the mark of a break that follows it.
 ghost use mathlib.Core.Path.{_≡_};
+ghost use Rattle.answers.specs.Answers.{said};
 ghost use Rattle.state.specs.Conditions.{settledOutcome};
-ghost use Rattle.bridge.specs.Calls.{Promised, unmade, world, did, told, handed, doneWith, refusedWith, toldNone, heldLine};
-ghost use Rattle.bridge.specs.Calls.{on, create, reset, write, lineByte, lineBreak, key, nextLineByte, loopFrame, show, receive, transmit};
+ghost use Rattle.bridge.specs.Calls.{Promised, unmade, world, did, told, looked, handed, doneWith, refusedWith, toldNone, heldLine};
+ghost use Rattle.bridge.specs.Calls.{on, create, reset, write, lineByte, lineBreak, key, askLineByte, takeLineByte, loopFrame};
+ghost use Rattle.bridge.specs.Calls.{show, receive, transmit};
 use answers::Answer;
 use state::Outcome;
 use state::State;
@@ -136,23 +138,30 @@ pub fn take_key(s: State, rx: &[u16], tx: &[u8]) -> Outcome
     done(s, t)
 }
 
-// Gives the next line byte.
-pub fn next_line_byte(s: State, rx: &[u16], tx: &[u8]) -> Outcome
-    ensures { λ r. ⌜ Promised (on nextLineByte) (world s (now (rx .entry)) (now (tx .entry))) (did r (now (rx .entry)) (now (tx .entry))) ⌝ }
+// Says which line byte is next, or none; nothing changes.
+pub fn ask_line_byte(s: State, rx: &[u16], tx: &[u8]) -> Answer
+    ensures { λ r. ⌜ Promised (on askLineByte) (world s (now (rx .entry)) (now (tx .entry))) (looked (said r) (world s (now (rx .entry)) (now (tx .entry)))) ⌝ }
+{
+    if !state::fitting::state_fits(s, rx.len(), tx.len()) {
+        return Answer::Refused(2);
+    }
+    let o = line::next_out(s, tx);
+    line::out_answer(o)
+}
+
+// Marks the line byte of this name as gone, if it is the next one.
+pub fn take_line_byte(s: State, rx: &[u16], tx: &[u8], b: u8) -> Outcome
+    ensures { λ r. ⌜ Promised (on (takeLineByte b)) (world s (now (rx .entry)) (now (tx .entry))) (did r (now (rx .entry)) (now (tx .entry))) ⌝ }
 {
     if !state::fitting::state_fits(s, rx.len(), tx.len()) {
         return refused(s, 2);
     }
     let o = line::next_out(s, tx);
-    let a = line::out_answer(o);
-    let t = line::after_giving(s, tx, o);
-    state::requests::settle(
-        s,
-        Outcome {
-            state: t,
-            answer: a,
-        },
-    )
+    if !line::is_next(o, b) {
+        return refused(s, 12);
+    }
+    let t = line::gone(s, tx, o);
+    done(s, t)
 }
 
 // Takes a frame from the loop, gives exactly one, and tells the room of the transmit store, whatever the frame is.

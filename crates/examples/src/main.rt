@@ -61,6 +61,13 @@ fn answered(o: Outcome) -> State {
     o.state
 }
 
+// The state as it is, after a call that only looks.
+fn asked(s: State, a: Answer) -> State {
+    text(b": ");
+    answer(a);
+    s
+}
+
 fn is_digit(b: u8) -> bool {
     (48 <= b) & (b <= 57)
 }
@@ -121,7 +128,7 @@ fn line_end(script: &[u8], from: usize) -> usize
     at
 }
 
-// The state after the call of a line, by the first letter of the line: c, r, l, b, n, f, a, s; any other line is a title.
+// The state after the call of a line, by the first letter of the line: c, r, l, b, n, t, f, a, s; any other line is a title.
 fn called(s: State, rx: &mut [u16], tx: &mut [u8], line: &[u8], first: u8) -> State {
     let a = number_in(line, 0);
     let b = number_in(line, 1);
@@ -130,7 +137,8 @@ fn called(s: State, rx: &mut [u16], tx: &mut [u8], line: &[u8], first: u8) -> St
         114 => answered(bridge::write_register(s, rx, tx, a, b)),
         108 => answered(bridge::line_byte(s, rx, tx, (a % 256) as u8).outcome),
         98 => answered(bridge::take_break(s, rx, tx)),
-        110 => answered(bridge::next_line_byte(s, rx, tx)),
+        110 => asked(s, bridge::ask_line_byte(s, rx, tx)),
+        116 => answered(bridge::take_line_byte(s, rx, tx, (a % 256) as u8)),
         102 => answered(bridge::loop_frame(s, rx, tx, a * 256 + b).outcome),
         97 => answered(bridge::loop_frame(s, rx, tx, a).outcome),
         _ => s,
@@ -172,7 +180,7 @@ fn played(s: State, rx: &mut [u16], tx: &mut [u8], line: &[u8], first: u8) -> St
 
 // The lines of a script from a place up to an empty line or its end, on these stores; gives the place behind.
 fn play(script: &[u8], from: usize, rx: &mut [u16], tx: &mut [u8]) -> usize
-    requires { ⌜ (from ≤ length (now script)) × (length (now script) ≤ 4096) ⌝ }
+    requires { ⌜ (from ≤ length (now script)) × (length (now script) ≤ 8192) ⌝ }
     ensures { λ r. ⌜ r ≤ length (now (script .entry)) ⌝ }
 {
     let mut s = state::fitting::start(1, 4, 3);
@@ -193,7 +201,7 @@ fn play(script: &[u8], from: usize, rx: &mut [u16], tx: &mut [u8]) -> usize
 }
 
 fn main() {
-    let mut input = io::buffer();
+    let mut input = [0u8; 8192];
     let n = io::read_full(0, &mut input);
     let mut seven = [0u16; 7];
     let mut eight = [0u16; 8];

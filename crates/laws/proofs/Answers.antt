@@ -16,7 +16,7 @@ use Rattle.line.specs.HoldingOff.{nextOut, outAnswer}
 use Rattle.loopside.specs.Sends.{ended, sendState, sendFrom, sendStatus}
 use Rattle.loopside.specs.Frames.{frameTaken}
 use Rattle.bridge.specs.Calls.{Call, create, show, on, reset, write, lineByte, lineBreak}
-use Rattle.bridge.specs.Calls.{key, nextLineByte, loopFrame, World, outcome, checks, notRefused, step}
+use Rattle.bridge.specs.Calls.{key, askLineByte, takeLineByte, loopFrame, World, outcome, checks, notRefused, step}
 use Rattle.laws.specs.Bridges.{bridge}
 use Rattle.laws.specs.Observers.{isFrame}
 use Rattle.answers.specs.Refusing.{Refuses}
@@ -95,7 +95,8 @@ accepted (on (write n v)) w = record { answer = refl; taken = refl }
 accepted (on (lineByte b)) w = record { answer = refl; taken = refl }
 accepted (on lineBreak) w = record { answer = refl; taken = refl }
 accepted (on key) w = record { answer = refl; taken = refl }
-accepted (on nextLineByte) w =
+accepted (on (takeLineByte b)) w = record { answer = refl; taken = refl }
+accepted (on askLineByte) w =
     let o = nextOut (w .state) (w .tx) in
     record { answer = out-said o; taken = out-taken o }
 accepted (on (loopFrame f)) w =
@@ -112,7 +113,8 @@ can-refuse (on (write k v)) w h n = refl
 can-refuse (on (lineByte b)) w h n = refl
 can-refuse (on lineBreak) w h n = refl
 can-refuse (on key) w h n = refl
-can-refuse (on nextLineByte) w h n = refl
+can-refuse (on askLineByte) w h n = refl
+can-refuse (on (takeLineByte b)) w h n = refl
 can-refuse (on (loopFrame f)) w h n = refl
 
 pub answers-so : Obeys (bridge step) AnswersSo

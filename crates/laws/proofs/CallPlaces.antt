@@ -27,11 +27,11 @@ use Rattle.state.proofs.Fits.{tests, rx-fits, tx-fits}
 use Rattle.reading.specs.Received.{markedCell}
 use Rattle.line.specs.Breaks.{breakCells}
 use Rattle.line.proofs.Breaks.{break-marks, break-nothing}
-use Rattle.line.specs.HoldingOff.{isGoOrStop, flowed, lostState, storedWith, storedState, lineState, lineBytes, setAfresh, afterWrite, nextOut, afterGiving}
+use Rattle.line.specs.HoldingOff.{isGoOrStop, flowed, lostState, storedWith, storedState, lineState, lineBytes, setAfresh, afterWrite, nextOut, gone}
 use Rattle.line.proofs.Parts.{given-some}
 use Rattle.loopside.specs.LoopToLine.{adds, busy, addedBytes}
 use Rattle.loopside.specs.Frames.{frameTaken, deviceClear, addsBytes, frameBytes}
-use Rattle.bridge.specs.Calls.{Store, receive, transmit, reset, write, lineByte, lineBreak, key, nextLineByte, loopFrame, Call, create, show, on}
+use Rattle.bridge.specs.Calls.{Store, receive, transmit, reset, write, lineByte, lineBreak, key, askLineByte, takeLineByte, loopFrame, Call, create, show, on}
 use Rattle.bridge.specs.Calls.{World, world, Did, outcome, settledBy, rxAfter, txAfter, notRefused, checks, step, refusal}
 use Rattle.answers.specs.Answers.{said}
 use Rattle.laws.specs.Fitting.{Fits}
@@ -107,17 +107,17 @@ module _ (w : World) (e : Fits w) where
 
   -- ---- a byte to the line
 
-  given-rx : (o : Out) → afterGiving (w .state) o .rx ≡ w .state .rx
-  unfolding afterGiving
-  given-rx (out.Own b) = refl
-  given-rx (out.Held b) = refl
-  given-rx out.Nothing = refl
+  gone-rx : (o : Out) → gone (w .state) o .rx ≡ w .state .rx
+  unfolding gone
+  gone-rx (out.Own b) = refl
+  gone-rx (out.Held b) = refl
+  gone-rx out.Nothing = refl
 
-  given-tx : (o : Out) → o ≡ nextOut (w .state) (w .tx) → nextPlace (length (w .tx)) (afterGiving (w .state) o .tx) ≡ nextPlace (length (w .tx)) (w .state .tx)
-  unfolding afterGiving
-  given-tx (out.Own b) h = refl
-  given-tx (out.Held b) h = places-go-on .removed (w .tx) (w .state .tx) 1 (g .ring) (given-some (w .state) (w .tx) b h)
-  given-tx out.Nothing h = refl
+  gone-tx : (o : Out) → o ≡ nextOut (w .state) (w .tx) → nextPlace (length (w .tx)) (gone (w .state) o .tx) ≡ nextPlace (length (w .tx)) (w .state .tx)
+  unfolding gone
+  gone-tx (out.Own b) h = refl
+  gone-tx (out.Held b) h = places-go-on .removed (w .tx) (w .state .tx) 1 (g .ring) (given-some (w .state) (w .tx) b h)
+  gone-tx out.Nothing h = refl
 
   -- ---- a frame
 
@@ -177,7 +177,8 @@ refused-places (on (write k v)) w n = same w
 refused-places (on (lineByte b)) w n = same w
 refused-places (on lineBreak) w n = same w
 refused-places (on key) w n = same w
-refused-places (on nextLineByte) w n = same w
+refused-places (on askLineByte) w n = same w
+refused-places (on (takeLineByte b)) w n = same w
 refused-places (on (loopFrame f)) w n = same w
 
 -- a listener is no active talker
@@ -210,10 +211,11 @@ done-places (on (lineByte b)) w h =
 done-places (on lineBreak) w h =
     record { rx = break-rx w (fitting lineBreak w h .0); tx = placed-same markedCell (w .tx) (w .state .tx) _ refl }
 done-places (on key) w h = none w (quiet w _ refl refl)
-done-places (on nextLineByte) w h =
-    let e : Fits w = fitting nextLineByte w h .0 in
+done-places (on askLineByte) w h = none w (quiet w _ refl refl)
+done-places (on (takeLineByte b)) w h =
+    let e : Fits w = fitting (takeLineByte b) w h .0 in
     let o : Out = nextOut (w .state) (w .tx) in
-    none w (record { rx = placed-same markedCell (w .rx) (w .state .rx) _ (given-rx w e o); tx = placed-still markedCell (w .tx) (w .state .tx) _ (given-tx w e o refl) })
+    none w (record { rx = placed-same markedCell (w .rx) (w .state .rx) _ (gone-rx w e o); tx = placed-still markedCell (w .tx) (w .state .tx) _ (gone-tx w e o refl) })
 done-places (on (loopFrame n)) w h =
     let x = frame-fitting n w h in
     let t : State = frameTaken (w .state) (w .rx) n .state in

@@ -33,12 +33,12 @@ use Rattle.state.proofs.Fits.{Tests, tests, rx-fits, tx-fits}
 use Rattle.cells.proofs.Newest.{replaced-size}
 use Rattle.line.specs.Breaks.{breakCells}
 use Rattle.line.specs.HoldingOff.{isGoOrStop, flowed, storedWith, storedState, lostState, lineState}
-use Rattle.line.specs.HoldingOff.{lineBytes, resumed, setAfresh, afterWrite, nextOut, afterGiving}
+use Rattle.line.specs.HoldingOff.{lineBytes, resumed, setAfresh, afterWrite, nextOut, gone}
 use Rattle.line.proofs.Parts.{given-some}
 use Rattle.loopside.specs.LoopToLine.{adds, addedState, addedBytes}
 use Rattle.loopside.specs.Sends.{ruleOf, ended, removedState, sendState, sendFrom, sendStatus}
 use Rattle.loopside.specs.Frames.{orderIn, frameTaken, deviceClear, addsBytes, frameBytes}
-use Rattle.bridge.specs.Calls.{OnState, reset, write, lineByte, lineBreak, key, nextLineByte, loopFrame, Call, create, show, on}
+use Rattle.bridge.specs.Calls.{OnState, reset, write, lineByte, lineBreak, key, askLineByte, takeLineByte, loopFrame, Call, create, show, on}
 use Rattle.bridge.specs.Calls.{ofFrame, World, Did, outcome, settledBy, rxAfter, txAfter, notRefused, checks, step}
 use Rattle.laws.specs.Bridges.{bridge}
 use Rattle.laws.specs.Fitting.{Fits, SameStores, KeepsFit, CreateMakesFit, KeepsStores}
@@ -72,7 +72,8 @@ rx-size reset w = refl
 rx-size (write n v) w = refl
 rx-size lineBreak w = break-size (w .state) (w .rx)
 rx-size key w = refl
-rx-size nextLineByte w = refl
+rx-size askLineByte w = refl
+rx-size (takeLineByte b) w = refl
 rx-size (loopFrame f) w = refl
 
 tx-size : (c : OnState) (w : World) → length (txAfter c w) ≡ length (w .tx)
@@ -83,7 +84,8 @@ tx-size (write n v) w = refl
 tx-size (lineByte b) w = refl
 tx-size lineBreak w = refl
 tx-size key w = refl
-tx-size nextLineByte w = refl
+tx-size askLineByte w = refl
+tx-size (takeLineByte b) w = refl
 
 -- ---- the state that each part leaves
 
@@ -147,13 +149,13 @@ module _ (rx tx : List ℕ) where
         changed : G (withRegisters s (written (s .regs) n v))
         changed = good _ (with-registers s (length rx) (length tx) t (written (s .regs) n v) (fit-written (s .regs) n v (t .regs) h))
 
-    giving-good : (o : Out) → o ≡ nextOut s tx → G (afterGiving s o)
-    unfolding afterGiving
-    giving-good (out.Own x) h = unfold fits in e
-    giving-good (out.Held x) h =
+    gone-good : (o : Out) → o ≡ nextOut s tx → G (gone s o)
+    unfolding gone
+    gone-good (out.Own x) h = unfold fits in e
+    gone-good (out.Held x) h =
         fits-with-tx (store-ring.dropRing (s .tx) 1)
         (store-laws.drop-fit tx (s .tx) 1 (tx-fits s rx tx e .ring) (given-some s tx x h))
-    giving-good out.Nothing h = e
+    gone-good out.Nothing h = e
 
     left-good : (f : ℕ) → G (addedState s f)
     unfolding addedState
@@ -223,7 +225,8 @@ module _ (w : World) (e : Fits w) where
   outcome-good (lineByte x) h = line-good (w .rx) (w .tx) (w .state) e x
   outcome-good lineBreak h = unfold fits breakState in e
   outcome-good key h = unfold fits keyState in e
-  outcome-good nextLineByte h = giving-good (w .rx) (w .tx) (w .state) e (nextOut (w .state) (w .tx)) refl
+  outcome-good askLineByte h = e
+  outcome-good (takeLineByte b) h = gone-good (w .rx) (w .tx) (w .state) e (nextOut (w .state) (w .tx)) refl
   outcome-good (loopFrame f) h = way-good (w .rx) (w .tx) (w .state) e f (frameTaken (w .state) (w .rx) f) (way (w .state) (w .rx) f)
 
   -- requests are settled or not, and the stores keep their lengths

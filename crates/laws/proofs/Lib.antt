@@ -16,3 +16,4 @@ pub mod Rooms
 pub mod Examples
 pub mod ByRules
 pub mod OneRule
+pub mod AsksLeftOut

@@ -10,7 +10,7 @@ use Rattle.machine.proofs.Course.{neither, first-not}
 use Rattle.registers.specs.Bits.{bit}
 use Rattle.reading.specs.declared.Rule.{Rule}
 use Rattle.answers.specs.Answers.{Said}
-use Rattle.bridge.specs.Calls.{reset, write, lineByte, lineBreak, key, nextLineByte, loopFrame, Call, create, show, on, World, Did}
+use Rattle.bridge.specs.Calls.{reset, write, lineByte, lineBreak, key, askLineByte, takeLineByte, loopFrame, Call, create, show, on, World, Did}
 use Rattle.laws.specs.Bridges.{bridge}
 use Rattle.laws.specs.ByRules.{ruled, allRuled, wall, byRules}
 use Rattle.laws.specs.Observers.{taken, onWrite, restarts, writes, clears, changes, empties, bytesAndBreaks, sent}
@@ -47,7 +47,8 @@ unwritten left same (on (write n v)) a e = (λ i. cond (e i) (left n v) same)
 unwritten left same (on (lineByte b)) a e = refl
 unwritten left same (on lineBreak) a e = refl
 unwritten left same (on key) a e = refl
-unwritten left same (on nextLineByte) a e = refl
+unwritten left same (on askLineByte) a e = refl
+unwritten left same (on (takeLineByte b)) a e = refl
 unwritten left same (on (loopFrame f)) a e = refl
 
 -- the rule by the values of the registers: R10, C00 and C01 are those at 3, 5 and 6

@@ -4,12 +4,14 @@ use native.Mathlib.Omega.{arith}
 use mathlib.Core.Path.{_≡_, refl}
 use mathlib.Core.Bool.{Bool, true, false, cond, not, false≢true}
 use lib.Dec.{eqb, ltb}
-use borrow.Author.Tests.{eqb-true, eqb-false}
+use borrow.Author.Tests.{eqb-true, eqb-false, not-false}
 use Rattle.answers.specs.Refusals.{firstRefusal}
 use Rattle.branches.proofs.Branches.{by-cond}
 use Rattle.registers.specs.Writing.{writeChecks}
+use Rattle.line.specs.HoldingOff.{isNext}
 use Rattle.loopside.specs.LoopToLine.{busy}
-use Rattle.bridge.specs.Calls.{heldLine, OnState, write, loopFrame, Call, on, World, Did, checksOn, checks, notRefused, refusedOr, step, refusal}
+use Rattle.bridge.specs.Calls.{heldLine, nextIn, OnState, write, takeLineByte, loopFrame, Call, on, World, Did}
+use Rattle.bridge.specs.Calls.{checksOn, checks, notRefused, refusedOr, step, refusal}
 use Rattle.bridge.proofs.Checks.{write-passed}
 use Rattle.laws.specs.Observers.{taken}
 use Rattle.laws.specs.Fitting.{Fits}
@@ -27,7 +29,7 @@ no-check true k n h e = absurd (h e)
 no-check false k n h e = (refl, e)
 
 -- the state fits, and no check after that is given
-pub fitting : (c : OnState) (w : World) → firstRefusal (checks (on c) w) ≡ 0 → Fits w × (firstRefusal (checksOn c (w .state)) ≡ 0)
+pub fitting : (c : OnState) (w : World) → firstRefusal (checks (on c) w) ≡ 0 → Fits w × (firstRefusal (checksOn c w) ≡ 0)
 unfolding checks
 fitting c w e = go _ _ e
   where
@@ -37,7 +39,7 @@ fitting c w e = go _ _ e
 
 pub write-fitting : (n v : ℕ) (w : World) → firstRefusal (checks (on (write n v)) w) ≡ 0 →
     Fits w × ((firstRefusal (writeChecks (w .state .regs) n v) ≡ 0) × (heldLine (w .state) n ≡ false))
-write-fitting n v w e = let x = fitting (write n v) w e in (x .0, write-passed (w .state) n v (x .1))
+write-fitting n v w e = let x = fitting (write n v) w e in (x .0, write-passed w n v (x .1))
 
 pub frame-fitting : (f : ℕ) (w : World) → firstRefusal (checks (on (loopFrame f)) w) ≡ 0 → Fits w × ((ltb 2047 f ≡ false) × (busy (w .state) f ≡ false))
 unfolding checksOn
@@ -45,6 +47,12 @@ frame-fitting f w e =
     let x = fitting (loopFrame f) w e in
     let y = no-check (ltb 2047 f) 3 _ (λ h. omega arith) (x .1) in
     (x .0, (y .0, no-check (busy (w .state) f) 4 0 (λ h. omega arith) (y .1) .0))
+
+pub take-fitting : (b : ℕ) (w : World) → firstRefusal (checks (on (takeLineByte b)) w) ≡ 0 → Fits w × (isNext (nextIn w) b ≡ true)
+unfolding checksOn
+take-fitting b w e =
+    let x = fitting (takeLineByte b) w e in
+    (x .0, not-false (isNext (nextIn w) b) (no-check (not (isNext (nextIn w) b)) 12 0 (λ h. omega arith) (x .1) .0))
 
 -- a call on a state that is not refused has one that fits
 pub taken-fits : (c : OnState) (w : World) → taken (step (on c) w .said) ≡ true → Fits w

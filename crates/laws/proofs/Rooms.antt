@@ -10,7 +10,7 @@ use Rattle.store.specs.declared.Ring.{Ring}
 use Rattle.store.specs.Ring.{Fit, held, room}
 use Rattle.store.proofs.Promises.{held-length}
 use Rattle.state.proofs.Fits.{rx-fits, tx-fits}
-use Rattle.bridge.specs.Calls.{OnState, reset, write, lineByte, lineBreak, key, nextLineByte, loopFrame, Call, create, show, on}
+use Rattle.bridge.specs.Calls.{OnState, reset, write, lineByte, lineBreak, key, askLineByte, takeLineByte, loopFrame, Call, create, show, on}
 use Rattle.bridge.specs.Calls.{World, Did, checks, notRefused, roomOf, step}
 use Rattle.laws.specs.Bridges.{telling}
 use Rattle.laws.specs.Fitting.{Fits}
@@ -33,7 +33,8 @@ room-there reset v e = refl
 room-there (write n x) v e = refl
 room-there lineBreak v e = refl
 room-there key v e = refl
-room-there nextLineByte v e = refl
+room-there askLineByte v e = refl
+room-there (takeLineByte b) v e = refl
 
 -- of a call that is not refused
 module _ (w : World) where

@@ -12,7 +12,7 @@ use Rattle.answers.specs.Answers.{said, refused}
 use Rattle.state.specs.Sizes.{sizesObeyed, startState, fits}
 use Rattle.state.specs.Conditions.{conditions, enabledBy, asking, settled}
 use Rattle.state.proofs.Fits.{tests}
-use Rattle.bridge.specs.Calls.{reset, write, lineByte, lineBreak, key, nextLineByte, loopFrame, Call, create, show, on}
+use Rattle.bridge.specs.Calls.{reset, write, lineByte, lineBreak, key, askLineByte, takeLineByte, loopFrame, Call, create, show, on}
 use Rattle.bridge.specs.Calls.{is, World, world, Did, outcome, settledBy, rxAfter, txAfter, notRefused, step}
 use Rattle.laws.specs.Bridges.{bridge}
 use Rattle.laws.specs.Observers.{taken, restarts}
@@ -37,7 +37,8 @@ begun (on (write n v)) w e = absurd (false≢true e)
 begun (on (lineByte b)) w e = absurd (false≢true e)
 begun (on lineBreak) w e = absurd (false≢true e)
 begun (on key) w e = absurd (false≢true e)
-begun (on nextLineByte) w e = absurd (false≢true e)
+begun (on askLineByte) w e = absurd (false≢true e)
+begun (on (takeLineByte b)) w e = absurd (false≢true e)
 begun (on (loopFrame f)) w e = absurd (false≢true e)
 
 -- a refused call is none of these

@@ -4,7 +4,7 @@ use Rattle.machine.specs.Course.{Seen}
 use Rattle.machine.specs.Machine as machine
 use Rattle.machine.specs.Machine.{narrowed}
 use Rattle.answers.specs.Answers.{Said, Answered}
-use Rattle.bridge.specs.Calls.{OnState, reset, write, lineByte, lineBreak, key, nextLineByte, loopFrame, Call, create, show, on, World, Did}
+use Rattle.bridge.specs.Calls.{OnState, reset, write, lineByte, lineBreak, key, askLineByte, takeLineByte, loopFrame, Call, create, show, on, World, Did}
 
 -- what takes the calls and shows worlds and answers, and a law of it
 abbrev pub Machine : Type 1
@@ -24,14 +24,15 @@ TellingLaw = machine.Law World Call Answered
 abbrev pub Saw : Type 0
 Saw = Seen World Call Said
 
--- a byte from the line is a byte
+-- a byte from the line is a byte, and so is one that is named to be taken
 abbrev pub ByteOn : OnState → Type 0
 ByteOn (lineByte b) = b < 256
+ByteOn (takeLineByte b) = b < 256
 ByteOn reset = Unit {0}
 ByteOn (write n v) = Unit {0}
 ByteOn lineBreak = Unit {0}
 ByteOn key = Unit {0}
-ByteOn nextLineByte = Unit {0}
+ByteOn askLineByte = Unit {0}
 ByteOn (loopFrame f) = Unit {0}
 
 abbrev pub ByteCall : Call → Type 0
@@ -39,7 +40,7 @@ ByteCall (create m) = Unit {0}
 ByteCall (show side) = Unit {0}
 ByteCall (on c) = ByteOn c
 
--- a bridge is what every call does in every world; the types of the code give a byte from the line, and of the stores no law asks any
+-- a bridge is what every call does in every world; the types of the code give the bytes, and of the stores no law asks any
 abbrev pub telling : (Call → World → Did) → TellingMachine
 telling B =
     record {

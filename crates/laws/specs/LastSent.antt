@@ -1,26 +1,21 @@
--- Holding the line off, last: the last of go and stop that we sent, by the line bytes handed out, over a run, register writes included.
-use Prim.Native.Nat.{ℕ}
+-- Holding the line off, last: the last of go and stop that we sent, by the line bytes taken, over a run, register writes included.
 use mathlib.Core.Path.{_≡_}
-use mathlib.Core.Bool.{Bool, true, false, cond}
+use mathlib.Core.Bool.{Bool, true, false, cond, _&&_}
 use mathlib.Core.List.{List, [], _∷_}
 use lib.Dec.{eqb}
 use Rattle.machine.specs.Course.{of, end, Without}
 use Rattle.machine.specs.Machine.{ofRuns, ofSince, ofBetween}
 use Rattle.answers.specs.Answers.{Said, byte}
-use Rattle.bridge.specs.Calls.{nextLineByte, Call, on, World}
+use Rattle.bridge.specs.Calls.{askLineByte, Call, on, World}
 use Rattle.laws.specs.Bridges.{Law, Saw}
-use Rattle.laws.specs.Observers.{taken, lineByteOf, onOne, owes, ownCharacter, startsAnew}
+use Rattle.laws.specs.Observers.{taken, onTake, owes, ownCharacter, startsAnew}
 
 -- ---- here k is whether the last of go and stop we sent was stop
 
--- after our own character, by the registers that it was sent by
-abbrev pub afterOwn : Bool → World → List ℕ → Bool
-afterOwn k w [] = k
-afterOwn k w (b ∷ bs) = eqb b (w .state .regs .c05)
-
--- after a call: where one is owed by what was handed out, and not by what the bridge recorded, the line byte answered is our own
+-- after a call: where one is owed by what was taken, and not by what the bridge recorded, the line byte taken is our own, by the registers that
+-- it was sent by; an ask sends nothing, nor does a refused take
 unfoldable pub lastOf : Bool → Call → World → Said → Bool
-lastOf k c w a = onOne nextLineByte (cond (owes k w) (afterOwn k w (lineByteOf a)) k) k c
+lastOf k c w a = onTake (λ b. cond (taken a && owes k w) (eqb b (w .state .regs .c05)) k) k c
 
 -- after a run
 unfoldable pub lastSent : Bool → List Saw → Bool
@@ -44,8 +39,8 @@ LastSince = ofSince (λ s ss. of startsAnew s ≡ true → Without startsAnew ss
 -- ---- our own character
 
 -- Holding the line off, last: where the last of go and stop that we sent is not what holds, the next line byte is the one that is
-abbrev pub OwnGiven : Law
-OwnGiven =
+abbrev pub OwnNext : Law
+OwnNext =
     ofBetween
-    (λ s ss t. of startsAnew s ≡ true → Without startsAnew ss → t .call ≡ on nextLineByte → taken (t .answer) ≡ true →
+    (λ s ss t. of startsAnew s ≡ true → Without startsAnew ss → t .call ≡ on askLineByte → taken (t .answer) ≡ true →
     owes (lastSent false ss) (t .before) ≡ true → t .answer ≡ byte (ownCharacter (t .before)))

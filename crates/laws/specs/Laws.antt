@@ -13,7 +13,7 @@ use Rattle.laws.specs.StatusTold.{StatusTold, TellsUntilBack}
 use Rattle.laws.specs.Cleared.{Clears, NotInvented, NotAtStart}
 use Rattle.laws.specs.Demands.{RefusedStays, OneFrameOut, ElevenBits, FramesRead, NothingWaits, UnheldBreaks, NoneLost}
 use Rattle.laws.specs.LineBytes.{LineKept, LineSince}
-use Rattle.laws.specs.LastSent.{LastKept, LastSince, OwnGiven}
+use Rattle.laws.specs.LastSent.{LastKept, LastSince, OwnNext}
 use Rattle.laws.specs.Counting.{CountsGo, CountsSince}
 use Rattle.laws.specs.Service.{ServiceBit}
 use Rattle.laws.specs.SendRule.{SendRule, NoneRemoved, FramesSince}
@@ -24,7 +24,8 @@ use Rattle.laws.specs.Registers.{RegistersGo}
 use Rattle.laws.specs.HeldLine.{RuleStays, RefusedWhileHeld}
 use Rattle.laws.specs.Requests.{RequestsGo}
 use Rattle.laws.specs.Holding.{HoldingGoes}
-use Rattle.laws.specs.NextByte.{ForbiddenGoes, NextGiven}
+use Rattle.laws.specs.NextByte.{ForbiddenGoes, NextAsked, TakesNext}
+use Rattle.laws.specs.AskThenTake.{AskLooks, AsksAlike, TakesAsAsked, AskThenTake}
 use Rattle.laws.specs.Resuming.{EmptySendResumes}
 use Rattle.laws.specs.Rooms.{RoomTold, RoomHolds, RoomTakes}
 
@@ -39,7 +40,8 @@ laws =
     ∷ Clears broken ∷ Clears overrun ∷ Clears pressed
     ∷ NotInvented broken ∷ NotInvented overrun ∷ NotInvented pressed
     ∷ NotAtStart broken ∷ NotAtStart overrun ∷ NotAtStart pressed
-    ∷ LineKept ∷ LineSince ∷ LastKept ∷ LastSince ∷ OwnGiven ∷ NextGiven ∷ ForbiddenGoes ∷ HoldingGoes
+    ∷ LineKept ∷ LineSince ∷ LastKept ∷ LastSince ∷ OwnNext ∷ NextAsked ∷ TakesNext ∷ ForbiddenGoes ∷ HoldingGoes
+    ∷ AskLooks ∷ AsksAlike ∷ TakesAsAsked ∷ AskThenTake
     ∷ CountsGo ∷ CountsSince ∷ ServiceBit ∷ RequestsGo ∷ RemoteGoes
     ∷ []
 

@@ -33,6 +33,8 @@ pub mod LastSent
 pub mod Counting
 pub mod Holding
 pub mod NextByte
+pub mod AskThenTake
+pub mod AsksLeftOut
 pub mod Resuming
 pub mod Rooms
 pub mod Laws

@@ -1,4 +1,4 @@
--- What permits and forbids our sending to the line, over every call, and the next line byte.
+-- What permits and forbids our sending to the line, over every call, and the next line byte: what is asked for and what is taken.
 use Prim.Native.Nat.{ℕ}
 use lib.Dec.{eqb}
 use mathlib.Core.Path.{_≡_}
@@ -6,9 +6,10 @@ use mathlib.Core.Bool.{Bool, true, false, cond, _&&_}
 use mathlib.Core.List.{List, [], _∷_}
 use Rattle.machine.specs.Course.{of}
 use Rattle.machine.specs.Machine.{ofCalls}
-use Rattle.answers.specs.Answers.{Said, none, byte}
-use Rattle.bridge.specs.Calls.{nextLineByte, Call, on, World}
-use Rattle.laws.specs.Bridges.{Law}
+use Rattle.answers.specs.Answers.{Said, done, none, byte, refused}
+use Rattle.bridge.specs.Calls.{askLineByte, takeLineByte, Call, on, World}
+use Rattle.laws.specs.Bridges.{Law, Saw}
+use Rattle.laws.specs.Fitting.{Fits}
 use Rattle.laws.specs.Observers.{taken, onLineByte, isFlow, owes, ownCharacter, empties}
 use Rattle.laws.specs.Worlds.{heldForLine, forbidden}
 use Rattle.laws.specs.Holding.{writesR11}
@@ -36,14 +37,31 @@ oldestOf [] = none
 oldestOf (b ∷ bs) = byte b
 
 -- the next line byte
-unfoldable pub nextGiven : World → Said
-nextGiven w =
+unfoldable pub nextByte : World → Said
+nextByte w =
     -- Holding the line off, last: our own character where one is owed, before all else
     cond (owes (w .state .line .stopped) w) (byte (ownCharacter w))
     -- none while the other end forbids our sending
     (cond (forbidden w) none
     (oldestOf (heldForLine w)))
 
--- in every world in which it is not refused
-abbrev pub NextGiven : Law
-NextGiven = ofCalls (λ s. s .call ≡ on nextLineByte → taken (s .answer) ≡ true → s .answer ≡ nextGiven (s .before))
+-- an ask answers it, in every world in which it is not refused
+abbrev pub NextAsked : Law
+NextAsked = ofCalls (λ s. s .call ≡ on askLineByte → taken (s .answer) ≡ true → s .answer ≡ nextByte (s .before))
+
+-- ---- what is taken
+
+-- a take that names the byte b
+pub record TakenRight (s : Saw) (b : ℕ) : Type 0 where
+  -- the next line byte is taken, where the state fits
+  pub next : Fits (s .before) → nextByte (s .before) ≡ byte b → s .answer ≡ done
+  -- any other is refused with 12, also where there is none
+  pub other : Fits (s .before) → (nextByte (s .before) ≡ byte b → ⊥) → s .answer ≡ refused 12
+  -- and changes nothing, in any world
+  pub stays : (nextByte (s .before) ≡ byte b → ⊥) → s .after ≡ s .before
+  -- 12 is answered where the state fits, so after 2
+  pub after-two : s .answer ≡ refused 12 → Fits (s .before)
+
+-- of every take, in every world
+abbrev pub TakesNext : Law
+TakesNext = ofCalls (λ s. (b : ℕ) → s .call ≡ on (takeLineByte b) → TakenRight s b)

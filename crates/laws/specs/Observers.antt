@@ -13,7 +13,7 @@ use Rattle.state.specs.declared.State.{State}
 use Rattle.answers.specs.Answers.{Said, done, none, byte, frame, refused, part, cell, lines, isRefusal}
 use Rattle.loopside.specs.Frames.{deviceClear}
 use Rattle.laws.specs.Worlds.{holdsSome}
-use Rattle.bridge.specs.Calls.{OnState, reset, lineBreak, nextLineByte, Call, create, show, on, onState, ofFrame, ofLineByte, ofWrite, is, World}
+use Rattle.bridge.specs.Calls.{OnState, reset, lineBreak, Call, create, show, on, onState, ofFrame, ofLineByte, ofTake, ofWrite, is, World}
 
 -- ---- answers
 
@@ -43,7 +43,7 @@ dataFrame (part l) = []
 dataFrame (cell n) = []
 dataFrame (lines n) = []
 
--- the line byte answered
+-- the line byte answered, the one that is next
 abbrev pub lineByteOf : Said → List ℕ
 lineByteOf (byte b) = b ∷ []
 lineByteOf (refused n) = []
@@ -66,6 +66,9 @@ onFrame see nothing = onState (ofFrame see nothing) nothing
 
 abbrev pub onLineByte : {X : Type 0} → (ℕ → X) → X → Call → X
 onLineByte see nothing = onState (ofLineByte see nothing) nothing
+
+abbrev pub onTake : {X : Type 0} → (ℕ → X) → X → Call → X
+onTake see nothing = onState (ofTake see nothing) nothing
 
 abbrev pub onWrite : {X : Type 0} → (ℕ → ℕ → X) → X → Call → X
 onWrite see nothing = onState (ofWrite see nothing) nothing
@@ -161,14 +164,13 @@ ownCharacter w = cond (w .state .line .holding) (w .state .regs .c05) (w .state 
 abbrev pub owes : Bool → World → Bool
 owes k w = (w .state .line .holding && not k) || (k && not (w .state .line .holding))
 
--- without our own character, the one that is owed
-abbrev pub others : ℕ → List ℕ → List ℕ
-others x [] = []
-others x (b ∷ bs) = cond (eqb b x) bs (b ∷ bs)
+-- a line byte is our own go or stop: one is owed, and it is that character
+abbrev pub isOwn : World → ℕ → Bool
+isOwn w b = owes (w .state .line .stopped) w && eqb b (ownCharacter w)
 
--- the line byte handed out, our own go and stop aside: where one is owed it is that character, and any other byte is handed out
+-- Ask, then take: the line byte handed out is the one taken, our own go and stop aside; an ask hands nothing out, nor does a refused take
 unfoldable pub handedOut : Call → World → Said → List ℕ
-handedOut c w a = onOne nextLineByte (cond (owes (w .state .line .stopped) w) (others (ownCharacter w) (lineByteOf a)) (lineByteOf a)) [] c
+handedOut c w a = onTake (λ b. cond (taken a) (cond (isOwn w b) [] (b ∷ [])) []) [] c
 
 -- ---- calls that begin anew: a refused one is none
 

@@ -20,7 +20,7 @@ use Rattle.state.specs.declared.Out.the-variants.{Own, Held, Nothing}
 use Rattle.answers.specs.declared.Answer.the-variants as answer
 use Rattle.state.specs.State.{withRegisters, withLine, withRx, withTx, withNotes, withCounts}
 use Rattle.state.specs.Counts.{counted}
-use Rattle.line.specs.HoldingOff.{isGoOrStop, flowed, storedWith, lostState, lineState, lineBytes, Taken, resumed, setAfresh, afterWrite, owed, nextOut, afterGiving, outAnswer}
+use Rattle.line.specs.HoldingOff.{isGoOrStop, flowed, storedWith, lostState, lineState, lineBytes, Taken, resumed, setAfresh, afterWrite, owed, nextOut, isNext, gone, outAnswer}
 
 -- ---- a line byte
 
@@ -134,19 +134,19 @@ module _ (s : State) (tx : List ℕ) where
       go false true h e = let z : _≡_ {A = ℕ} 0 1 = cc in absurd (omega arith)
       go false false h e = some-held h
 
--- ---- a line byte given
+-- ---- a line byte that is gone
 
 module _ (s : State) (o : Out) where
-  pub given-own : (b : ℕ) → o ≡ Own b → withLine s (record { holding = s .line .holding; forbidden = s .line .forbidden; stopped = s .line .holding }) ≡ afterGiving s o
-  unfolding afterGiving
+  pub given-own : (b : ℕ) → o ≡ Own b → withLine s (record { holding = s .line .holding; forbidden = s .line .forbidden; stopped = s .line .holding }) ≡ gone s o
+  unfolding gone
   given-own b e = rw e
 
-  pub given-held : (b : ℕ) (r : Ring) → o ≡ Held b → Dropped (s .tx) 1 r → withTx s r ≡ afterGiving s o
-  unfolding afterGiving
+  pub given-held : (b : ℕ) (r : Ring) → o ≡ Held b → Dropped (s .tx) 1 r → withTx s r ≡ gone s o
+  unfolding gone
   given-held b r e d = rw e (ap (withTx s) (d .ring))
 
-  pub given-none : o ≡ Nothing → s ≡ afterGiving s o
-  unfolding afterGiving
+  pub given-none : o ≡ Nothing → s ≡ gone s o
+  unfolding gone
   given-none e = rw e
 
 -- ---- the smaller parts
@@ -187,3 +187,15 @@ module _ (o : Out) where
   pub none-met : o ≡ Nothing → answer.Nothing ≡ outAnswer o
   unfolding outAnswer
   none-met e = rw e
+
+  pub own-named : (x b : ℕ) → o ≡ Own x → eqb x b ≡ isNext o b
+  unfolding isNext
+  own-named x b e = rw e
+
+  pub held-named : (x b : ℕ) → o ≡ Held x → eqb x b ≡ isNext o b
+  unfolding isNext
+  held-named x b e = rw e
+
+  pub none-named : (b : ℕ) → o ≡ Nothing → false ≡ isNext o b
+  unfolding isNext
+  none-named b e = rw e

@@ -88,11 +88,17 @@ nextOut s tx =
     (cond (s .line .forbidden || eqb (s .tx .len) 0) Nothing
     (Held (getD (held tx (s .tx)) 0 0)))
 
--- the state when that byte has been given
-unfoldable pub afterGiving : State → Out → State
-afterGiving s (Own b) = withLine s (record { holding = s .line .holding; forbidden = s .line .forbidden; stopped = s .line .holding })
-afterGiving s (Held b) = withTx s (dropRing (s .tx) 1)
-afterGiving s Nothing = s
+-- Ask, then take: the byte named is the one that is next
+unfoldable pub isNext : Out → ℕ → Bool
+isNext (Own x) b = eqb x b
+isNext (Held x) b = eqb x b
+isNext Nothing b = false
+
+-- the state when that byte is gone
+unfoldable pub gone : State → Out → State
+gone s (Own b) = withLine s (record { holding = s .line .holding; forbidden = s .line .forbidden; stopped = s .line .holding })
+gone s (Held b) = withTx s (dropRing (s .tx) 1)
+gone s Nothing = s
 
 -- the answer for that byte
 unfoldable pub outAnswer : Out → Answer

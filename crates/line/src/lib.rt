@@ -3,7 +3,7 @@ ghost use mathlib.Core.Path.{_≡_};
 ghost use Prim.Native.Nat.{_≤_};
 ghost use Rattle.store.specs.Ring.{Within, room};
 ghost use Rattle.state.specs.Sizes.{RxFits, TxFits};
-ghost use Rattle.line.specs.HoldingOff.{isGoOrStop, flowed, storedWith, lostState, Taken, resumed, afterWrite, nextOut, afterGiving, outAnswer};
+ghost use Rattle.line.specs.HoldingOff.{isGoOrStop, flowed, storedWith, lostState, Taken, resumed, afterWrite, nextOut, isNext, gone, outAnswer};
 ghost use Rattle.line.specs.Breaks.{Marked};
 use answers::Answer;
 use registers::Registers;
@@ -163,11 +163,22 @@ pub fn out_answer(o: Out) -> Answer
     }
 }
 
-// The state when that byte has been given.
-pub fn after_giving(s: State, tx: &[u8], o: Out) -> State
+// Whether this byte is the next one.
+pub fn is_next(o: Out, b: u8) -> bool
+    ensures { λ r. ⌜ r ≡ isNext o b ⌝ }
+{
+    match o {
+        Out::Own(x) => x == b,
+        Out::Held(x) => x == b,
+        Out::Nothing => false,
+    }
+}
+
+// The state when that byte is gone.
+pub fn gone(s: State, tx: &[u8], o: Out) -> State
     requires { ⌜ TxFits s (now tx) ⌝ }
     requires { ⌜ o ≡ nextOut s (now tx) ⌝ }
-    ensures { λ r. ⌜ r ≡ afterGiving s o ⌝ }
+    ensures { λ r. ⌜ r ≡ gone s o ⌝ }
 {
     let mut t = s;
     match o {

@@ -24,7 +24,7 @@ use Rattle.state.specs.Counts.{counted}
 use Rattle.state.specs.Sizes.{sizesObeyed, startState, fits}
 use Rattle.state.specs.Conditions.{settled, afterStatusBack, afterStatus, breakState, keyState}
 use Rattle.line.specs.Breaks.{breakCells}
-use Rattle.line.specs.HoldingOff.{isGoOrStop, flowed, storedWith, lostState, lineState, lineBytes, resumed, setAfresh, afterWrite, nextOut, afterGiving}
+use Rattle.line.specs.HoldingOff.{isGoOrStop, flowed, storedWith, lostState, lineState, lineBytes, resumed, setAfresh, afterWrite, nextOut, gone}
 use Rattle.loopside.specs.LoopToLine.{adds, addedState, addedBytes}
 use Rattle.loopside.specs.Sends.{ended, ruleOf, removedState, sendState, sendFrom, sendStatus}
 use Rattle.loopside.specs.Frames.{cleared, obeyed, deviceClear, addsBytes, frameBytes}
@@ -36,7 +36,7 @@ use Rattle.cells.specs.Cells.{Cells}
 use Rattle.cells.specs.Newest.{replacedCells}
 use Rattle.boundary.proofs.Stored.{set-below, put-below}
 use Rattle.block.proofs.Laws.{counts-ranged, fits-ranged, obeyed-ranged}
-use Rattle.bridge.specs.Calls.{OnState, Call, on, create, reset, write, lineByte, lineBreak, key, nextLineByte, loopFrame}
+use Rattle.bridge.specs.Calls.{OnState, Call, on, create, reset, write, lineByte, lineBreak, key, askLineByte, takeLineByte, loopFrame}
 use Rattle.bridge.specs.Calls.{show, World, Did, checks, outcome, settledBy, rxAfter, txAfter, roomOf, notRefused, refusedOr, step}
 use Rattle.laws.proofs.Refusing.{by-refusal}
 use Rattle.laws.proofs.Ways.{Way, isNext, isBack, isLast, isDamaged, isStored, isPassed, isCleared}
@@ -74,11 +74,11 @@ line-counts s b k =
     (λ e. record { stored = k .stored; lost = counted-ranged (s .counts .lost); sent = k .sent })
     (λ e. record { stored = counted-ranged (s .counts .stored); lost = k .lost; sent = k .sent }))
 
-giving-counts : (s : State) (o : Out) → Counted s → Counted (afterGiving s o)
-unfolding afterGiving
-giving-counts s (out.Own b) k = k
-giving-counts s (out.Held b) k = k
-giving-counts s out.Nothing k = k
+gone-counts : (s : State) (o : Out) → Counted s → Counted (gone s o)
+unfolding gone
+gone-counts s (out.Own b) k = k
+gone-counts s (out.Held b) k = k
+gone-counts s out.Nothing k = k
 
 removed-counts : (s : State) (rx : List ℕ) → Counted s → Counted (removedState s rx)
 unfolding removedState resumed
@@ -118,7 +118,8 @@ accepted-counts (on (write n v)) w k = settled-counts (w .state) _ (write-counts
 accepted-counts (on (lineByte b)) w k = settled-counts (w .state) _ (line-counts (w .state) b k)
 accepted-counts (on lineBreak) w k = settled-counts (w .state) (breakState (w .state)) k
 accepted-counts (on key) w k = settled-counts (w .state) (keyState (w .state)) k
-accepted-counts (on nextLineByte) w k = settled-counts (w .state) _ (giving-counts (w .state) (nextOut (w .state) (w .tx)) k)
+accepted-counts (on askLineByte) w k = settled-counts (w .state) _ k
+accepted-counts (on (takeLineByte b)) w k = settled-counts (w .state) _ (gone-counts (w .state) (nextOut (w .state) (w .tx)) k)
 accepted-counts (on (loopFrame f)) w k =
     by-cond Counted (deviceClear (w .state) f) _ _
     (λ e. frame-counts (w .state) (w .rx) f _ (way (w .state) (w .rx) f) k)
@@ -151,7 +152,8 @@ accepted-rx (create m) w h k = k
 accepted-rx (on reset) w h k = k
 accepted-rx (on (write n v)) w h k = k
 accepted-rx (on key) w h k = k
-accepted-rx (on nextLineByte) w h k = k
+accepted-rx (on askLineByte) w h k = k
+accepted-rx (on (takeLineByte b)) w h k = k
 accepted-rx (on (loopFrame f)) w h k = k
 accepted-rx (show side) w h k = k
 
@@ -178,7 +180,8 @@ accepted-tx (on (write n v)) w h k = k
 accepted-tx (on (lineByte b)) w h k = k
 accepted-tx (on lineBreak) w h k = k
 accepted-tx (on key) w h k = k
-accepted-tx (on nextLineByte) w h k = k
+accepted-tx (on askLineByte) w h k = k
+accepted-tx (on (takeLineByte b)) w h k = k
 accepted-tx (show side) w h k = k
 
 pub tx-kept : (c : Call) (w : World) → Ranged (w .state) → Bytes (w .tx) → Bytes (step c w .world .tx)
@@ -229,7 +232,8 @@ room-ranged reset s h = omega arith
 room-ranged (write n v) s h = omega arith
 room-ranged lineBreak s h = omega arith
 room-ranged key s h = omega arith
-room-ranged nextLineByte s h = omega arith
+room-ranged askLineByte s h = omega arith
+room-ranged (takeLineByte b) s h = omega arith
 
 pub room-small : (c : OnState) (w : World) → Ranged (w .state) → step (on c) w .room < 65536
 unfolding notRefused

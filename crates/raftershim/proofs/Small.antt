@@ -20,7 +20,7 @@ use Rattle.line.specs.HoldingOff.{owed, nextOut, outAnswer}
 use Rattle.loopside.specs.Frames.{frameTaken}
 use Rattle.block.specs.States.{Ranged}
 use Rattle.store.specs.Bytes.{Bytes}
-use Rattle.bridge.specs.Calls.{OnState, reset, write, lineByte, lineBreak, key, nextLineByte, loopFrame, Call, create}
+use Rattle.bridge.specs.Calls.{OnState, reset, write, lineByte, lineBreak, key, askLineByte, takeLineByte, loopFrame, Call, create}
 use Rattle.bridge.specs.Calls.{show, on, World, Did, checksOn, checks, outcome, notRefused, step}
 use Rattle.laws.proofs.Refusing.{by-refusal, fitting, frame-fitting}
 use Rattle.laws.proofs.Ways.{way}
@@ -80,21 +80,22 @@ next-small s tx r fit b =
 -- ---- every call
 
 -- a refusal is one of the table's numbers
-small-on : (c : OnState) (s : State) → words.SmallNumbers (checksOn c s)
+small-on : (c : OnState) (w : World) → words.SmallNumbers (checksOn c w)
 unfolding checksOn writeChecks
-small-on reset s = tt
-small-on (write n v) s = (omega arith, (omega arith, (omega arith, (omega arith, (omega arith, tt)))))
-small-on (lineByte b) s = tt
-small-on lineBreak s = tt
-small-on key s = tt
-small-on nextLineByte s = tt
-small-on (loopFrame f) s = (omega arith, (omega arith, tt))
+small-on reset w = tt
+small-on (write n v) w = (omega arith, (omega arith, (omega arith, (omega arith, (omega arith, tt)))))
+small-on (lineByte b) w = tt
+small-on lineBreak w = tt
+small-on key w = tt
+small-on askLineByte w = tt
+small-on (takeLineByte b) w = (omega arith, tt)
+small-on (loopFrame f) w = (omega arith, (omega arith, tt))
 
 small-numbers : (c : Call) (w : World) → words.SmallNumbers (checks c w)
 unfolding checks
 small-numbers (create m) w = (omega arith, tt)
 small-numbers (show side) w = tt
-small-numbers (on c) w = (omega arith, small-on c (w .state))
+small-numbers (on c) w = (omega arith, small-on c w)
 
 -- a call that has a number tells its answer, where what it answers if it is not refused is small
 pub told-or : (c : Call) (w : World) → (firstRefusal (checks c w) ≡ 0 → Tells (notRefused c w .said)) → Tells (step c w .said)
@@ -117,7 +118,8 @@ on-told c w r k e = small-tells (outcome c w .answer) (small c e)
     small (lineByte x) e = tt
     small lineBreak e = tt
     small key e = tt
-    small nextLineByte e = next-small (w .state) (w .tx) r (tx-fits (w .state) (w .rx) (w .tx) (fitting nextLineByte w e .0) .ring) k
+    small askLineByte e = next-small (w .state) (w .tx) r (tx-fits (w .state) (w .rx) (w .tx) (fitting askLineByte w e .0) .ring) k
+    small (takeLineByte b) e = tt
     small (loopFrame f) e =
         let x = frame-fitting f w e in
         frame-told (frameTaken (w .state) (w .rx) f .answer)

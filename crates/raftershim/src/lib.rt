@@ -5,7 +5,8 @@ ghost use mathlib.Core.Bool.{false};
 ghost use lib.ListN.{length};
 ghost use Rattle.answers.specs.Answers.{said, isRefusal};
 ghost use Rattle.block.specs.Packed.{blockLen};
-ghost use Rattle.bridge.specs.Calls.{create, show, receive, transmit, on, reset, write, lineByte, lineBreak, key, nextLineByte, loopFrame};
+ghost use Rattle.bridge.specs.Calls.{create, show, receive, transmit, on, reset, write, lineByte, lineBreak, key};
+ghost use Rattle.bridge.specs.Calls.{askLineByte, takeLineByte, loopFrame};
 ghost use Rattle.answers.specs.Word.{wordWith};
 ghost use Rattle.raftershim.specs.CCalls.{lent, cDid, blockAfter, CPromised};
 use answers::Answer;
@@ -115,15 +116,32 @@ pub extern "C" fn raftershim_key(block: &mut [u8], rx: &[u16], tx: &[u8]) -> u64
     finished(block, o, 0)
 }
 
-// Gives the next line byte.
+// Says which line byte is next, or none; nothing is written.
 #[no_mangle]
-pub extern "C" fn raftershim_next_line_byte(block: &mut [u8], rx: &[u16], tx: &[u8]) -> u64
-    ensures { λ r. ⌜ CPromised (on nextLineByte)
+pub extern "C" fn raftershim_ask_line_byte(block: &[u8], rx: &[u16], tx: &[u8]) -> u64
+    ensures { λ r. ⌜ CPromised (on askLineByte)
+        (lent (now (block .entry)) (now (rx .entry)) (now (tx .entry)))
+        (cDid r (now (block .entry)) (now (rx .entry)) (now (tx .entry))) ⌝ }
+{
+    let s = block::meaning(block);
+    let a = bridge::ask_line_byte(s, rx, tx);
+    answers::word_of(a)
+}
+
+// Marks the line byte of this name as gone, if it is the next one.
+#[no_mangle]
+pub extern "C" fn raftershim_take_line_byte(
+    block: &mut [u8],
+    rx: &[u16],
+    tx: &[u8],
+    byte: u8,
+) -> u64
+    ensures { λ r. ⌜ CPromised (on (takeLineByte byte))
         (lent (now (block .entry)) (now (rx .entry)) (now (tx .entry)))
         (cDid r (now (block .exit)) (now (rx .entry)) (now (tx .entry))) ⌝ }
 {
     let s = block::meaning(block);
-    let o = bridge::next_line_byte(s, rx, tx);
+    let o = bridge::take_line_byte(s, rx, tx, byte);
     finished(block, o, 0)
 }
 

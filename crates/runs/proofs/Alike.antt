@@ -1,7 +1,7 @@
 -- What is seen alike, whichever way a test goes and of whatever kind a call is. Assumes nothing.
 use mathlib.Core.Path.{_≡_, refl}
 use mathlib.Core.Bool.{Bool, true, false, cond}
-use Rattle.bridge.specs.Calls.{reset, write, lineByte, lineBreak, key, nextLineByte, loopFrame, Call, create, show, on}
+use Rattle.bridge.specs.Calls.{reset, write, lineByte, lineBreak, key, askLineByte, takeLineByte, loopFrame, Call, create, show, on}
 use Rattle.laws.specs.Observers.{onFrame, onWrite}
 
 -- a test that changes nothing
@@ -18,5 +18,6 @@ same-kind x (on (write n v)) = (refl, refl)
 same-kind x (on (lineByte b)) = (refl, refl)
 same-kind x (on lineBreak) = (refl, refl)
 same-kind x (on key) = (refl, refl)
-same-kind x (on nextLineByte) = (refl, refl)
+same-kind x (on askLineByte) = (refl, refl)
+same-kind x (on (takeLineByte b)) = (refl, refl)
 same-kind x (on (loopFrame f)) = (refl, refl)

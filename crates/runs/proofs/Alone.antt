@@ -9,7 +9,7 @@ use Rattle.status.specs.declared.Events.{Events}
 use Rattle.answers.specs.Answers.{refused}
 use Rattle.state.specs.State.{withNotes}
 use Rattle.state.specs.Conditions.{settled, breakState, keyState}
-use Rattle.bridge.specs.Calls.{OnState, reset, write, lineByte, lineBreak, key, nextLineByte, loopFrame, Call, create, show}
+use Rattle.bridge.specs.Calls.{OnState, reset, write, lineByte, lineBreak, key, askLineByte, takeLineByte, loopFrame, Call, create, show}
 use Rattle.bridge.specs.Calls.{on, is, World, world, Did, checks, outcome, settledBy, rxAfter, txAfter, notRefused, step}
 use Rattle.laws.specs.Bridges.{Saw}
 use Rattle.laws.specs.Observers.{taken, onOne}
@@ -64,7 +64,8 @@ notes w F lineBreak = (
 )
 notes w F key =
     (λ h. absurd (false≢true h), λ _. record { rest = refl; seen = set-pressed (w .state .notes .seen); again = set-pressed (w .state .notes .again) })
-notes w F nextLineByte = neither
+notes w F askLineByte = neither
+notes w F (takeLineByte b) = neither
 notes w F (loopFrame f) = neither
 
 -- ---- both laws

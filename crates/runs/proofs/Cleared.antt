@@ -26,13 +26,13 @@ use Rattle.answers.specs.Answers.{Said, said, done, refused}
 use Rattle.state.specs.Sizes.{startState}
 use Rattle.state.specs.Conditions.{settled, breakState, keyState, statusOf}
 use Rattle.state.specs.Conditions as status
-use Rattle.line.specs.HoldingOff.{isGoOrStop, flowed, lostState, storedWith, storedState, lineState, setAfresh, afterWrite, nextOut, afterGiving}
+use Rattle.line.specs.HoldingOff.{isGoOrStop, flowed, lostState, storedWith, storedState, lineState, setAfresh, afterWrite, nextOut, gone}
 use Rattle.loopside.specs.LoopToLine.{addedState}
 use Rattle.talker.specs.UnderWay.{talking}
 use Rattle.talker.specs.Returning.{returnOf}
 use Rattle.loopside.specs.Sends.{sendStatus, ended}
 use Rattle.loopside.specs.Frames.{cleared, judged, returned, frameTaken, deviceClear}
-use Rattle.bridge.specs.Calls.{Call, on, create, reset, write, lineByte, lineBreak, key, nextLineByte}
+use Rattle.bridge.specs.Calls.{Call, on, create, reset, write, lineByte, lineBreak, key, askLineByte, takeLineByte}
 use Rattle.bridge.specs.Calls.{loopFrame, show, World, Did, checks, outcome, settledBy, refusedOr, step}
 use Rattle.bridge.specs.Calls as calls
 use Rattle.laws.specs.Observers.{taken, isFrame, dataFrame, equalReturn, isSend, asksStatus, statusSent, restarts, clears, arrived, lost, empties, any, isFlow}
@@ -170,11 +170,15 @@ module _ (e : Event) (w : World) (f : ℕ) where
 unmoved : (e : Event) (s : State) → On e s s
 unmoved e s = record { talker = refl; frame = refl; seen = refl; again = refl }
 
-given-noted : (e : Event) (w : World) (a : Said) (o : Out) → Noted e (on nextLineByte) w a (settled (w .state) (afterGiving (w .state) o))
-unfolding afterGiving settled restarts clears
-given-noted e w a (out.Own b) = kept e (on nextLineByte) w a _ refl (record { talker = refl; frame = refl; seen = refl; again = refl })
-given-noted e w a (out.Held b) = kept e (on nextLineByte) w a _ refl (record { talker = refl; frame = refl; seen = refl; again = refl })
-given-noted e w a out.Nothing = kept e (on nextLineByte) w a _ refl (record { talker = refl; frame = refl; seen = refl; again = refl })
+asked-noted : (e : Event) (w : World) (a : Said) → Noted e (on askLineByte) w a (settled (w .state) (w .state))
+unfolding settled restarts clears
+asked-noted e w a = kept e (on askLineByte) w a _ refl (record { talker = refl; frame = refl; seen = refl; again = refl })
+
+gone-noted : (e : Event) (b : ℕ) (w : World) (a : Said) (o : Out) → Noted e (on (takeLineByte b)) w a (settled (w .state) (gone (w .state) o))
+unfolding gone settled restarts clears
+gone-noted e b w a (out.Own x) = kept e (on (takeLineByte b)) w a _ refl (record { talker = refl; frame = refl; seen = refl; again = refl })
+gone-noted e b w a (out.Held x) = kept e (on (takeLineByte b)) w a _ refl (record { talker = refl; frame = refl; seen = refl; again = refl })
+gone-noted e b w a out.Nothing = kept e (on (takeLineByte b)) w a _ refl (record { talker = refl; frame = refl; seen = refl; again = refl })
 
 line-noted : (e : Event) (w : World) (b : ℕ) (t u : Bool) → isGoOrStop (w .state .regs) b ≡ t → full (w .state .rx) ≡ u →
     Noted e (on (lineByte b)) w done (settled (w .state) (cond t (flowed (w .state) b) (cond u (lostState (w .state)) (storedState (w .state)))))
@@ -200,7 +204,8 @@ refused-noted e (on (write k v)) w n = kept e (on (write k v)) w (refused n) _ r
 refused-noted e (on (lineByte b)) w n = kept e (on (lineByte b)) w (refused n) _ refl (unmoved e (w .state))
 refused-noted e (on lineBreak) w n = kept e (on lineBreak) w (refused n) _ refl (unmoved e (w .state))
 refused-noted e (on key) w n = kept e (on key) w (refused n) _ refl (unmoved e (w .state))
-refused-noted e (on nextLineByte) w n = kept e (on nextLineByte) w (refused n) _ refl (unmoved e (w .state))
+refused-noted e (on askLineByte) w n = kept e (on askLineByte) w (refused n) _ refl (unmoved e (w .state))
+refused-noted e (on (takeLineByte b)) w n = kept e (on (takeLineByte b)) w (refused n) _ refl (unmoved e (w .state))
 refused-noted e (on (loopFrame f)) w n = kept e (on (loopFrame f)) w (refused n) _ refl (unmoved e (w .state))
 refused-noted e (show side) w n = kept e (show side) w (refused n) _ refl (unmoved e (w .state))
 
@@ -233,7 +238,8 @@ notes overrun (on key) w =
     (λ _. settled-noted overrun (on key) w done false _
     (kept overrun (on key) w done _ refl (record { talker = refl; frame = refl; seen = refl; again = refl })))
 notes pressed (on key) w = noted-or pressed (on key) w _ _ (λ _. happened pressed (on key) w done _ refl refl)
-notes e (on nextLineByte) w = noted-or e (on nextLineByte) w _ _ (λ _. given-noted e w _ (nextOut (w .state) (w .tx)))
+notes e (on askLineByte) w = noted-or e (on askLineByte) w _ _ (λ _. asked-noted e w _)
+notes e (on (takeLineByte b)) w = noted-or e (on (takeLineByte b)) w _ _ (λ _. gone-noted e b w _ (nextOut (w .state) (w .tx)))
 notes e (on (loopFrame f)) w =
     noted-or e (on (loopFrame f)) w _ _
     (λ x. settled-noted e (on (loopFrame f)) w _ (deviceClear (w .state) f) _

@@ -24,7 +24,7 @@ use Rattle.state.specs.Conditions.{shows, serviced, statusOf}
 use Rattle.line.specs.HoldingOff.{nextOut, outAnswer}
 use Rattle.loopside.specs.Sends.{ruleOf, ended, removedState, sendState, sendFrom, sendStatus}
 use Rattle.loopside.specs.Frames.{frameTaken}
-use Rattle.bridge.specs.Calls.{reset, write, lineByte, lineBreak, key, nextLineByte, loopFrame, Call}
+use Rattle.bridge.specs.Calls.{reset, write, lineByte, lineBreak, key, askLineByte, takeLineByte, loopFrame, Call}
 use Rattle.bridge.specs.Calls.{create, show, on, World, Did, checks, outcome, notRefused}
 use Rattle.laws.specs.Demands.{isEleven, ElevenBits}
 use Rattle.laws.proofs.Small.{given-small}
@@ -108,7 +108,8 @@ done-small (on (write n v)) w e = refl
 done-small (on (lineByte x)) w e = refl
 done-small (on lineBreak) w e = refl
 done-small (on key) w e = refl
-done-small (on nextLineByte) w e = out-told (nextOut (w .state) (w .tx))
+done-small (on askLineByte) w e = out-told (nextOut (w .state) (w .tx))
+done-small (on (takeLineByte b)) w e = refl
 done-small (on (loopFrame f)) w e =
     let x = frame-fitting f w e in
     by-frame (frameTaken (w .state) (w .rx) f .answer)

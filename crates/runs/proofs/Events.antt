@@ -12,7 +12,7 @@ use Rattle.state.specs.declared.State.{State}
 use Rattle.answers.specs.Answers.{Said, said, refused}
 use Rattle.state.specs.Conditions.{settled, breakState, keyState}
 use Rattle.line.specs.HoldingOff.{isGoOrStop, flowed, lostState, storedState, lineState}
-use Rattle.bridge.specs.Calls.{Call, on, create, reset, write, lineByte, lineBreak, key, nextLineByte}
+use Rattle.bridge.specs.Calls.{Call, on, create, reset, write, lineByte, lineBreak, key, askLineByte, takeLineByte}
 use Rattle.bridge.specs.Calls.{loopFrame, show, World, Did, outcome, settledBy, refusedOr, step, refusal}
 use Rattle.bridge.specs.Calls as calls
 use Rattle.laws.specs.Observers.{isFlow, arrived, lost, empties, any}
@@ -94,7 +94,8 @@ happened broken (on (write n v)) w h = absurd (false≢true h)
 happened broken (on (lineByte b)) w h = absurd (false≢true h)
 happened broken (on lineBreak) w h = unless-refused broken (on lineBreak) w _ _ false≢true (λ _. (refl, refl)) h
 happened broken (on key) w h = absurd (false≢true h)
-happened broken (on nextLineByte) w h = absurd (false≢true h)
+happened broken (on askLineByte) w h = absurd (false≢true h)
+happened broken (on (takeLineByte b)) w h = absurd (false≢true h)
 happened broken (on (loopFrame f)) w h = absurd (false≢true h)
 happened broken (show side) w h = absurd (false≢true h)
 happened overrun (create m) w h = absurd (none-lost (full (w .state .rx)) h)
@@ -106,7 +107,8 @@ happened overrun (on (lineByte b)) w h =
     h
 happened overrun (on lineBreak) w h = absurd (none-lost (full (w .state .rx)) h)
 happened overrun (on key) w h = absurd (none-lost (full (w .state .rx)) h)
-happened overrun (on nextLineByte) w h = absurd (none-lost (full (w .state .rx)) h)
+happened overrun (on askLineByte) w h = absurd (none-lost (full (w .state .rx)) h)
+happened overrun (on (takeLineByte b)) w h = absurd (none-lost (full (w .state .rx)) h)
 happened overrun (on (loopFrame f)) w h = absurd (none-lost (full (w .state .rx)) h)
 happened overrun (show side) w h = absurd (none-lost (full (w .state .rx)) h)
 happened pressed (create m) w h = absurd (false≢true h)
@@ -115,7 +117,8 @@ happened pressed (on (write n v)) w h = absurd (false≢true h)
 happened pressed (on (lineByte b)) w h = absurd (false≢true h)
 happened pressed (on lineBreak) w h = absurd (false≢true h)
 happened pressed (on key) w h = unless-refused pressed (on key) w _ _ false≢true (λ _. (refl, refl)) h
-happened pressed (on nextLineByte) w h = absurd (false≢true h)
+happened pressed (on askLineByte) w h = absurd (false≢true h)
+happened pressed (on (takeLineByte b)) w h = absurd (false≢true h)
 happened pressed (on (loopFrame f)) w h = absurd (false≢true h)
 happened pressed (show side) w h = absurd (false≢true h)
 

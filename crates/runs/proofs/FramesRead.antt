@@ -33,7 +33,7 @@ use Rattle.line.specs.HoldingOff.{storedWith}
 use Rattle.line.proofs.Breaks.{break-nothing}
 use Rattle.loopside.specs.Sends.{ruleOf}
 use Rattle.answers.specs.Answers.{Said}
-use Rattle.bridge.specs.Calls.{lineByte, reset, write, lineBreak, key, nextLineByte, loopFrame, Call, create, show, on, World}
+use Rattle.bridge.specs.Calls.{lineByte, reset, write, lineBreak, key, askLineByte, takeLineByte, loopFrame, Call, create, show, on, World}
 use Rattle.laws.specs.Bridges.{ByteCall}
 use Rattle.laws.specs.ByRules.{Ruled, ruled, allRuled, readWith, wall}
 use Rattle.laws.specs.Observers.{taken, isFlow, arrived, accepted, breaks, marks, bytesAndBreaks, bytesAndMarks, sent, restarts, empties}
@@ -78,7 +78,8 @@ accepted-bytes (on reset) w a h = none-bytes (full (w .state .rx))
 accepted-bytes (on (write n v)) w a h = none-bytes (full (w .state .rx))
 accepted-bytes (on lineBreak) w a h = none-bytes (full (w .state .rx))
 accepted-bytes (on key) w a h = none-bytes (full (w .state .rx))
-accepted-bytes (on nextLineByte) w a h = none-bytes (full (w .state .rx))
+accepted-bytes (on askLineByte) w a h = none-bytes (full (w .state .rx))
+accepted-bytes (on (takeLineByte b)) w a h = none-bytes (full (w .state .rx))
 accepted-bytes (on (loopFrame f)) w a h = none-bytes (full (w .state .rx))
 
 module _ (w : World) where

@@ -22,12 +22,12 @@ use Rattle.state.specs.Sizes.{startState}
 use Rattle.state.specs.Conditions.{settled, breakState, keyState}
 use Rattle.state.specs.Conditions as state-status
 use Rattle.line.specs.HoldingOff.{isGoOrStop, flowed, lostState, storedWith, storedState, lineState}
-use Rattle.line.specs.HoldingOff.{lineBytes, resumed, setAfresh, afterWrite, nextOut, afterGiving, outAnswer}
+use Rattle.line.specs.HoldingOff.{lineBytes, resumed, setAfresh, afterWrite, nextOut, gone, outAnswer}
 use Rattle.loopside.specs.LoopToLine.{addedState}
 use Rattle.talker.specs.UnderWay.{talking}
 use Rattle.loopside.specs.Sends.{ruleOf, removedState, sendState, sendFrom, sendStatus, ended}
 use Rattle.loopside.specs.Frames.{cleared, frameTaken, deviceClear}
-use Rattle.bridge.specs.Calls.{Call, on, create, reset, write, lineByte, lineBreak, key, nextLineByte, loopFrame}
+use Rattle.bridge.specs.Calls.{Call, on, create, reset, write, lineByte, lineBreak, key, askLineByte, takeLineByte, loopFrame}
 use Rattle.bridge.specs.Calls.{show, World, Did, outcome, settledBy, rxAfter, txAfter, roomOf, refusedOr, step, refusal}
 use Rattle.bridge.specs.Calls as calls
 use Rattle.laws.specs.Observers.{taken, isSend, arrived, accepted, restarts, clears, empties, any, isFlow}
@@ -73,7 +73,8 @@ refused-unseen (on (write k v)) w n = record { empties = refl; arrived = refl; s
 refused-unseen (on (lineByte b)) w n = record { empties = refl; arrived = refl; sends = refl; writes = refl; byte = refl }
 refused-unseen (on lineBreak) w n = record { empties = refl; arrived = refl; sends = refl; writes = refl; byte = refl }
 refused-unseen (on key) w n = record { empties = refl; arrived = refl; sends = refl; writes = refl; byte = refl }
-refused-unseen (on nextLineByte) w n = record { empties = refl; arrived = refl; sends = refl; writes = refl; byte = refl }
+refused-unseen (on askLineByte) w n = record { empties = refl; arrived = refl; sends = refl; writes = refl; byte = refl }
+refused-unseen (on (takeLineByte b)) w n = record { empties = refl; arrived = refl; sends = refl; writes = refl; byte = refl }
 refused-unseen (on (loopFrame f)) w n = record { empties = refl; arrived = refl; sends = refl; writes = refl; byte = refl }
 refused-unseen (show side) w n = record { empties = refl; arrived = refl; sends = refl; writes = refl; byte = refl }
 
@@ -81,13 +82,13 @@ goes-or : (c : Call) (w : World) (n : ℕ) (d : Did) → (n ≡ 0 → Goes c w d
 goes-or c w n d = or-refused (Goes c w) n d w (same c w (refusal n w) (refused-unseen c w n) refl refl)
 
 -- a byte to the line
-given-goes : (w : World) (o : Out) →
-    Goes (on nextLineByte) w
-    (record { said = said (outAnswer o); room = 0; world = record { state = settled (w .state) (afterGiving (w .state) o); rx = w .rx; tx = w .tx } })
-unfolding afterGiving outAnswer said settled arrived restarts clears sends afterByte
-given-goes w (out.Own b) = same (on nextLineByte) w _ (record { empties = refl; arrived = refl; sends = refl; writes = refl; byte = refl }) refl refl
-given-goes w (out.Held b) = same (on nextLineByte) w _ (record { empties = refl; arrived = refl; sends = refl; writes = refl; byte = refl }) refl refl
-given-goes w out.Nothing = same (on nextLineByte) w _ (record { empties = refl; arrived = refl; sends = refl; writes = refl; byte = refl }) refl refl
+gone-goes : (b : ℕ) (w : World) (o : Out) →
+    Goes (on (takeLineByte b)) w
+    (record { said = done; room = 0; world = record { state = settled (w .state) (gone (w .state) o); rx = w .rx; tx = w .tx } })
+unfolding gone settled arrived restarts clears sends afterByte
+gone-goes b w (out.Own x) = same (on (takeLineByte b)) w _ (record { empties = refl; arrived = refl; sends = refl; writes = refl; byte = refl }) refl refl
+gone-goes b w (out.Held x) = same (on (takeLineByte b)) w _ (record { empties = refl; arrived = refl; sends = refl; writes = refl; byte = refl }) refl refl
+gone-goes b w out.Nothing = same (on (takeLineByte b)) w _ (record { empties = refl; arrived = refl; sends = refl; writes = refl; byte = refl }) refl refl
 
 -- ---- line bytes
 
@@ -210,7 +211,10 @@ goes (on lineBreak) w =
     goes-or (on lineBreak) w _ _ (λ _. same (on lineBreak) w _ (record { empties = refl; arrived = refl; sends = refl; writes = refl; byte = refl }) refl refl)
 goes (on key) w =
     goes-or (on key) w _ _ (λ _. same (on key) w _ (record { empties = refl; arrived = refl; sends = refl; writes = refl; byte = refl }) refl refl)
-goes (on nextLineByte) w = goes-or (on nextLineByte) w _ _ (λ _. given-goes w (nextOut (w .state) (w .tx)))
+goes (on askLineByte) w =
+    goes-or (on askLineByte) w _ _
+    (λ _. same (on askLineByte) w _ (record { empties = refl; arrived = refl; sends = refl; writes = refl; byte = refl }) refl refl)
+goes (on (takeLineByte b)) w = goes-or (on (takeLineByte b)) w _ _ (λ _. gone-goes b w (nextOut (w .state) (w .tx)))
 goes (on (loopFrame f)) w = goes-or (on (loopFrame f)) w _ _ (λ e. frame-goes w f (frame-fits f w e))
 goes (show side) w =
     goes-or (show side) w _ _ (λ _. same (show side) w _ (record { empties = refl; arrived = refl; sends = refl; writes = refl; byte = refl }) refl refl)

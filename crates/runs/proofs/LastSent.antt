@@ -5,7 +5,7 @@ use mathlib.Core.Bool.{Bool, true, false, cond, _||_}
 use mathlib.Core.List.{List, [], _∷_}
 use lib.Dec.{eqb}
 use lib.ListN.{getD, length}
-use borrow.Author.Tests.{eq-eqb, ne-eqb}
+use borrow.Author.Tests.{eq-eqb, ne-eqb, eqb-true}
 use Rattle.branches.proofs.Branches.{by-cond}
 use Rattle.registers.specs.declared.Registers.{Registers}
 use Rattle.registers.specs.Meanings.{go, stop}
@@ -20,25 +20,25 @@ use Rattle.state.specs.declared.Line.{Line}
 use Rattle.state.specs.declared.Outcome.{Outcome}
 use Rattle.state.specs.declared.Out.{Out}
 use Rattle.state.specs.declared.Out.the-variants.{Own, Held, Nothing}
-use Rattle.answers.specs.Answers.{said}
+use Rattle.answers.specs.Answers.{said, done}
 use Rattle.state.specs.Sizes.{startState}
 use Rattle.state.specs.Conditions.{settled, breakState, keyState}
 use Rattle.state.specs.Conditions as status
 use Rattle.state.proofs.Fits.{tests}
-use Rattle.line.specs.HoldingOff.{isGoOrStop, flowed, lostState, storedWith, lineState, resumed, setAfresh, afterWrite, owed, nextOut, afterGiving, outAnswer}
+use Rattle.line.specs.HoldingOff.{isGoOrStop, flowed, lostState, storedWith, lineState, resumed, setAfresh, afterWrite, owed, nextOut, isNext, gone}
 use Rattle.loopside.specs.LoopToLine.{addedState}
 use Rattle.talker.specs.UnderWay.{talking}
 use Rattle.loopside.specs.Sends.{ruleOf, removedState, sendState, sendFrom, sendStatus, ended}
 use Rattle.loopside.specs.Frames.{obeyed, cleared, deviceClear}
-use Rattle.bridge.specs.Calls.{Call, on, create, reset, write, lineByte, lineBreak, key, nextLineByte}
-use Rattle.bridge.specs.Calls.{loopFrame, show, World, Did, outcome, settledBy, refusedOr, step, refusal}
+use Rattle.bridge.specs.Calls.{Call, on, create, reset, write, lineByte, lineBreak, key, askLineByte, takeLineByte}
+use Rattle.bridge.specs.Calls.{loopFrame, show, nextIn, World, Did, outcome, settledBy, refusedOr, step, refusal}
 use Rattle.bridge.specs.Calls as calls
 use Rattle.laws.specs.Observers.{restarts, startsAnew}
-use Rattle.laws.specs.LastSent.{afterOwn, lastOf, recorded, LastKept, LastSince}
+use Rattle.laws.proofs.Refusing.{take-fitting}
+use Rattle.laws.specs.LastSent.{lastOf, recorded, LastKept, LastSince}
 use Rattle.runs.proofs.Shapes.{Fits}
 use Rattle.runs.proofs.FrameKinds.{Kind, isSent, isStatus, isBack, isCleared, isKept, isOther, kind-of}
-use Rattle.runs.proofs.Alike.{same-either}
-use Rattle.runs.proofs.Refusals.{or-refused, next-fits, frame-fits}
+use Rattle.runs.proofs.Refusals.{or-refused, frame-fits}
 use Rattle.runs.proofs.Runs.{first-not}
 use Rattle.runs.proofs.Steps.{answer, after, Without, lastSent, ours}
 use Rattle.machine.specs.Machine as machine
@@ -90,31 +90,35 @@ own-character : (h : Bool) (x y : ℕ) → (x ≡ y → ⊥) → h ≡ eqb (cond
 own-character true x y d = sym (eq-eqb y y refl)
 own-character false x y d = sym (ne-eqb x y d)
 
-module _ (w : World) where
-  abbrev NextKept : Out → Type 0
-  NextKept o = afterGiving (w .state) o .line .stopped ≡ lastOf (recorded w) (on nextLineByte) w (said (outAnswer o))
+module _ (w : World) (b : ℕ) where
+  abbrev GoneKept : Out → Type 0
+  GoneKept o = gone (w .state) o .line .stopped ≡ lastOf (recorded w) (on (takeLineByte b)) w done
 
-  next-same : Fits w → NextKept (nextOut (w .state) (w .tx))
-  unfolding nextOut afterGiving outAnswer said lastOf
-  next-same F =
-      by-tests (owed (w .state .line)) (w .state .line .forbidden || eqb (w .state .tx .len) 0) refl
+  -- where one is owed, the byte taken is our own character
+  gone-same : Fits w → isNext (nextIn w) b ≡ true → GoneKept (nextIn w)
+  unfolding nextOut isNext gone lastOf
+  gone-same F n =
+      by-tests (owed (w .state .line)) (w .state .line .forbidden || eqb (w .state .tx .len) 0) refl n
     where
       g : Registers
       g = w .state .regs
 
-      first : ℕ
-      first = getD (held (w .tx) (w .state .tx)) 0 0
+      own : ℕ
+      own = cond (w .state .line .holding) (stop (w .state .regs)) (go (w .state .regs))
 
       differ : go (w .state .regs) ≡ stop (w .state .regs) → ⊥
       differ = fit-differ (w .state .regs) (tests (w .state) (length (w .rx)) (length (w .tx)) F .regs)
 
-      by-tests : (t u : Bool) → owed (w .state .line) ≡ t →
-          NextKept (cond t (Own (cond (w .state .line .holding) (stop g) (go g))) (cond u Nothing (Held first)))
-      by-tests true u e =
+      out : Bool → Bool → Out
+      out t u = cond t (Own (cond (w .state .line .holding) (stop (w .state .regs)) (go (w .state .regs))))
+          (cond u Nothing (Held (getD (held (w .tx) (w .state .tx)) 0 0)))
+
+      by-tests : (t u : Bool) → owed (w .state .line) ≡ t → isNext (out t u) b ≡ true → GoneKept (out t u)
+      by-tests true u e n =
           own-character (w .state .line .holding) (go g) (stop g) differ ∙
-          (λ i. cond (sym e i) (afterOwn (recorded w) w (cond (w .state .line .holding) (stop g) (go g) ∷ [])) (recorded w))
-      by-tests false true e = λ i. cond (sym e i) (recorded w) (recorded w)
-      by-tests false false e = λ i. cond (sym e i) (afterOwn (recorded w) w (first ∷ [])) (recorded w)
+          (λ i. cond (sym e i) (eqb (eqb-true own b n i) (stop g)) (recorded w))
+      by-tests false true e n = λ i. cond (sym e i) (eqb b (stop g)) (recorded w)
+      by-tests false false e n = λ i. cond (sym e i) (eqb b (stop g)) (recorded w)
 
 -- ---- every call
 
@@ -134,7 +138,8 @@ last-right (on (write n v)) w = refused-or (on (write n v)) w _ _ refl (λ _. wr
 last-right (on (lineByte b)) w = refused-or (on (lineByte b)) w _ _ refl (λ _. line-same (w .state) b)
 last-right (on lineBreak) w = refused-or (on lineBreak) w _ _ refl (λ _. refl)
 last-right (on key) w = refused-or (on key) w _ _ refl (λ _. refl)
-last-right (on nextLineByte) w = refused-or (on nextLineByte) w _ _ (sym (same-either (owed (w .state .line)) (recorded w))) (λ e. next-same w (next-fits w e))
+last-right (on askLineByte) w = refused-or (on askLineByte) w _ _ refl (λ _. refl)
+last-right (on (takeLineByte b)) w = refused-or (on (takeLineByte b)) w _ _ refl (λ e. let x = take-fitting b w e in gone-same w b (x .0) (x .1))
 last-right (on (loopFrame f)) w =
     refused-or (on (loopFrame f)) w _ _ refl
     (λ e. settled-same (w .state) (w .rx) f (deviceClear (w .state) f) _ (frame-same (w .state) (w .rx) f _ (kind-of f w (frame-fits f w e))))

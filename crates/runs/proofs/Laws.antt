@@ -35,7 +35,8 @@ use Rattle.runs.proofs.NineBits.{nine-bits}
 use Rattle.runs.proofs.Cleared.{events-clear, not-invented, not-at-start}
 use Rattle.runs.proofs.Requests.{requests-go}
 use Rattle.runs.proofs.Holding.{holding-goes, forbidden-goes}
-use Rattle.runs.proofs.NextByte.{next-given, own-given}
+use Rattle.runs.proofs.NextByte.{next-asked, own-next, takes-next}
+use Rattle.runs.proofs.AskThenTake.{ask-looks, asks-alike, takes-as-asked, ask-then-take}
 use Rattle.runs.proofs.Resuming.{empty-send-resumes}
 
 pub all-obeyed : OursObeysAll
@@ -49,7 +50,8 @@ all-obeyed =
     also events-clear broken also events-clear overrun also events-clear pressed
     also not-invented broken also not-invented overrun also not-invented pressed
     also not-at-start broken also not-at-start overrun also not-at-start pressed
-    also line-kept also line-since also last-kept also last-since also own-given also next-given also forbidden-goes also holding-goes
+    also line-kept also line-since also last-kept also last-since also own-next also next-asked also takes-next also forbidden-goes also holding-goes
+    also ask-looks also asks-alike also takes-as-asked also ask-then-take
     also counts-go also counts-since also service-bit also requests-go also remote-goes also tt
 
 pub rooms-obeyed : OursObeysRooms

@@ -41,6 +41,7 @@ pub mod Cleared
 pub mod Requests
 pub mod Holding
 pub mod NextByte
+pub mod AskThenTake
 pub mod Resuming
 pub mod Untouched
 pub mod Settings

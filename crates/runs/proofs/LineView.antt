@@ -1,10 +1,10 @@
 -- The kind of change of line bytes in and out, and of register writes. Assumes nothing.
 use Prim.Native.Nat.{ℕ, _≤_}
-use mathlib.Core.Path.{_≡_, refl}
-use mathlib.Core.Bool.{Bool, true, false, cond, _||_}
+use mathlib.Core.Path.{_≡_, refl, sym}
+use mathlib.Core.Bool.{Bool, true, false, cond, _||_, false≢true}
 use lib.Dec.{eqb}
 use lib.ListN.{getD}
-use borrow.Author.Tests.{leb-true, leb-false, eq-eqb}
+use borrow.Author.Tests.{leb-true, leb-false, eq-eqb, eqb-true}
 use Rattle.registers.specs.declared.Registers.{Registers}
 use Rattle.registers.specs.Meanings.{go, stop}
 use Rattle.registers.specs.Writing.{written}
@@ -13,10 +13,10 @@ use Rattle.store.proofs.Laws.{put-full}
 use Rattle.state.specs.declared.Out.{Out}
 use Rattle.state.specs.declared.Out.the-variants.{Own, Held, Nothing}
 use Rattle.state.specs.State.{withRegisters}
-use Rattle.answers.specs.Answers.{said, done}
-use Rattle.line.specs.HoldingOff.{isGoOrStop, flowed, lostState, storedState, lineState, lineBytes, setAfresh, afterWrite, owed, nextOut, afterGiving, outAnswer}
+use Rattle.answers.specs.Answers.{done}
+use Rattle.line.specs.HoldingOff.{isGoOrStop, flowed, lostState, storedState, lineState, lineBytes, setAfresh, afterWrite, owed, nextOut, isNext, gone}
 use Rattle.line.proofs.Parts.{some-held}
-use Rattle.bridge.specs.Calls.{heldLine, on, write, lineByte, nextLineByte, World}
+use Rattle.bridge.specs.Calls.{heldLine, nextIn, on, write, lineByte, takeLineByte, World}
 use Rattle.laws.specs.Observers.{isFlow, arrived, accepted, lost, sent, added, handedOut, restarts, writes, clears}
 use Rattle.runs.proofs.Shapes.{seen, core, Fits, Shape, isStill, isWritten, isStored, isLost, isHanded}
 use Rattle.runs.proofs.RuleKept.{rule-kept}
@@ -41,25 +41,28 @@ module _ (w : World) (F : Fits w) (b : ℕ) where
 
 -- ---- line bytes out
 
-module _ (w : World) (F : Fits w) where
-  pub next-shape : Shape w (seen (on nextLineByte) w (said (outAnswer (nextOut (w .state) (w .tx)))))
-      (core (afterGiving (w .state) (nextOut (w .state) (w .tx)))) (w .rx) (w .tx)
-  unfolding arrived sent added handedOut restarts writes clears nextOut afterGiving outAnswer said
-  next-shape =
-      none-arrives (on nextLineByte) w _ _ _ _ refl (by-tests (owed (w .state .line)) (w .state .line .forbidden || eqb (w .state .tx .len) 0) refl refl)
+module _ (w : World) (F : Fits w) (b : ℕ) where
+  -- our own character is not handed out, and the oldest byte is
+  pub gone-shape : isNext (nextIn w) b ≡ true → Shape w (seen (on (takeLineByte b)) w done) (core (gone (w .state) (nextIn w))) (w .rx) (w .tx)
+  unfolding arrived sent added handedOut restarts writes clears nextOut isNext gone
+  gone-shape n =
+      none-arrives (on (takeLineByte b)) w done _ _ _ refl (by-tests (owed (w .state .line)) (w .state .line .forbidden || eqb (w .state .tx .len) 0) refl refl n)
     where
       own : ℕ
       own = cond (w .state .line .holding) (stop (w .state .regs)) (go (w .state .regs))
+
+      first : ℕ
+      first = getD (held (w .tx) (w .state .tx)) 0 0
 
       out : Bool → Bool → Out
       out t u = cond t (Own (cond (w .state .line .holding) (stop (w .state .regs)) (go (w .state .regs))))
           (cond u Nothing (Held (getD (held (w .tx) (w .state .tx)) 0 0)))
 
-      by-tests : (t u : Bool) → owed (w .state .line) ≡ t → (w .state .line .forbidden || eqb (w .state .tx .len) 0) ≡ u →
-          Shape w (quiet (on nextLineByte) w (said (outAnswer (out t u)))) (core (afterGiving (w .state) (out t u))) (w .rx) (w .tx)
-      by-tests true u o e = simp (o, eq-eqb own own refl) isStill
-      by-tests false true o e = simp o isStill
-      by-tests false false o e = simp o (isHanded F (some-held (w .state) (w .tx) e))
+      by-tests : (t u : Bool) → owed (w .state .line) ≡ t → (w .state .line .forbidden || eqb (w .state .tx .len) 0) ≡ u → isNext (out t u) b ≡ true →
+          Shape w (quiet (on (takeLineByte b)) w done) (core (gone (w .state) (out t u))) (w .rx) (w .tx)
+      by-tests true u o e n = simp (o, eq-eqb b own (sym (eqb-true own b n))) isStill
+      by-tests false true o e n = absurd (false≢true n)
+      by-tests false false o e n = simp (o, ← eqb-true first b n) (isHanded F (some-held (w .state) (w .tx) e))
 
 -- ---- register writes
 

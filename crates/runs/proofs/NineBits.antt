@@ -12,7 +12,7 @@ use Rattle.store.specs.Ring.{full, putBytes}
 use Rattle.cells.specs.Newest.{replacedCells}
 use Rattle.line.specs.Breaks.{breakCells}
 use Rattle.line.specs.HoldingOff.{isGoOrStop, lineBytes}
-use Rattle.bridge.specs.Calls.{OnState, reset, write, lineByte, lineBreak, key, nextLineByte, loopFrame}
+use Rattle.bridge.specs.Calls.{OnState, reset, write, lineByte, lineBreak, key, askLineByte, takeLineByte, loopFrame}
 use Rattle.bridge.specs.Calls.{Call, create, show, on, World, Did, rxAfter, notRefused}
 use Rattle.laws.specs.Bridges.{ByteOn, ByteCall}
 use Rattle.laws.specs.NineBits.{NineBits}
@@ -43,7 +43,8 @@ after-nine lineBreak w h =
 after-nine reset w h = same (w .rx)
 after-nine (write n v) w h = same (w .rx)
 after-nine key w h = same (w .rx)
-after-nine nextLineByte w h = same (w .rx)
+after-nine askLineByte w h = same (w .rx)
+after-nine (takeLineByte b) w h = same (w .rx)
 after-nine (loopFrame f) w h = same (w .rx)
 
 pub nine-bits : Obeys ours NineBits

@@ -6,7 +6,7 @@ use lib.Dec.{eqb}
 use borrow.Author.Tests.{eqb-true}
 use Rattle.branches.proofs.Branches.{by-cond}
 use Rattle.answers.specs.Refusals.{firstRefusal}
-use Rattle.bridge.specs.Calls.{on, nextLineByte, loopFrame, World, Did, checks, refusedOr, refusal}
+use Rattle.bridge.specs.Calls.{on, loopFrame, World, Did, checks, refusedOr, refusal}
 use Rattle.laws.specs.Observers.{taken}
 use Rattle.laws.proofs.Refusing.{fitting}
 use Rattle.runs.proofs.Shapes.{Fits}
@@ -17,9 +17,6 @@ or-refused P n d w r k = by-cond P (eqb n 0) d (refusal n w) (λ e. k (eqb-true 
 
 pub if-taken : (P : Did → Type 0) (n : ℕ) (d : Did) (w : World) → (n ≡ 0 → P d) → taken (refusedOr n d w .said) ≡ true → P (refusedOr n d w)
 if-taken P n d w k = or-refused (λ (x : Did). taken (x .said) ≡ true → P x) n d w (λ e. absurd (false≢true e)) (λ e _. k e)
-
-pub next-fits : (w : World) → firstRefusal (checks (on nextLineByte) w) ≡ 0 → Fits w
-next-fits w e = fitting nextLineByte w e .0
 
 pub frame-fits : (f : ℕ) (w : World) → firstRefusal (checks (on (loopFrame f)) w) ≡ 0 → Fits w
 frame-fits f w e = fitting (loopFrame f) w e .0

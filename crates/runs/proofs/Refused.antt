@@ -14,7 +14,7 @@ use Rattle.answers.specs.Answers.{Said, said, done, none, byte, frame, refused,
 use Rattle.line.specs.HoldingOff.{nextOut, outAnswer}
 use Rattle.loopside.specs.Sends.{sendState, sendFrom, sendStatus, ended}
 use Rattle.loopside.specs.Frames.{frameTaken}
-use Rattle.bridge.specs.Calls.{on, create, reset, write, lineByte, lineBreak, key, nextLineByte, loopFrame, show, World, Did, checks, outcome, refusedOr, step}
+use Rattle.bridge.specs.Calls.{on, create, reset, write, lineByte, lineBreak, key, askLineByte, takeLineByte, loopFrame, show, World, Did, checks, outcome, refusedOr, step}
 use Rattle.bridge.specs.Calls as calls
 use Rattle.laws.specs.Observers.{taken, isFrame}
 use Rattle.laws.specs.Demands.{RefusedStays, OneFrameOut}
@@ -64,7 +64,7 @@ frame-taken (part l) e = refl
 frame-taken (cell n) e = refl
 frame-taken (lines n) e = refl
 
-out-taken : (o : Out) → taken (said (outAnswer o)) ≡ true
+pub out-taken : (o : Out) → taken (said (outAnswer o)) ≡ true
 unfolding outAnswer said
 out-taken (out.Own b) = refl
 out-taken (out.Held b) = refl
@@ -89,7 +89,8 @@ refused-stays (on (write n v)) w B = stays-or w _ _ refl
 refused-stays (on (lineByte b)) w B = stays-or w _ _ refl
 refused-stays (on lineBreak) w B = stays-or w _ _ refl
 refused-stays (on key) w B = stays-or w _ _ refl
-refused-stays (on nextLineByte) w B = stays-or w _ _ (out-taken (nextOut (w .state) (w .tx)))
+refused-stays (on askLineByte) w B = stays-or w _ _ (out-taken (nextOut (w .state) (w .tx)))
+refused-stays (on (takeLineByte b)) w B = stays-or w _ _ refl
 refused-stays (on (loopFrame f)) w B = stays-or w _ _ (frame-taken (said (frameTaken (w .state) (w .rx) f .answer)) (frame-answers (w .state) (w .rx) f))
 refused-stays (show side) w B = stays-or w _ _ refl
 

@@ -20,12 +20,12 @@ use Rattle.state.specs.declared.Out.{Out}
 use Rattle.state.specs.declared.Out.the-variants as out
 use Rattle.answers.specs.Answers.{said}
 use Rattle.state.specs.Conditions.{settled, breakState, keyState, afterStatus, afterStatusBack}
-use Rattle.line.specs.HoldingOff.{isGoOrStop, flowed, lostState, storedState, storedWith, lineState, lineBytes, setAfresh, afterWrite, nextOut, afterGiving}
+use Rattle.line.specs.HoldingOff.{isGoOrStop, flowed, lostState, storedState, storedWith, lineState, lineBytes, setAfresh, afterWrite, nextOut, gone}
 use Rattle.loopside.specs.LoopToLine.{addedState}
 use Rattle.talker.specs.UnderWay.{talking}
 use Rattle.loopside.specs.Sends.{ended, sendStatus}
 use Rattle.loopside.specs.Frames.{deviceClear}
-use Rattle.bridge.specs.Calls.{OnState, reset, write, lineByte, lineBreak, key, nextLineByte, loopFrame, Call, create}
+use Rattle.bridge.specs.Calls.{OnState, reset, write, lineByte, lineBreak, key, askLineByte, takeLineByte, loopFrame, Call, create}
 use Rattle.bridge.specs.Calls.{show, on, World, Did, checks, outcome, settledBy, rxAfter, notRefused, refusal}
 use Rattle.laws.specs.Observers.{onFrame, isSend, isFlow, arrived, accepted, breaks, bytesAndBreaks, restarts, clears, empties}
 use Rattle.laws.specs.Worlds.{heldCells, heldToSend}
@@ -59,11 +59,11 @@ frame-rx s rx f o (isCleared m k) e c = absurd (true≢false (sym (m .clear) ∙
 frame-rx s rx f o (isKept m d l) e c = refl
 frame-rx s rx f o (isOther t n p m x) e c = ap (λ (h : Core). h .rx) (x .core)
 
-given-rx : (s : State) (o : Out) → afterGiving s o .rx ≡ s .rx
-unfolding afterGiving
-given-rx s (out.Own b) = refl
-given-rx s (out.Held b) = refl
-given-rx s out.Nothing = refl
+gone-rx : (s : State) (o : Out) → gone s o .rx ≡ s .rx
+unfolding gone
+gone-rx s (out.Own b) = refl
+gone-rx s (out.Held b) = refl
+gone-rx s out.Nothing = refl
 
 write-rx : (s : State) (n v : ℕ) → afterWrite s n (written (s .regs) n v) .rx ≡ s .rx
 unfolding afterWrite setAfresh
@@ -100,7 +100,8 @@ module _ (w : World) where
   done-stays (lineByte b) e q n _ = line-held w (fitting (lineByte b) w e .0) b (isGoOrStop (w .state .regs) b) F refl
   done-stays lineBreak e q n b = absurd (true≢false b)
   done-stays key e q n b = same-ring _ refl
-  done-stays nextLineByte e q n b = same-ring _ (given-rx (w .state) (nextOut (w .state) (w .tx)))
+  done-stays askLineByte e q n b = same-ring _ refl
+  done-stays (takeLineByte x) e q n b = same-ring _ (gone-rx (w .state) (nextOut (w .state) (w .tx)))
   done-stays (loopFrame f) e q n b =
       let c : deviceClear (w .state) f ≡ false = (λ i. not (sym (frame-not-refused (w .state) (w .rx) f) i) && deviceClear (w .state) f) ∙ q in
       same-ring _ (settled-rx (w .state) (deviceClear (w .state) f) _ (frame-rx (w .state) (w .rx) f _ (kind-of f w (fitting (loopFrame f) w e .0)) n c))
@@ -114,7 +115,8 @@ module _ (w : World) where
   refused-stays (on (lineByte x)) n q k b = none-accepted (heldCells w) F
   refused-stays (on lineBreak) n q k b = none-accepted (heldCells w) F
   refused-stays (on key) n q k b = none-accepted (heldCells w) F
-  refused-stays (on nextLineByte) n q k b = none-accepted (heldCells w) F
+  refused-stays (on askLineByte) n q k b = none-accepted (heldCells w) F
+  refused-stays (on (takeLineByte x)) n q k b = none-accepted (heldCells w) F
   refused-stays (on (loopFrame f)) n q k b = none-accepted (heldCells w) F
 
   done-any : (c : Call) → firstRefusal (checks c w) ≡ 0 → Stays c w (notRefused c w)

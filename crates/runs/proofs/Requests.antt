@@ -21,12 +21,12 @@ use Rattle.answers.specs.Answers.{Said, said, done, refused}
 use Rattle.state.specs.Sizes.{startState}
 use Rattle.state.specs.Conditions.{settled, asking, enabledBy, conditions, breakState, keyState}
 use Rattle.state.specs.Conditions as state-status
-use Rattle.line.specs.HoldingOff.{isGoOrStop, flowed, lostState, storedWith, lineState, setAfresh, afterWrite, nextOut, afterGiving}
+use Rattle.line.specs.HoldingOff.{isGoOrStop, flowed, lostState, storedWith, lineState, setAfresh, afterWrite, nextOut, gone}
 use Rattle.loopside.specs.LoopToLine.{addedState}
 use Rattle.talker.specs.UnderWay.{talking}
 use Rattle.loopside.specs.Sends.{sendFrom, sendStatus, ended}
 use Rattle.loopside.specs.Frames.{passed, cleared, frameTaken, deviceClear}
-use Rattle.bridge.specs.Calls.{Call, on, create, reset, write, lineByte, lineBreak, key, nextLineByte}
+use Rattle.bridge.specs.Calls.{Call, on, create, reset, write, lineByte, lineBreak, key, askLineByte, takeLineByte}
 use Rattle.bridge.specs.Calls.{loopFrame, show, World, Did, checks, outcome, settledBy, refusedOr, step}
 use Rattle.bridge.specs.Calls as calls
 use Rattle.laws.specs.Observers.{taken, dataFrame, asksStatus, statusSent, restarts, clears, empties, any}
@@ -35,6 +35,7 @@ use Rattle.registers.specs.Bits.{bit}
 use Rattle.laws.specs.Fitting.{Fits}
 use Rattle.laws.specs.Requests.{comes, RequestsGo}
 use Rattle.laws.specs.Requests as law
+use Rattle.bridge.proofs.Steps.{no-comes, no-begins}
 use Rattle.laws.proofs.Refusing.{by-refusal, fitting}
 use Rattle.laws.proofs.Fitting.{state-good}
 use Rattle.runs.proofs.Conditions.{empty-same, room-same, some-same, full-same}
@@ -45,16 +46,6 @@ use Rattle.runs.proofs.Refusals.{or-refused, frame-fits}
 use Rattle.runs.proofs.Alike.{same-either}
 use Rattle.runs.proofs.Steps.{answer, after, ours}
 use Rattle.machine.specs.Machine.{Obeys}
-
--- nothing comes to hold where all is as it was
-no-comes : (t : Bool) → status.comes t t ≡ false
-no-comes true = refl
-no-comes false = refl
-
-no-begins : (c : Conditions) → status.begins c c ≡ false
-no-begins c =
-    λ i. (((((no-comes (c .txempty) i || no-comes (c .txnotfull) i) || no-comes (c .rxnotempty) i) || no-comes (c .rxfull) i) || no-comes (c .brk) i) ||
-    no-comes (c .overrun) i) || no-comes (c .key) i
 
 -- what a call did, with requests settled
 abbrev Goes : Call → World → Did → Type 0
@@ -77,11 +68,11 @@ goes-or : (c : Call) (w : World) (n : ℕ) (d : Did) → statusSent c w (refused
     empties c w (refusedOr n d w .said) ≡ false → Goes c w (refusedOr n d w)
 goes-or c w n d e = or-refused (λ (x : Did). empties c w (x .said) ≡ false → Goes c w x) n d w (λ _. still-goes c w (refused n) e)
 
-given-kept : (s : State) (o : Out) → afterGiving s o .notes .request ≡ s .notes .request
-unfolding afterGiving
-given-kept s (out.Own b) = refl
-given-kept s (out.Held b) = refl
-given-kept s out.Nothing = refl
+gone-kept : (s : State) (o : Out) → gone s o .notes .request ≡ s .notes .request
+unfolding gone
+gone-kept s (out.Own b) = refl
+gone-kept s (out.Held b) = refl
+gone-kept s out.Nothing = refl
 
 line-kept : (s : State) (b : ℕ) → lineState s b .notes .request ≡ s .notes .request
 unfolding lineState flowed lostState storedWith
@@ -149,9 +140,10 @@ goes (on (lineByte b)) w =
     goes-or (on (lineByte b)) w _ _ refl (λ _ _. quiet (on (lineByte b)) w done _ (line-kept (w .state) b ∙ sym (and-true (w .state .notes .request))))
 goes (on lineBreak) w = goes-or (on lineBreak) w _ _ refl (λ _ _. quiet (on lineBreak) w done _ (sym (and-true (w .state .notes .request))))
 goes (on key) w = goes-or (on key) w _ _ refl (λ _ _. quiet (on key) w done _ (sym (and-true (w .state .notes .request))))
-goes (on nextLineByte) w =
-    goes-or (on nextLineByte) w _ _ refl
-    (λ _ _. quiet (on nextLineByte) w done _ (given-kept (w .state) (nextOut (w .state) (w .tx)) ∙ sym (and-true (w .state .notes .request))))
+goes (on askLineByte) w = goes-or (on askLineByte) w _ _ refl (λ _ _. quiet (on askLineByte) w done _ (sym (and-true (w .state .notes .request))))
+goes (on (takeLineByte b)) w =
+    goes-or (on (takeLineByte b)) w _ _ refl
+    (λ _ _. quiet (on (takeLineByte b)) w done _ (gone-kept (w .state) (nextOut (w .state) (w .tx)) ∙ sym (and-true (w .state .notes .request))))
 goes (on (loopFrame f)) w = frame-goes w f
 goes (show side) w = goes-or (show side) w _ _ refl (λ _ _. still-goes (show side) w (calls.notRefused (show side) w .said) refl)
 
@@ -175,7 +167,8 @@ starts (on (write n v)) w = λ q. absurd (false≢true q)
 starts (on (lineByte b)) w = λ q. absurd (false≢true q)
 starts (on lineBreak) w = λ q. absurd (false≢true q)
 starts (on key) w = λ q. absurd (false≢true q)
-starts (on nextLineByte) w = λ q. absurd (false≢true q)
+starts (on askLineByte) w = λ q. absurd (false≢true q)
+starts (on (takeLineByte b)) w = λ q. absurd (false≢true q)
 starts (on (loopFrame f)) w =
     starts-or (on (loopFrame f)) w _ _ refl
     (λ e q.

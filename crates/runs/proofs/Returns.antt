@@ -18,7 +18,7 @@ use Rattle.state.specs.declared.Outcome.{Outcome}
 use Rattle.answers.specs.Answers.{Said, said, frame, refused}
 use Rattle.line.specs.HoldingOff.{nextOut}
 use Rattle.loopside.specs.Frames.{frameTaken, deviceClear}
-use Rattle.bridge.specs.Calls.{reset, write, lineByte, lineBreak, key, nextLineByte, loopFrame, Call, create}
+use Rattle.bridge.specs.Calls.{reset, write, lineByte, lineBreak, key, askLineByte, takeLineByte, loopFrame, Call, create}
 use Rattle.bridge.specs.Calls.{show, on, World, Did, checks, outcome, settledBy, notRefused, step, refusal}
 use Rattle.laws.specs.Observers.{taken, isAsked, equalReturn, isSend, dataFrame, asksStatus, passesOn, sent, statusSent, restarts}
 use Rattle.laws.specs.Worlds.{heldCells}
@@ -45,7 +45,7 @@ use Rattle.runs.proofs.FrameKinds.{Kind, no-data, kind-of, address-high
 use Rattle.runs.proofs.FrameKinds as kinds
 use Rattle.laws.proofs.Ways.{Way, isNext, isBack, isLast, isDamaged, isStored, isPassed, isCleared}
 use Rattle.laws.proofs.Ways.{isObeyed, isAssigned, isSendAsked, isTold, isFinishing, isReady, isIdentified, way}
-use Rattle.runs.proofs.Untouched.{Untouched, both-untouched, settled-untouched, break-untouched, key-untouched, line-untouched, given-untouched, write-untouched}
+use Rattle.runs.proofs.Untouched.{Untouched, both-untouched, settled-untouched, break-untouched, key-untouched, line-untouched, gone-untouched, write-untouched}
 use Rattle.runs.proofs.Steps.{answer, after, end, some, Without, ours, at-call, at-left}
 
 -- the frame under way is g but for the service bit, the talker is active, with status where k holds, and finishing is e
@@ -133,8 +133,9 @@ module _ (k : Bool) (g : ℕ) (e : Bool) where
   done-on (on (lineByte b)) w u n = same (w .state) _ false (both-untouched _ _ _ (line-untouched (w .state) b) (settled-untouched (w .state) false _)) refl u
   done-on (on lineBreak) w u n = same (w .state) _ false (both-untouched _ _ _ (break-untouched (w .state)) (settled-untouched (w .state) false _)) refl u
   done-on (on key) w u n = same (w .state) _ false (both-untouched _ _ _ (key-untouched (w .state)) (settled-untouched (w .state) false _)) refl u
-  done-on (on nextLineByte) w u n =
-      same (w .state) _ false (both-untouched _ _ _ (given-untouched (w .state) (nextOut (w .state) (w .tx))) (settled-untouched (w .state) false _)) refl u
+  done-on (on askLineByte) w u n = same (w .state) _ false (settled-untouched (w .state) false _) refl u
+  done-on (on (takeLineByte b)) w u n =
+      same (w .state) _ false (both-untouched _ _ _ (gone-untouched (w .state) (nextOut (w .state) (w .tx))) (settled-untouched (w .state) false _)) refl u
   done-on (on (loopFrame f)) w u n =
       let m = neither (isData f) (eqb (controlOf f) 4)
       ((λ i. not (sym (frame-not-refused (w .state) (w .rx) f) i) && (isData f || eqb (controlOf f) 4)) ∙ n) in
@@ -152,7 +153,8 @@ module _ (k : Bool) (g : ℕ) (e : Bool) where
   refused-on (on (lineByte b)) w n u q = same (w .state) (w .state) false (record { talker = refl; remote = refl }) refl u
   refused-on (on lineBreak) w n u q = same (w .state) (w .state) false (record { talker = refl; remote = refl }) refl u
   refused-on (on key) w n u q = same (w .state) (w .state) false (record { talker = refl; remote = refl }) refl u
-  refused-on (on nextLineByte) w n u q = same (w .state) (w .state) false (record { talker = refl; remote = refl }) refl u
+  refused-on (on askLineByte) w n u q = same (w .state) (w .state) false (record { talker = refl; remote = refl }) refl u
+  refused-on (on (takeLineByte b)) w n u q = same (w .state) (w .state) false (record { talker = refl; remote = refl }) refl u
   refused-on (on (loopFrame f)) w n u q = same (w .state) (w .state) false (record { talker = refl; remote = refl }) refl u
 
   on-way : (c : Call) (w : World) → On c w (step c w)
@@ -234,7 +236,8 @@ own-under k g c w =
     refused-none (on (lineByte b)) n = same-either k []
     refused-none (on lineBreak) n = same-either k []
     refused-none (on key) n = same-either k []
-    refused-none (on nextLineByte) n = same-either k []
+    refused-none (on askLineByte) n = same-either k []
+    refused-none (on (takeLineByte b)) n = same-either k []
     refused-none (on (loopFrame f)) n = none-either k (asksStatus (w .state) f) (passesOn (w .state) f || asksStatus (w .state) f)
 
     done : (c : Call) → firstRefusal (checks c w) ≡ 0 → ownFrame k c w (notRefused c w .said) ≡ g ∷ [] → Under k g false (notRefused c w .world .state)
@@ -245,7 +248,8 @@ own-under k g c w =
     done (on (lineByte b)) e q = absurd (nil≢cons (sym (same-either k []) ∙ q))
     done (on lineBreak) e q = absurd (nil≢cons (sym (same-either k []) ∙ q))
     done (on key) e q = absurd (nil≢cons (sym (same-either k []) ∙ q))
-    done (on nextLineByte) e q = absurd (nil≢cons (sym (same-either k []) ∙ q))
+    done (on askLineByte) e q = absurd (nil≢cons (sym (same-either k []) ∙ q))
+    done (on (takeLineByte b)) e q = absurd (nil≢cons (sym (same-either k []) ∙ q))
     done (on (loopFrame f)) e q =
         moved k g false _ _ (settled-untouched (w .state) (deviceClear (w .state) f) _)
         (kind-under w f g k (frameTaken (w .state) (w .rx) f) (kind-of f w (fitting (loopFrame f) w e .0)) q)

@@ -28,7 +28,7 @@ use Rattle.loopside.specs.LoopToLine.{addedState}
 use Rattle.talker.specs.UnderWay.{talking}
 use Rattle.loopside.specs.Sends.{ruleOf, ended, removedState, sendState, sendFrom, sendStatus}
 use Rattle.loopside.specs.Frames.{orderIn, obeyed, cleared, deviceClear, frameTaken}
-use Rattle.bridge.specs.Calls.{reset, write, lineByte, lineBreak, key, nextLineByte, loopFrame, Call, create}
+use Rattle.bridge.specs.Calls.{reset, write, lineByte, lineBreak, key, askLineByte, takeLineByte, loopFrame, Call, create}
 use Rattle.bridge.specs.Calls.{show, on, World, Did, checks, outcome, settledBy, notRefused, step, refusal}
 use Rattle.laws.specs.Observers.{any, taken, dataFrame, onFrame, restarts}
 use Rattle.laws.specs.Fitting.{Fits}
@@ -44,7 +44,7 @@ use Rattle.laws.proofs.Ways.{Way, Returning, Arriving, Commanding, Readying, Id
 use Rattle.laws.proofs.Ways.{isPassed, isCleared, isObeyed, isAssigned, isSendAsked, isTold, isFinishing, isReady, isIdentified, way}
 use Rattle.runs.proofs.Obeying.{obeyed-right}
 use Rattle.runs.proofs.Remote.{remote-way}
-use Rattle.runs.proofs.Untouched.{Untouched, settled-untouched, break-untouched, key-untouched, line-untouched, given-untouched, write-untouched}
+use Rattle.runs.proofs.Untouched.{Untouched, settled-untouched, break-untouched, key-untouched, line-untouched, gone-untouched, write-untouched}
 use Rattle.runs.proofs.Steps.{ours}
 
 -- ---- frames
@@ -184,7 +184,8 @@ done-goes (on (write n v)) w e q = untouched (w .state) _ (write-untouched (w .s
 done-goes (on (lineByte b)) w e q = untouched (w .state) _ (line-untouched (w .state) b)
 done-goes (on lineBreak) w e q = untouched (w .state) _ (break-untouched (w .state))
 done-goes (on key) w e q = untouched (w .state) _ (key-untouched (w .state))
-done-goes (on nextLineByte) w e q = untouched (w .state) _ (given-untouched (w .state) (nextOut (w .state) (w .tx)))
+done-goes (on askLineByte) w e q = untouched (w .state) _ (record { talker = refl; remote = refl })
+done-goes (on (takeLineByte b)) w e q = untouched (w .state) _ (gone-untouched (w .state) (nextOut (w .state) (w .tx)))
 done-goes (on (loopFrame f)) w e q =
     let o : Outcome = frameTaken (w .state) (w .rx) f in
     let u : Untouched (o .state) _ = settled-untouched (w .state) (deviceClear (w .state) f) (o .state) in

@@ -19,7 +19,7 @@ use Rattle.state.specs.Sizes.{startState, fits}
 use Rattle.state.proofs.Fits.{tx-fits}
 use Rattle.line.specs.HoldingOff.{storedWith}
 use Rattle.loopside.specs.LoopToLine.{adds, busy}
-use Rattle.bridge.specs.Calls.{reset, write, lineByte, lineBreak, key, nextLineByte, loopFrame, Call, create, show, on, World, checksOn, checks, roomOf, step}
+use Rattle.bridge.specs.Calls.{reset, write, lineByte, lineBreak, key, askLineByte, takeLineByte, loopFrame, Call, create, show, on, World, checksOn, checks, roomOf, step}
 use Rattle.laws.specs.Bridges.{telling}
 use Rattle.laws.specs.Observers.{taken, added}
 use Rattle.laws.specs.Rooms.{ofSaid, wouldAdd, RoomTakes}
@@ -113,4 +113,5 @@ room-takes (on (write n v)) cs d w B j ks f q t a r = absurd (false≢true t)
 room-takes (on (lineByte b)) cs d w B j ks f q t a r = absurd (false≢true t)
 room-takes (on lineBreak) cs d w B j ks f q t a r = absurd (false≢true t)
 room-takes (on key) cs d w B j ks f q t a r = absurd (false≢true t)
-room-takes (on nextLineByte) cs d w B j ks f q t a r = absurd (false≢true t)
+room-takes (on askLineByte) cs d w B j ks f q t a r = absurd (false≢true t)
+room-takes (on (takeLineByte b)) cs d w B j ks f q t a r = absurd (false≢true t)

@@ -15,7 +15,7 @@ use Rattle.state.proofs.Fits.{rx-fits}
 use Rattle.state.specs.Sizes.{startState}
 use Rattle.line.specs.HoldingOff.{storedWith, resumed}
 use Rattle.loopside.specs.Sends.{ruleOf, removedState}
-use Rattle.bridge.specs.Calls.{reset, write, lineByte, lineBreak, key, nextLineByte, loopFrame, Call, create, show, on, World, roomOf, step}
+use Rattle.bridge.specs.Calls.{reset, write, lineByte, lineBreak, key, askLineByte, takeLineByte, loopFrame, Call, create, show, on, World, roomOf, step}
 use Rattle.laws.specs.Bridges.{telling}
 use Rattle.laws.specs.Observers.{taken, arrived, lost}
 use Rattle.laws.specs.Rooms.{ofSaid, RoomHolds}
@@ -107,5 +107,6 @@ room-holds (on reset) cs w B k ks t a = absurd (false≢true t)
 room-holds (on (write n v)) cs w B k ks t a = absurd (false≢true t)
 room-holds (on lineBreak) cs w B k ks t a = absurd (false≢true t)
 room-holds (on key) cs w B k ks t a = absurd (false≢true t)
-room-holds (on nextLineByte) cs w B k ks t a = absurd (false≢true t)
+room-holds (on askLineByte) cs w B k ks t a = absurd (false≢true t)
+room-holds (on (takeLineByte b)) cs w B k ks t a = absurd (false≢true t)
 room-holds (on (loopFrame f)) cs w B k ks t a = absurd (false≢true t)

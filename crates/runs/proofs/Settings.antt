@@ -18,12 +18,12 @@ use Rattle.state.specs.declared.Out.{Out}
 use Rattle.state.specs.declared.Out.the-variants as out
 use Rattle.answers.specs.Answers.{said}
 use Rattle.state.specs.Conditions.{settled, breakState, keyState, afterStatus, afterStatusBack}
-use Rattle.line.specs.HoldingOff.{isGoOrStop, flowed, lostState, storedWith, lineState, resumed, setAfresh, afterWrite, nextOut, afterGiving}
+use Rattle.line.specs.HoldingOff.{isGoOrStop, flowed, lostState, storedWith, lineState, resumed, setAfresh, afterWrite, nextOut, gone}
 use Rattle.loopside.specs.LoopToLine.{addedState}
 use Rattle.talker.specs.UnderWay.{talking}
 use Rattle.loopside.specs.Sends.{ruleOf, ended, removedState, sendState, sendFrom, sendStatus}
 use Rattle.loopside.specs.Frames.{obeyed, cleared, deviceClear, frameTaken}
-use Rattle.bridge.specs.Calls.{reset, write, lineByte, lineBreak, key, nextLineByte, loopFrame, Call}
+use Rattle.bridge.specs.Calls.{reset, write, lineByte, lineBreak, key, askLineByte, takeLineByte, loopFrame, Call}
 use Rattle.bridge.specs.Calls.{create, show, on, World, Did, outcome, settledBy, notRefused, refusal}
 use Rattle.laws.specs.Observers.{taken, onWrite, restarts}
 use Rattle.laws.specs.Starting.{registerValues, recorded, SizesStay}
@@ -79,11 +79,11 @@ line-same s b =
     by-cond (Same s) (isGoOrStop (s .regs) b) _ _ (λ _. record { regs = refl; sizes = refl })
     (λ _. by-cond (Same s) (full (s .rx)) _ _ (λ _. record { regs = refl; sizes = refl }) (λ _. record { regs = refl; sizes = refl }))
 
-given-same : (s : State) (o : Out) → Same s (afterGiving s o)
-unfolding afterGiving dropRing
-given-same s (out.Own b) = record { regs = refl; sizes = refl }
-given-same s (out.Held b) = record { regs = refl; sizes = refl }
-given-same s out.Nothing = record { regs = refl; sizes = refl }
+gone-same : (s : State) (o : Out) → Same s (gone s o)
+unfolding gone dropRing
+gone-same s (out.Own b) = record { regs = refl; sizes = refl }
+gone-same s (out.Held b) = record { regs = refl; sizes = refl }
+gone-same s out.Nothing = record { regs = refl; sizes = refl }
 
 write-values : (s : State) (n v : ℕ) →
     registerValues (settled s (afterWrite s n (written (s .regs) n v)) .regs) ≡ writtenTo n v numbers (registerValues (s .regs))
@@ -107,7 +107,8 @@ done-goes (on (write n v)) w e = write-values (w .state) n v
 done-goes (on (lineByte b)) w e = ap registerValues (settled-same (w .state) false _ (line-same (w .state) b) .regs)
 done-goes (on lineBreak) w e = refl
 done-goes (on key) w e = refl
-done-goes (on nextLineByte) w e = ap registerValues (settled-same (w .state) false _ (given-same (w .state) (nextOut (w .state) (w .tx))) .regs)
+done-goes (on askLineByte) w e = refl
+done-goes (on (takeLineByte b)) w e = ap registerValues (settled-same (w .state) false _ (gone-same (w .state) (nextOut (w .state) (w .tx))) .regs)
 done-goes (on (loopFrame f)) w e =
     ap registerValues
     (settled-same (w .state) (deviceClear (w .state) f) _
@@ -137,7 +138,8 @@ done-stay (on (write n v)) w e = write-sizes (w .state) n v
 done-stay (on (lineByte b)) w e = line-same (w .state) b .sizes
 done-stay (on lineBreak) w e = refl
 done-stay (on key) w e = refl
-done-stay (on nextLineByte) w e = given-same (w .state) (nextOut (w .state) (w .tx)) .sizes
+done-stay (on askLineByte) w e = refl
+done-stay (on (takeLineByte b)) w e = gone-same (w .state) (nextOut (w .state) (w .tx)) .sizes
 done-stay (on (loopFrame f)) w e =
     settled-same (w .state) (deviceClear (w .state) f) _ (frame-same (w .state) (w .rx) f (frameTaken (w .state) (w .rx) f) (way (w .state) (w .rx) f)) .sizes
 

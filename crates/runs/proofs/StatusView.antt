@@ -29,14 +29,14 @@ use Rattle.answers.specs.declared.Answer.the-variants.{Frame}
 use Rattle.answers.specs.Answers.{Said, said, refused}
 use Rattle.state.specs.Conditions.{settled, breakState, keyState}
 use Rattle.state.specs.Conditions as status
-use Rattle.line.specs.HoldingOff.{isGoOrStop, flowed, lostState, storedWith, lineState, resumed, setAfresh, afterWrite, nextOut, afterGiving}
+use Rattle.line.specs.HoldingOff.{isGoOrStop, flowed, lostState, storedWith, lineState, resumed, setAfresh, afterWrite, nextOut, gone}
 use Rattle.loopside.specs.LoopToLine.{addedState}
 use Rattle.talker.specs.Obeying.{obeyedTalker}
 use Rattle.talker.specs.UnderWay.{talking}
 use Rattle.loopside.specs.Sends.{ruleOf, removedState, sendState, sendFrom, sendStatus, ended}
 use Rattle.loopside.specs.Frames.{orderIn, obeyed, frameTaken, deviceClear}
 use Rattle.role.specs.Orders.{isClear}
-use Rattle.bridge.specs.Calls.{Call, on, create, reset, write, lineByte, lineBreak, key, nextLineByte}
+use Rattle.bridge.specs.Calls.{Call, on, create, reset, write, lineByte, lineBreak, key, askLineByte, takeLineByte}
 use Rattle.bridge.specs.Calls.{loopFrame, show, World, Did, outcome, settledBy, refusedOr, step}
 use Rattle.bridge.specs.Calls as calls
 use Rattle.laws.specs.Observers.{taken, dataFrame, asksStatus, statusSent, restarts, clears, empties}
@@ -224,11 +224,11 @@ line-left s b =
     (λ _. record { talker = refl; frame = refl; seen = noting overrun (s .notes .seen); again = noting overrun (s .notes .again) })
     (λ _. same s _ refl))
 
-given-left : (s : State) (o : Out) → Left s (part (afterGiving s o))
-unfolding afterGiving
-given-left s (out.Own b) = same s _ refl
-given-left s (out.Held b) = same s _ refl
-given-left s out.Nothing = same s _ refl
+gone-left : (s : State) (o : Out) → Left s (part (gone s o))
+unfolding gone
+gone-left s (out.Own b) = same s _ refl
+gone-left s (out.Held b) = same s _ refl
+gone-left s out.Nothing = same s _ refl
 
 write-left : (s : State) (n v : ℕ) → Left s (part (afterWrite s n (written (s .regs) n v)))
 unfolding afterWrite setAfresh
@@ -242,7 +242,8 @@ refused-kind (on (write k v)) w n = goesOn refl refl (same _ _ refl)
 refused-kind (on (lineByte b)) w n = goesOn refl refl (same _ _ refl)
 refused-kind (on lineBreak) w n = goesOn refl refl (same _ _ refl)
 refused-kind (on key) w n = goesOn refl refl (same _ _ refl)
-refused-kind (on nextLineByte) w n = goesOn refl refl (same _ _ refl)
+refused-kind (on askLineByte) w n = goesOn refl refl (same _ _ refl)
+refused-kind (on (takeLineByte b)) w n = goesOn refl refl (same _ _ refl)
 refused-kind (on (loopFrame f)) w n = goesOn (same-either (asksStatus (w .state) f) []) refl (same _ _ refl)
 refused-kind (show side) w n = goesOn refl refl (same _ _ refl)
 
@@ -264,6 +265,7 @@ kind (on lineBreak) w =
 kind (on key) w =
     refused-or (on key) w _ _
     (goesOn refl refl (record { talker = refl; frame = refl; seen = noting pressed (w .state .notes .seen); again = noting pressed (w .state .notes .again) }))
-kind (on nextLineByte) w = refused-or (on nextLineByte) w _ _ (goesOn refl refl (given-left (w .state) (nextOut (w .state) (w .tx))))
+kind (on askLineByte) w = refused-or (on askLineByte) w _ _ (goesOn refl refl (same _ _ refl))
+kind (on (takeLineByte b)) w = refused-or (on (takeLineByte b)) w _ _ (goesOn refl refl (gone-left (w .state) (nextOut (w .state) (w .tx))))
 kind (on (loopFrame f)) w = refused-or (on (loopFrame f)) w _ _ (frame-kind w f)
 kind (show side) w = refused-or (show side) w _ _ (goesOn refl refl (same _ _ refl))

@@ -7,7 +7,7 @@ use Rattle.machine.specs.Course as course
 use Rattle.machine.specs.Machine as machine
 use Rattle.machine.proofs.Course.{left-stands}
 use Rattle.answers.specs.Answers.{Said}
-use Rattle.bridge.specs.Calls.{Call, on, create, reset, write, lineByte, lineBreak, key, nextLineByte, loopFrame, show, World, step}
+use Rattle.bridge.specs.Calls.{Call, on, create, reset, write, lineByte, lineBreak, key, askLineByte, takeLineByte, loopFrame, show, World, step}
 use Rattle.laws.specs.Observers.{onFrame}
 use Rattle.laws.specs.Spells as run
 use Rattle.laws.specs.StatusWay as way
@@ -62,7 +62,8 @@ frame-or P p q (on (write n v)) = q (on (write n v)) refl
 frame-or P p q (on (lineByte b)) = q (on (lineByte b)) refl
 frame-or P p q (on lineBreak) = q (on lineBreak) refl
 frame-or P p q (on key) = q (on key) refl
-frame-or P p q (on nextLineByte) = q (on nextLineByte) refl
+frame-or P p q (on askLineByte) = q (on askLineByte) refl
+frame-or P p q (on (takeLineByte b)) = q (on (takeLineByte b)) refl
 frame-or P p q (on (loopFrame f)) = p f
 frame-or P p q (show side) = q (show side) refl
 
@@ -73,6 +74,7 @@ off-frame see x (on (write n v)) e = refl
 off-frame see x (on (lineByte b)) e = refl
 off-frame see x (on lineBreak) e = refl
 off-frame see x (on key) e = refl
-off-frame see x (on nextLineByte) e = refl
+off-frame see x (on askLineByte) e = refl
+off-frame see x (on (takeLineByte b)) e = refl
 off-frame see x (on (loopFrame f)) e = absurd (true≢false e)
 off-frame see x (show side) e = refl

@@ -10,7 +10,7 @@ use Rattle.state.specs.declared.State.{State}
 use Rattle.state.specs.declared.Out.{Out}
 use Rattle.state.specs.declared.Out.the-variants as out
 use Rattle.state.specs.Conditions.{settled, breakState, keyState}
-use Rattle.line.specs.HoldingOff.{isGoOrStop, flowed, lostState, storedWith, lineState, setAfresh, afterWrite, afterGiving}
+use Rattle.line.specs.HoldingOff.{isGoOrStop, flowed, lostState, storedWith, lineState, setAfresh, afterWrite, gone}
 
 -- the talker and the remote flags
 pub record Untouched (s t : State) : Type 0 where
@@ -40,11 +40,11 @@ line-untouched s b =
     by-cond (Untouched s) (isGoOrStop (s .regs) b) _ _ (λ _. record { talker = refl; remote = refl })
     (λ _. by-cond (Untouched s) (full (s .rx)) _ _ (λ _. record { talker = refl; remote = refl }) (λ _. record { talker = refl; remote = refl }))
 
-pub given-untouched : (s : State) (o : Out) → Untouched s (afterGiving s o)
-unfolding afterGiving
-given-untouched s (out.Own b) = record { talker = refl; remote = refl }
-given-untouched s (out.Held b) = record { talker = refl; remote = refl }
-given-untouched s out.Nothing = record { talker = refl; remote = refl }
+pub gone-untouched : (s : State) (o : Out) → Untouched s (gone s o)
+unfolding gone
+gone-untouched s (out.Own b) = record { talker = refl; remote = refl }
+gone-untouched s (out.Held b) = record { talker = refl; remote = refl }
+gone-untouched s out.Nothing = record { talker = refl; remote = refl }
 
 pub write-untouched : (s : State) (n v : ℕ) → Untouched s (afterWrite s n (written (s .regs) n v))
 unfolding afterWrite setAfresh

@@ -1,31 +1,31 @@
--- Each line byte given leaves less to give, so that enough asks end with none. Assumes nothing.
+-- Each line byte taken leaves less to take, so that enough asks end with none. Assumes nothing.
 use Prim.Native.Nat.{ℕ, zero, suc, _+_, _-_, _≤_, _<_}
 use native.Mathlib.Omega.{arith}
-use mathlib.Core.Path.{_≡_, refl, sym, ap}
+use mathlib.Core.Path.{_≡_, refl, sym, ap, subst, _∙_}
 use mathlib.Core.Bool.{Bool, true, false, cond, _||_, false≢true}
 use mathlib.Core.List.{List, [], _∷_}
 use lib.ListN.{length, getD}
 use lib.Dec.{eqb}
 use borrow.Author.Tests.{eqb-false}
-use Rattle.answers.specs.Refusals.{firstRefusal}
 use Rattle.branches.proofs.Branches.{by-cond}
 use Rattle.registers.specs.Meanings.{go, stop}
 use Rattle.store.specs.Ring.{held, dropRing}
 use Rattle.state.specs.declared.State.{State}
 use Rattle.state.specs.declared.Out.{Out}
 use Rattle.state.specs.declared.Out.the-variants.{Own, Held, Nothing}
-use Rattle.answers.specs.Answers.{said, none, isByte, byteIn}
+use Rattle.answers.specs.Answers.{Said, said, done, none, byte, frame, refused, part, cell, lines, isByte, byteIn}
 use Rattle.state.specs.Sizes.{TxFits}
 use Rattle.state.specs.Conditions.{settled}
 use Rattle.state.proofs.Fits.{tx-fits}
-use Rattle.line.specs.HoldingOff.{owed, nextOut, afterGiving, outAnswer}
-use Rattle.bridge.specs.Calls.{on, nextLineByte, World, Did, checksOn, checks, outcome, settledBy, notRefused, refusedOr, step}
+use Rattle.line.specs.HoldingOff.{owed, nextOut, isNext, gone, outAnswer}
+use Rattle.bridge.specs.Calls.{on, askLineByte, takeLineByte, nextIn, World, Did, outcome, settledBy, notRefused, step}
+use Rattle.bridge.proofs.Asks.{ask-fits, take-fits, ask-leaves, asked-next}
 use Rattle.laws.specs.Fitting.{Fits}
 use Rattle.laws.proofs.Fitting.{keeps-fit}
-use Rattle.transcript.specs.Transcript.{lineOut, asks}
+use Rattle.transcript.specs.Transcript.{asked, takenNext, lineOut, asks}
 use Rattle.transcript.specs.UntilNone.{lineWorld, Enough}
 
--- how much there is to give: the bytes held, and the go or stop that is owed
+-- how much there is to take: the bytes held, and the go or stop that is owed
 abbrev pub weight : State → ℕ
 weight s = s .tx .len + cond (owed (s .line)) 1 0
 
@@ -37,66 +37,78 @@ or-right : (a b : Bool) → (a || b) ≡ false → b ≡ false
 or-right false b e = e
 or-right true b e = absurd (false≢true (sym e))
 
-abbrev Falls : State → Out → Type 0
-Falls s o = isByte (said (outAnswer o)) ≡ true → weight (afterGiving s o) < weight s
+module _ (b : ℕ) where
+  abbrev Falls : State → Out → Type 0
+  Falls s o = isNext o b ≡ true → weight (gone s o) < weight s
 
-falls : (s : State) (tx : List ℕ) → Falls s (nextOut s tx)
-unfolding nextOut outAnswer said isByte afterGiving dropRing
-falls s tx =
-    by-cond (Falls s) (owed (s .line)) (Own (cond (s .line .holding) (stop (s .regs)) (go (s .regs)))) _
-    (λ e h. rw (e, paid (s .line .holding) (s .line .forbidden)) (omega arith))
-    (λ e. by-cond (Falls s) (s .line .forbidden || eqb (s .tx .len) 0) Nothing (Held (getD (held tx (s .tx)) 0 0))
-    (λ q h. absurd (false≢true h))
-    (λ q h. let some = eqb-false (s .tx .len) 0 (or-right (s .line .forbidden) (eqb (s .tx .len) 0) q) in rw e (fewer (s .tx .len) some)))
+  falls : (s : State) (tx : List ℕ) → Falls s (nextOut s tx)
+  unfolding nextOut isNext gone dropRing
+  falls s tx =
+      by-cond (Falls s) (owed (s .line)) (Own (cond (s .line .holding) (stop (s .regs)) (go (s .regs)))) _
+      (λ e h. rw (e, paid (s .line .holding) (s .line .forbidden)) (omega arith))
+      (λ e. by-cond (Falls s) (s .line .forbidden || eqb (s .tx .len) 0) Nothing (Held (getD (held tx (s .tx)) 0 0))
+      (λ q h. absurd (false≢true h))
+      (λ q h. let some = eqb-false (s .tx .len) 0 (or-right (s .line .forbidden) (eqb (s .tx .len) 0) q) in rw e (fewer (s .tx .len) some)))
+    where
+      fewer : (n : ℕ) → (n ≡ 0 → ⊥) → n - 1 + 0 < n + 0
+      fewer zero h = absurd (h refl)
+      fewer (suc k) h = omega arith
+
+-- a byte that was asked for is taken, and leaves less
+step-falls : (w : World) → isByte (asked w) ≡ true → weight (takenNext w .state) < weight (w .state)
+unfolding notRefused outcome settledBy settled isByte byteIn
+step-falls w h =
+    let x = asked-next (byteIn (asked w)) w (is-byte (asked w) h) in
+    let q = take-fits (byteIn (asked w)) w (x .0) (x .1) in
+    subst (λ (v : World). weight (step (on (takeLineByte (byteIn (asked w)))) v .world .state) < weight (w .state)) (sym (ask-leaves w))
+    (subst (λ (d : Did). weight (d .world .state) < weight (w .state)) (sym q) (falls (byteIn (asked w)) (w .state) (w .tx) (x .1)))
   where
-    fewer : (n : ℕ) → (n ≡ 0 → ⊥) → n - 1 + 0 < n + 0
-    fewer zero h = absurd (h refl)
-    fewer (suc k) h = omega arith
+    is-byte : (a : Said) → isByte a ≡ true → a ≡ byte (byteIn a)
+    is-byte (byte b) e = refl
+    is-byte done e = absurd (false≢true e)
+    is-byte none e = absurd (false≢true e)
+    is-byte (frame k d) e = absurd (false≢true e)
+    is-byte (refused n) e = absurd (false≢true e)
+    is-byte (part l) e = absurd (false≢true e)
+    is-byte (cell n) e = absurd (false≢true e)
+    is-byte (lines n) e = absurd (false≢true e)
 
-step-falls : (w : World) → isByte (step (on nextLineByte) w .said) ≡ true → weight (step (on nextLineByte) w .world .state) < weight (w .state)
-unfolding step refusedOr notRefused outcome settledBy settled isByte
-step-falls w =
-    by-cond (λ (d : Did). isByte (d .said) ≡ true → weight (d .world .state) < weight (w .state)) (eqb (firstRefusal (checks (on nextLineByte) w)) 0) _ _
-    (λ e. falls (w .state) (w .tx))
-    (λ e h. absurd (false≢true h))
-
--- ---- no byte left to give
+-- ---- no byte left to take
 
 -- a state that fits is not refused, so that an answer which is no byte is none
-no-byte : (w : World) → Fits w → isByte (step (on nextLineByte) w .said) ≡ false → step (on nextLineByte) w .said ≡ none
-unfolding step refusedOr notRefused checksOn checks outcome isByte said outAnswer
-no-byte w e = rw e (go (nextOut (w .state) (w .tx)))
+no-byte : (w : World) → Fits w → isByte (asked w) ≡ false → asked w ≡ none
+unfolding isByte said outAnswer
+no-byte w e =
+    subst (λ (d : Did). isByte (d .said) ≡ false → d .said ≡ none) (sym (ask-fits w e)) (go (nextIn w))
   where
     go : (o : Out) → isByte (said (outAnswer o)) ≡ false → said (outAnswer o) ≡ none
     go (Own b) h = absurd (false≢true (sym h))
     go (Held b) h = absurd (false≢true (sym h))
     go Nothing h = refl
 
--- more asks than there is to give end with none
-pub until-none : (n : ℕ) (w : World) → Fits w → weight (w .state) < n → step (on nextLineByte) (lineWorld n w) .said ≡ none
+taken-fits : (w : World) → Fits w → Fits (takenNext w)
+taken-fits w e = keeps-fit (on (takeLineByte (byteIn (asked w)))) (step (on askLineByte) w .world) tt (keeps-fit (on askLineByte) w tt e)
+
+-- more asks than there is to take end with none
+pub until-none : (n : ℕ) (w : World) → Fits w → weight (w .state) < n → asked (lineWorld n w) ≡ none
 unfolding lineWorld
 until-none zero w e h = absurd (omega arith)
 until-none (suc k) w e h =
-    by-cond (λ (v : World). step (on nextLineByte) v .said ≡ none) (isByte (step (on nextLineByte) w .said)) _ _
-    (λ t. until-none k (step (on nextLineByte) w .world) (keeps-fit (on nextLineByte) w tt e) (omega (arith, step-falls w t)))
+    by-cond (λ (v : World). asked v ≡ none) (isByte (asked w)) _ _
+    (λ t. until-none k (takenNext w) (taken-fits w e) (omega (arith, step-falls w t)))
     (λ t. no-byte w e t)
 
--- asks after none give nothing more
-pub no-more : (n m : ℕ) (w : World) → n ≤ m → isByte (step (on nextLineByte) (lineWorld n w) .said) ≡ false → lineOut m w ≡ lineOut n w
+-- asks after none say nothing more
+pub no-more : (n m : ℕ) (w : World) → n ≤ m → isByte (asked (lineWorld n w)) ≡ false → lineOut m w ≡ lineOut n w
 unfolding lineOut lineWorld
 no-more zero zero w l h = refl
 no-more zero (suc m) w l h = rw h
 no-more (suc n) zero w l h = absurd (omega arith)
-no-more (suc n) (suc m) w l h = pick (no-more n m (step (on nextLineByte) w .world) (omega arith)) (isByte (step (on nextLineByte) w .said)) refl
+no-more (suc n) (suc m) w l h = pick (no-more n m (takenNext w) (omega arith)) (isByte (asked w)) refl
   where
-    next : World
-    next = step (on nextLineByte) w .world
-
-    pick : (isByte (step (on nextLineByte) (lineWorld n next) .said) ≡ false → lineOut m next ≡ lineOut n next) → (t : Bool) →
-        isByte (step (on nextLineByte) w .said) ≡ t →
-        cond (isByte (step (on nextLineByte) w .said)) (byteIn (step (on nextLineByte) w .said) ∷ lineOut m next) []
-        ≡ cond (isByte (step (on nextLineByte) w .said)) (byteIn (step (on nextLineByte) w .said) ∷ lineOut n next) []
-    pick more true e = rw e (ap (λ (bs : List ℕ). byteIn (step (on nextLineByte) w .said) ∷ bs) (more (rw e at h)))
+    pick : (isByte (asked (lineWorld n (takenNext w))) ≡ false → lineOut m (takenNext w) ≡ lineOut n (takenNext w)) → (t : Bool) → isByte (asked w) ≡ t →
+        cond (isByte (asked w)) (byteIn (asked w) ∷ lineOut m (takenNext w)) [] ≡ cond (isByte (asked w)) (byteIn (asked w) ∷ lineOut n (takenNext w)) []
+    pick more true e = rw e (ap (λ (bs : List ℕ). byteIn (asked w) ∷ bs) (more (rw e at h)))
     pick more false e = rw e
 
 at-most-one : (b : Bool) → cond b 1 0 ≤ 1
@@ -108,6 +120,6 @@ pub asks-enough : (w : World) → Fits w → length (w .tx) ≡ 64 → Enough w
 unfolding isByte
 asks-enough w e h =
     let f : TxFits (w .state) (w .tx) = tx-fits (w .state) (w .rx) (w .tx) e in
-    let last : step (on nextLineByte) (lineWorld asks w) .said ≡ none =
+    let last : asked (lineWorld asks w) ≡ none =
     until-none asks w e (omega (arith, f .ring .cap, f .ring .within .len, at-most-one (owed (w .state .line)))) in
     record { answer = last; same = λ n k. no-more asks n w k (ap isByte last) }

@@ -9,13 +9,14 @@ use lib.Dec.{eqb}
 use borrow.Author.Tests.{eq-eqb, ne-eqb, not-true, not-false}
 use Rattle.state.specs.declared.State.{State}
 use Rattle.state.specs.declared.Outcome.{Outcome}
+use Rattle.answers.specs.declared.Answer.{Answer}
 use Rattle.answers.specs.Answers.{said, faultOf, isByte, byteIn}
 use Rattle.bridge.specs.declared.Told.{Told}
-use Rattle.bridge.specs.Calls.{on, write, lineByte, nextLineByte, loopFrame, World, world, Did, did, told, step}
+use Rattle.bridge.specs.Calls.{on, write, lineByte, askLineByte, takeLineByte, loopFrame, World, world, Did, did, told, looked, step}
 use Rattle.transcript.specs.declared.Set.{Set}
 use Rattle.transcript.specs.Text.{decimal, answerText, bytesText, overwritten, Wrote}
 use Rattle.transcript.specs.Input.{high}
-use Rattle.transcript.specs.Transcript.{setRegisters, takeBytes, framesText, framesWorld, Offers, lineOut}
+use Rattle.transcript.specs.Transcript.{setRegisters, takeBytes, framesText, framesWorld, Offers, asked, takenNext, lineOut}
 use Rattle.transcript.proofs.Writing.{overwritten-then, overwritten-none}
 
 none-left : (n : ℕ) → n ≤ 0 → n ≡ 0
@@ -149,22 +150,27 @@ offer-ends {x} {rx} {tx₀} {i} {n} {out₀} {to} {t₀} {tx} {out} {t} {at} {le
 
 -- ---- line bytes out
 
-line-step : (n : ℕ) (w : World) → 0 < n →
-    lineOut n w ≡ cond (isByte (step (on nextLineByte) w .said))
-    (byteIn (step (on nextLineByte) w .said) ∷ lineOut (n - 1) (step (on nextLineByte) w .world)) []
+line-step : (n : ℕ) (w : World) → 0 < n → lineOut n w ≡ cond (isByte (asked w)) (byteIn (asked w) ∷ lineOut (n - 1) (takenNext w)) []
 unfolding lineOut
 line-step n w h = ap (λ (k : ℕ). lineOut k w) (one-left n h)
 
-module _ (rx tx : List ℕ) (t : State) (n : ℕ) (o : Outcome) (r : Bool) (h : 0 < n) (e : did o rx tx ≡ step (on nextLineByte) (world t rx tx))
-    (b : r ≡ isByte (said (o .answer))) where
-  line-is : lineOut n (world t rx tx) ≡ cond (isByte (said (o .answer))) (byteIn (said (o .answer)) ∷ lineOut (n - 1) (world (o .state) rx tx)) []
-  line-is = line-step n (world t rx tx) h ∙ ap (λ (d : Did). cond (isByte (d .said)) (byteIn (d .said) ∷ lineOut (n - 1) (d .world)) []) (sym e)
+module _ (rx tx : List ℕ) (t : State) (n : ℕ) (a : Answer) (r : Bool) (h : 0 < n)
+    (e : looked (said a) (world t rx tx) ≡ step (on askLineByte) (world t rx tx)) (b : r ≡ isByte (said a)) where
+  line-is : lineOut n (world t rx tx) ≡
+      cond (isByte (said a)) (byteIn (said a) ∷ lineOut (n - 1) (step (on (takeLineByte (byteIn (said a)))) (world t rx tx) .world)) []
+  line-is =
+      line-step n (world t rx tx) h
+      ∙ ap (λ (d : Did). cond (isByte (d .said)) (byteIn (d .said) ∷ lineOut (n - 1) (step (on (takeLineByte (byteIn (d .said)))) (d .world) .world)) []) (sym e)
 
   pub line-stops : not r ≡ true → lineOut n (world t rx tx) ≡ []
   line-stops q = line-is ∙ rw (← b, not-true r q)
 
-  pub line-goes : not r ≡ false → lineOut n (world t rx tx) ≡ byteIn (said (o .answer)) ∷ lineOut (n - 1) (world (o .state) rx tx)
-  line-goes q = line-is ∙ rw (← b, not-false r q)
+  -- the byte is taken by its name
+  pub line-goes : (x : ℕ) (o : Outcome) → not r ≡ false → x ≡ byteIn (said a) → did o rx tx ≡ step (on (takeLineByte x)) (world t rx tx) →
+      lineOut n (world t rx tx) ≡ byteIn (said a) ∷ lineOut (n - 1) (world (o .state) rx tx)
+  line-goes x o q p f =
+      line-is ∙ rw (← b, not-false r q)
+      (ap (λ (d : Did). byteIn (said a) ∷ lineOut (n - 1) (d .world)) (sym (f ∙ ap (λ (y : ℕ). step (on (takeLineByte y)) (world t rx tx)) p)))
 
 pub line-none : (n : ℕ) (w : World) → n ≤ 0 → lineOut n w ≡ []
 unfolding lineOut

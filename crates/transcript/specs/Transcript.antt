@@ -6,9 +6,9 @@ use mathlib.Core.List.{List, [], _∷_, _++_}
 use lib.ListN.{length, getD, replicate}
 use lib.Dec.{eqb}
 use Rattle.state.specs.declared.State.{State}
-use Rattle.answers.specs.Answers.{faultOf, isByte, byteIn}
+use Rattle.answers.specs.Answers.{Said, faultOf, isByte, byteIn}
 use Rattle.state.specs.Sizes.{startState}
-use Rattle.bridge.specs.Calls.{on, write, lineByte, nextLineByte, loopFrame, World, world, step}
+use Rattle.bridge.specs.Calls.{on, write, lineByte, askLineByte, takeLineByte, loopFrame, World, world, step}
 use Rattle.transcript.specs.declared.Sections.{Sections}
 use Rattle.transcript.specs.declared.Set.{Set}
 use Rattle.transcript.specs.Input.{high, sectionsOf}
@@ -42,10 +42,17 @@ pub record Offers (n : ℕ) (x : List ℕ) (i : ℕ) (w : World) (out : List ℕ
   pub wrote : Wrote out at (framesText n x i w) out′ r
   pub short : r ≤ at + 12 * n
 
--- the program, then: the line bytes that are given until there is none, in n asks at most
+-- the program, then: what an ask answers, and the world when the byte that it answers is taken
+abbrev pub asked : World → Said
+asked w = step (on askLineByte) w .said
+
+abbrev pub takenNext : World → World
+takenNext w = step (on (takeLineByte (byteIn (asked w)))) (step (on askLineByte) w .world) .world
+
+-- the line bytes that are asked for and taken until there is none, in n asks at most
 unfoldable pub lineOut : ℕ → World → List ℕ
 lineOut zero w = []
-lineOut (suc n) w = cond (isByte (step (on nextLineByte) w .said)) (byteIn (step (on nextLineByte) w .said) ∷ lineOut n (step (on nextLineByte) w .world)) []
+lineOut (suc n) w = cond (isByte (asked w)) (byteIn (asked w) ∷ lineOut n (takenNext w)) []
 
 -- one more than the bytes of a full store, our own go or stop, and the none
 abbrev pub asks : ℕ

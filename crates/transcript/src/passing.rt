@@ -1,4 +1,4 @@
-// The passing of registers, line bytes and frames to the bridge, and the asking for line bytes. The room that a call tells is not printed.
+// The passing of registers, line bytes and frames to the bridge, and the asking for and taking of line bytes. The room that a call tells is not printed.
 ghost use mathlib.Core.Path.{_≡_};
 ghost use Prim.Native.Nat.{_+_, _*_, _≤_, _<_};
 ghost use lib.ListN.{length};
@@ -89,7 +89,7 @@ pub fn offer_frames(
     Offered { state: t, at: k }
 }
 
-// How many line bytes are given until none, in n asks at most.
+// How many line bytes are asked for and taken until none, in n asks at most.
 pub fn count_line(s: State, rx: &[u16], tx: &[u8], n: usize) -> usize
     ensures { λ r. ⌜ (r ≡ length (lineOut n (world s (now (rx .entry)) (now (tx .entry))))) × (r ≤ n) ⌝ }
 {
@@ -97,11 +97,11 @@ pub fn count_line(s: State, rx: &[u16], tx: &[u8], n: usize) -> usize
     let mut left = n;
     let mut k = 0;
     while 0 < left {
-        let o = bridge::next_line_byte(t, rx, tx);
-        let a = o.answer;
+        let a = bridge::ask_line_byte(t, rx, tx);
         if !answers::is_byte(a) {
             return k;
         }
+        let o = bridge::take_line_byte(t, rx, tx, answers::byte_in(a));
         k = k + 1;
         t = o.state;
         left = left - 1;
@@ -109,7 +109,7 @@ pub fn count_line(s: State, rx: &[u16], tx: &[u8], n: usize) -> usize
     k
 }
 
-// Writes the line bytes that are given until none, in n asks at most, each after a space.
+// Writes the line bytes that are asked for and taken until none, in n asks at most, each after a space.
 pub fn put_line(s: State, rx: &[u16], tx: &[u8], n: usize, out: &mut [u8], to: usize) -> usize
     requires { ⌜ to + 4 * n ≤ length (now out) ⌝ }
     ensures { λ r. ⌜ (Wrote (now (out .entry)) to (bytesText (lineOut n (world s (now (rx .entry)) (now (tx .entry))))) (now (out .exit)) r)
@@ -119,12 +119,13 @@ pub fn put_line(s: State, rx: &[u16], tx: &[u8], n: usize, out: &mut [u8], to: u
     let mut left = n;
     let mut k = to;
     while 0 < left {
-        let o = bridge::next_line_byte(t, rx, tx);
-        let a = o.answer;
+        let a = bridge::ask_line_byte(t, rx, tx);
         if !answers::is_byte(a) {
             return k;
         }
-        k = crate::text::put_byte(out, k, answers::byte_in(a));
+        let b = answers::byte_in(a);
+        let o = bridge::take_line_byte(t, rx, tx, b);
+        k = crate::text::put_byte(out, k, b);
         t = o.state;
         left = left - 1;
     }

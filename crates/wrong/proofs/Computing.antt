@@ -21,7 +21,7 @@ use Rattle.talker.specs.TalkerFit as talker-fit
 use Rattle.store.specs.Ring.{fitTest, putRing, putBytes, putsRing, putsBytes, dropRing}
 use Rattle.status.specs.Status.{statusByte}
 use Rattle.sending.specs.Sending.{sendHeld, sentRing}
-use Rattle.answers.specs.Answers.{said}
+use Rattle.answers.specs.Answers.{said, byteIn}
 use Rattle.state.specs.Sizes.{sizesObeyed, startState, fits}
 use Rattle.state.specs.Conditions as status
 use Rattle.line.specs.HoldingOff as line
@@ -36,6 +36,7 @@ use Rattle.laws.specs.StatusWay as way
 use Rattle.laws.specs.Holding as holding
 use Rattle.laws.specs.NextByte as next
 use Rattle.laws.specs.LastSent as last
+use Rattle.laws.specs.AskThenTake as ask-take
 use Rattle.laws.specs.Returns.{finishes}
 use Rattle.laws.specs.Spells.{spells}
 use Rattle.laws.specs.StatusTold.{numberOf}
@@ -73,7 +74,7 @@ stores-open = tt
 
 -- the state, its line and its loop
 unfoldable state-open : Unit {0}
-unfolding said sizesObeyed startState fits status.conditions status.enabledBy status.asking status.settled status.shows status.serviced
+unfolding said byteIn sizesObeyed startState fits status.conditions status.enabledBy status.asking status.settled status.shows status.serviced
 state-open = tt
 
 unfoldable status-open : Unit {0}
@@ -85,7 +86,7 @@ unfolding line.isGoOrStop line.flowed line.storedWith line.lostState line.lineSt
 line-open = tt
 
 unfoldable out-open : Unit {0}
-unfolding line.nextOut line.afterGiving line.outAnswer adds busy addedState addedBytes
+unfolding line.nextOut line.isNext line.gone line.outAnswer adds busy addedState addedBytes
 out-open = tt
 
 unfoldable sends-open : Unit {0}
@@ -119,7 +120,7 @@ unfolding see.bytesAndBreaks see.bytesAndMarks see.added see.handedOut see.resta
 others-open = tt
 
 unfoldable laws-open : Unit {0}
-unfolding holding.sends holding.holdingAfter next.afterByte next.forbiddenAfter next.nextGiven last.lastOf last.lastSent finishes spells numberOf
+unfolding holding.sends holding.holdingAfter next.afterByte next.forbiddenAfter next.nextByte last.lastOf last.lastSent ask-take.givenState finishes spells numberOf
 laws-open = tt
 
 unfoldable roles-said : Unit {0}

@@ -8,6 +8,7 @@ pub mod WrongReads
 pub mod WrongReturns
 pub mod WrongTelling
 pub mod WrongLine
+pub mod WrongAsks
 pub mod WrongHolding
 pub mod WrongGoAndStop
 pub mod WrongCounts

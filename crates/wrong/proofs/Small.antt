@@ -7,9 +7,9 @@ use borrow.Author.Tests.{ltb-true}
 use Rattle.branches.proofs.Branches.{and-left, and-right}
 use Rattle.state.specs.Sizes.{startState}
 use Rattle.machine.specs.Machine.{AllFair}
-use Rattle.bridge.specs.Calls.{reset, write, lineByte, lineBreak, key, nextLineByte, loopFrame, Call, create, show, on, World, Did}
+use Rattle.bridge.specs.Calls.{reset, write, lineByte, lineBreak, key, askLineByte, takeLineByte, loopFrame, Call, create, show, on, World, Did}
 use Rattle.laws.specs.Bridges.{ByteCall, bridge}
-use Rattle.laws.specs.Observers.{onLineByte}
+use Rattle.laws.specs.Observers.{onLineByte, onTake}
 use Rattle.laws.specs.Worlds.{heldCells}
 use Rattle.refuting.proofs.StandsIn.{holds}
 use Rattle.wrong.specs.Trials.{twoLines, full, undecidedBytes, undecided}
@@ -18,7 +18,7 @@ use Rattle.wrong.specs.Trials.{twoLines, full, undecidedBytes, undecided
 
 -- calls that bring bytes, by a test
 abbrev pub byteCall : Call → Bool
-byteCall = onLineByte (λ b. ltb b 256) true
+byteCall c = onLineByte (λ b. ltb b 256) (onTake (λ b. ltb b 256) true c) c
 
 abbrev pub byteCalls : List Call → Bool
 byteCalls [] = true
@@ -32,7 +32,8 @@ fair-call (on (write n v)) e = tt
 fair-call (on (lineByte b)) e = ltb-true b 256 e
 fair-call (on lineBreak) e = tt
 fair-call (on key) e = tt
-fair-call (on nextLineByte) e = tt
+fair-call (on askLineByte) e = tt
+fair-call (on (takeLineByte b)) e = ltb-true b 256 e
 fair-call (on (loopFrame f)) e = tt
 
 pub fair-calls : (B : Call → World → Did) (cs : List Call) → byteCalls cs ≡ true → AllFair (bridge B) cs

@@ -1,10 +1,11 @@
 -- Bridges that forget which of go and stop they sent last, or withhold the one that is owed. Assumes nothing.
+use native.Mathlib.Omega.{arith}
 use mathlib.Core.Path.{refl}
 use mathlib.Core.Bool.{Bool, true, false, false≢true, true≢false}
 use mathlib.Core.List.{List, [], _∷_}
-use Rattle.answers.specs.Answers.{done, byte}
-use Rattle.bridge.specs.Calls.{on, reset, write, nextLineByte, World}
-use Rattle.laws.specs.LastSent.{LastKept, LastSince, OwnGiven}
+use Rattle.answers.specs.Answers.{done}
+use Rattle.bridge.specs.Calls.{on, reset, write, askLineByte, takeLineByte, World}
+use Rattle.laws.specs.LastSent.{LastKept, LastSince, OwnNext}
 use Rattle.refuting.proofs.Apart.{answers-differ}
 use Rattle.refuting.proofs.StandsIn.{holds, no-round}
 use Rattle.wrong.specs.Trials.{cameIn, switchedOff, begunWith, oneForTheLine}
@@ -16,15 +17,15 @@ use Rattle.wrong.proofs.Trying.{in-since, in-between}
 
 -- ---- the last of go and stop that was sent
 
--- the data byte 19 is handed out
+-- the data byte 19 is taken
 pub takes-data-for-stop-falls : Breaks takesDataForStop LastKept
 unfolding computes
-takes-data-for-stop-falls law = true≢false (rw (holds (begunWith 19) 0 1 refl) at (law (on nextLineByte ∷ []) (oneForTheLine 19) tt (tt, tt) refl))
+takes-data-for-stop-falls law = true≢false (rw (holds (begunWith 19) 0 1 refl) at (law (on (takeLineByte 19) ∷ []) (oneForTheLine 19) tt (omega arith, tt) refl))
 
--- our own 19 is handed out
+-- our own 19 is taken
 pub never-records-sent-falls : Breaks neverRecordsSent LastKept
 unfolding computes
-never-records-sent-falls law = false≢true (law (on nextLineByte ∷ []) (cameIn 3 true false) tt (tt, tt) refl)
+never-records-sent-falls law = false≢true (law (on (takeLineByte 19) ∷ []) (cameIn 3 true false) tt (omega arith, tt) refl)
 
 -- a reset where stop was the last
 pub never-records-sent-falls-since : Breaks neverRecordsSent LastSince
@@ -39,7 +40,7 @@ stoppedOff k =
     takes 49 (cameIn 1 false false)
     ∷ takes 50 (cameIn 2 false false)
     ∷ takes 51 (cameIn 3 true false)
-    ∷ leaves nextLineByte (byte 19) (cameIn 3 true true)
+    ∷ leaves (takeLineByte 19) done (cameIn 3 true true)
     ∷ leaves (write 11 0) done (switchedOff (cameIn 3 false k))
     ∷ []
 
@@ -63,17 +64,17 @@ unfolding computes begins stoppedOff
 switch-off-drops-go-falls law =
     false≢true (in-since switchOffDropsGo LastSince fresh begins (stoppedOff false) switch-off-drops-go-runs refl law refl refl)
 
--- nothing is given, where go is owed
-pub switch-off-drops-go-stays-silent : Breaks switchOffDropsGo OwnGiven
+-- nothing is said to be next, where go is owed
+pub switch-off-drops-go-stays-silent : Breaks switchOffDropsGo OwnNext
 unfolding computes begins stoppedOff
 switch-off-drops-go-stays-silent law =
     answers-differ _ _ refl
-    (in-between switchOffDropsGo OwnGiven fresh begins (stoppedOff false) (on nextLineByte) switch-off-drops-go-runs refl law
+    (in-between switchOffDropsGo OwnNext fresh begins (stoppedOff false) (on askLineByte) switch-off-drops-go-runs refl law
     refl refl refl refl refl)
 
-pub withholds-go-when-off-stays-silent : Breaks withholdsGoWhenOff OwnGiven
+pub withholds-go-when-off-stays-silent : Breaks withholdsGoWhenOff OwnNext
 unfolding computes begins stoppedOff
 withholds-go-when-off-stays-silent law =
     answers-differ _ _ refl
-    (in-between withholdsGoWhenOff OwnGiven fresh begins (stoppedOff true) (on nextLineByte) withholds-go-when-off-runs refl law
+    (in-between withholdsGoWhenOff OwnNext fresh begins (stoppedOff true) (on askLineByte) withholds-go-when-off-runs refl law
     refl refl refl refl refl)

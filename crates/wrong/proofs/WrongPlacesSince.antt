@@ -4,11 +4,11 @@ use mathlib.Core.Path.{refl}
 use mathlib.Core.Bool.{true, false, false≢true}
 use mathlib.Core.List.{List, [], _∷_}
 use Rattle.frame.specs.Frame.{made}
-use Rattle.answers.specs.Answers.{byte, frame}
+use Rattle.answers.specs.Answers.{done, frame}
 use Rattle.state.specs.State.{withRx, withTx}
-use Rattle.bridge.specs.Calls.{receive, transmit, World, world, on, nextLineByte, loopFrame}
+use Rattle.bridge.specs.Calls.{receive, transmit, World, world, on, askLineByte, takeLineByte, loopFrame}
 use Rattle.laws.specs.Fitting.{KeepsFit}
-use Rattle.laws.specs.NextByte.{NextGiven}
+use Rattle.laws.specs.NextByte.{NextAsked}
 use Rattle.laws.specs.StorePlaces.{PlacesSince}
 use Rattle.refuting.specs.SmallRings.{ring}
 use Rattle.refuting.proofs.Apart.{lists-differ, answers-differ}
@@ -84,7 +84,7 @@ clearedForLine = leaves (loopFrame clearAll) (frame 4 20) (listenerHolding (begu
 -- "A" comes and is handed out
 abbrev oneHanded : List Turn
 oneHanded =
-    leaves (loopFrame 65) (frame 0 65) (listenerHolding (begunWith 65) 0 1) ∷ leaves nextLineByte (byte 65) (listenerHolding (begunWith 0) 1 0) ∷ []
+    leaves (loopFrame 65) (frame 0 65) (listenerHolding (begunWith 65) 0 1) ∷ leaves (takeLineByte 65) done (listenerHolding (begunWith 0) 1 0) ∷ []
 
 wiping-runs : Does wiping (listenerHolding (begunWith 0) 0 0) (clearedForLine ∷ oneHanded)
 unfolding computes clearedForLine
@@ -103,7 +103,7 @@ fourthCame =
     leaves (loopFrame 65) (frame 0 65) (listenerHolding (begunWith 65) 0 1)
     ∷ leaves (loopFrame 66) (frame 0 66) (listenerHolding (65 ∷ 66 ∷ 0 ∷ []) 0 2)
     ∷ leaves (loopFrame 67) (frame 0 67) (listenerHolding (65 ∷ 66 ∷ 67 ∷ []) 0 3)
-    ∷ leaves nextLineByte (byte 65) (listenerHolding (65 ∷ 66 ∷ 67 ∷ []) 1 2)
+    ∷ leaves (takeLineByte 65) done (listenerHolding (65 ∷ 66 ∷ 67 ∷ []) 1 2)
     ∷ leaves (loopFrame 68) (frame 0 68) (listenerHolding (65 ∷ 68 ∷ 67 ∷ []) 1 3)
     ∷ []
 
@@ -124,7 +124,7 @@ round-to-second-falls law =
 acrossTheEnd : List Turn
 acrossTheEnd =
     leaves (loopFrame 65) (frame 0 65) (listenerHolding (begunWith 65) 0 1)
-    ∷ leaves nextLineByte (byte 65) (listenerHolding (begunWith 65) 1 0)
+    ∷ leaves (takeLineByte 65) done (listenerHolding (begunWith 65) 1 0)
     ∷ leaves (loopFrame (made 2 66)) (frame 2 66) (listenerHolding (65 ∷ 66 ∷ 13 ∷ []) 1 3)
     ∷ []
 
@@ -140,16 +140,16 @@ compares-once-falls law =
     (in-since comparesOnce (PlacesSince transmit) (listenerHolding (begunWith 0) 0 0) clearedForLine acrossTheEnd compares-once-runs refl law
     refl refl)
 
--- ---- what a ring that goes round wrongly breaks besides: the state fits no more, and a byte is handed out that is not the oldest
+-- ---- what a ring that goes round wrongly breaks besides: the state fits no more, and a byte is said to be next that is not the oldest
 
 -- the byte at the last place is handed out, and the next is at place 3 of three
 pub oldest-late-falls : Breaks oldestLate KeepsFit
 unfolding computes
-oldest-late-falls law = false≢true (rw (goes-round 3 3 refl) at (law (on nextLineByte) (listenerHolding (65 ∷ 66 ∷ 67 ∷ []) 2 1) tt refl))
+oldest-late-falls law = false≢true (rw (holds (65 ∷ 66 ∷ 67 ∷ []) 2 1 refl, goes-round 3 3 refl) at (law (on (takeLineByte 67)) (listenerHolding (65 ∷ 66 ∷ 67 ∷ []) 2 1) tt refl))
 
--- "C" is at the last place, and "A" is handed out
-pub reads-across-falls : Breaks readsAcross NextGiven
+-- "C" is at the last place, and "A" is said to be next
+pub reads-across-falls : Breaks readsAcross NextAsked
 unfolding computes
 reads-across-falls law =
     answers-differ _ _ refl
-    (rw (holds (65 ∷ 66 ∷ 67 ∷ []) 2 1 refl) at (law (on nextLineByte) (listenerHolding (65 ∷ 66 ∷ 67 ∷ []) 2 1) tt refl refl))
+    (rw (holds (65 ∷ 66 ∷ 67 ∷ []) 2 1 refl) at (law (on askLineByte) (listenerHolding (65 ∷ 66 ∷ 67 ∷ []) 2 1) tt refl refl))

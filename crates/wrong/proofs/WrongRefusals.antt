@@ -5,7 +5,7 @@ use mathlib.Core.Bool.{false≢true, true≢false}
 use lib.Dec.{eqb}
 use Rattle.frame.specs.Frame.{made}
 use Rattle.answers.specs.Answers.{isRefusal}
-use Rattle.bridge.specs.Calls.{receive, write, key, nextLineByte, show, on, World}
+use Rattle.bridge.specs.Calls.{receive, write, key, askLineByte, show, on, World}
 use Rattle.laws.specs.Answering.{AnswersSo, RefusedExactly}
 use Rattle.laws.specs.Demands.{RefusedStays, OneFrameOut}
 use Rattle.wrong.specs.SmallWorlds.{fresh, misfitting, listening, nearlyFull, takes, takesCommand}
@@ -19,7 +19,7 @@ use Rattle.wrong.proofs.Computing.{computes}
 
 pub done-for-none-falls : Breaks doneForNone AnswersSo
 unfolding computes
-done-for-none-falls law = false≢true (law (on nextLineByte) fresh tt)
+done-for-none-falls law = false≢true (law (on askLineByte) fresh tt)
 
 pub refuses-to-show-falls : Breaks refusesToShow AnswersSo
 unfolding computes

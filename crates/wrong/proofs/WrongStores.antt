@@ -5,11 +5,12 @@ use mathlib.Core.Path.{_≡_, refl, ap}
 use mathlib.Core.Bool.{false≢true, true≢false}
 use lib.Dec.{eqb}
 use Rattle.store.proofs.Laws.{wrap-low}
-use Rattle.bridge.specs.Calls.{receive, transmit, write, lineByte, nextLineByte, create, on}
+use Rattle.bridge.specs.Calls.{receive, transmit, write, lineByte, takeLineByte, create, on}
 use Rattle.laws.specs.StorePlaces.{Places}
 use Rattle.laws.specs.Fitting.{KeepsFit, CreateMakesFit, KeepsStores}
 use Rattle.wrong.specs.SmallWorlds.{fresh, holdingBytes, takesCommand}
-use Rattle.wrong.specs.Trials.{oneForTheLine}
+use Rattle.refuting.proofs.StandsIn.{holds}
+use Rattle.wrong.specs.Trials.{begunWith, oneForTheLine}
 use Rattle.wrong.specs.Changing.{heedless}
 use Rattle.wrong.specs.WrongStores.{oneTooFar, clearsInPlace, wiping, growing, clearsAway, createsAlike}
 use Rattle.wrong.specs.Broken.{Breaks}
@@ -32,7 +33,7 @@ clears-in-place-falls law =
 
 pub wiping-falls : Breaks wiping (Places transmit)
 unfolding computes
-wiping-falls law = true≢false (ap (hasAt 0 0) (law (on nextLineByte) (oneForTheLine 65) tt .bytes))
+wiping-falls law = true≢false (rw (holds (begunWith 65) 0 1 refl) at (ap (hasAt 0 0) (law (on (takeLineByte 65)) (oneForTheLine 65) tt .bytes)))
 
 -- ---- the stores themselves
 

@@ -8,6 +8,7 @@ pub mod WrongSends
 pub mod WrongReturns
 pub mod WrongTelling
 pub mod WrongLine
+pub mod WrongAsks
 pub mod WrongHolding
 pub mod WrongCounts
 pub mod SmallWorlds

@@ -9,6 +9,7 @@ use Rattle.registers.specs.Writing.{written}
 use Rattle.role.specs.Role.{startRole, addressed, activeData, activeStatus, withPhase, withListener}
 use Rattle.state.specs.Sizes.{startState}
 use Rattle.state.specs.State.{withRegisters, withRx, withTx, withLine, withCounts}
+use Rattle.line.specs.HoldingOff.{withHolding}
 use Rattle.bridge.specs.Calls.{World, world}
 use Rattle.laws.specs.Events.{Event, broken, overrun, pressed}
 use Rattle.refuting.specs.SmallRings.{ring}
@@ -159,6 +160,14 @@ begunWith b = b ∷ 0 ∷ 0 ∷ []
 
 abbrev pub oneForTheLine : ℕ → World
 oneForTheLine b = world (withTx (startState 1 4 3) (ring 3 0 1)) oneToFour (begunWith b)
+
+-- the same when it is gone
+abbrev pub goneFromLine : ℕ → World
+goneFromLine b = having (λ s. withTx s (ring 3 1 0)) (oneForTheLine b)
+
+-- one where stop has become due
+abbrev pub stopIsDue : World → World
+stopIsDue = having (λ s. withHolding s true)
 
 -- a listener that adds C02, C03 to an end byte
 abbrev pub listenerAddingEnds : World

@@ -7,15 +7,15 @@ use lib.ListN.{length}
 use Rattle.registers.specs.Meanings.{protocolOn}
 use Rattle.answers.specs.Answers.{none}
 use Rattle.state.specs.State.{withTx}
-use Rattle.bridge.specs.Calls.{nextLineByte, Call, World, Did, step}
-use Rattle.laws.specs.Observers.{onOne, added, handedOut, owes, clears}
+use Rattle.bridge.specs.Calls.{askLineByte, Call, World, Did, step}
+use Rattle.laws.specs.Observers.{onOne, onTake, added, handedOut, owes, clears}
 use Rattle.laws.specs.Worlds.{protocol, forbidden}
 use Rattle.laws.specs.Holding.{writesR11}
 use Rattle.wrong.specs.Seeing.{Sight, afterSight, insteadAt, only, always, having, inState, withForbidden, withStopped}
 
--- hands out a line byte and still holds it
+-- a line byte is taken and it still holds it
 abbrev pub stuttering : Call → World → Did
-stuttering = afterSight (λ c w a. onOne nextLineByte true false c) (λ before after. withTx after (before .tx))
+stuttering = afterSight (λ c w a. onTake (λ b. true) false c) (λ before after. withTx after (before .tx))
 
 -- leaves out C03 behind an end byte
 abbrev pub leavesOutC03 : Call → World → Did
@@ -40,24 +40,28 @@ neverRecordsSent = afterSight always (λ before after. withStopped after (before
 abbrev pub switchOffDropsGo : Call → World → Did
 switchOffDropsGo = afterSight (λ c w a. writesR11 c a) (λ before after. cond (protocolOn (after .regs)) after (withStopped after false))
 
--- the next line byte is asked for while a character of our own is owed
+-- the next line byte is asked for, or a line byte is taken
+abbrev pub ofNext : Call → Bool
+ofNext c = onOne askLineByte true (onTake (λ b. true) false c) c
+
+-- the same while a character of our own is owed
 abbrev pub owesOwn : Sight
-owesOwn c w a = onOne nextLineByte (owes (w .state .line .stopped) w) false c
+owesOwn c w a = ofNext c && owes (w .state .line .stopped) w
 
--- the same slip in another way: knows that it owes go, and gives none while the protocol is off
+-- the same slip in another way: knows that it owes go, and says none while the protocol is off
 abbrev pub withholdsGoWhenOff : Call → World → Did
-withholdsGoWhenOff = insteadAt (λ c w a. not (protocol w) && owesOwn c w a) (λ c w. only none w)
+withholdsGoWhenOff = insteadAt (λ c w a. not (protocol w) && (onOne askLineByte true false c && owesOwn c w a)) (λ c w. only none w)
 
--- gives what it holds before its own go or stop: it acts as if none were owed
+-- what it holds goes before its own go or stop: it acts as if none were owed
 abbrev pub dataBeforeOwn : Call → World → Did
 dataBeforeOwn =
     insteadAt owesOwn
     (λ c w. inState (λ s. withStopped s (w .state .line .stopped)) (step c (having (λ s. withStopped s (s .line .holding)) w)))
 
--- gives a byte while the other end forbids it
+-- a byte goes while the other end forbids it
 abbrev pub givesWhileForbidden : Call → World → Did
 givesWhileForbidden =
-    insteadAt (λ c w a. onOne nextLineByte (forbidden w) false c)
+    insteadAt (λ c w a. ofNext c && forbidden w)
     (λ c w. inState (λ s. withForbidden s true) (step c (having (λ s. withForbidden s false) w)))
 
 -- keeps the other end's stop at a device clear

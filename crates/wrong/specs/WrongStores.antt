@@ -7,8 +7,8 @@ use lib.ListN.{length, set, getD}
 use Rattle.store.specs.Ring.{emptyRing, dropRing}
 use Rattle.answers.specs.Answers.{done, byte}
 use Rattle.state.specs.State.{withRx, withTx}
-use Rattle.bridge.specs.Calls.{receive, Call, World, world, Did, step}
-use Rattle.laws.specs.Observers.{any, accepted, breaks, lost, added, handedOut, clears}
+use Rattle.bridge.specs.Calls.{receive, askLineByte, Call, World, world, Did, step}
+use Rattle.laws.specs.Observers.{any, lineByteOf, onOne, accepted, breaks, lost, added, handedOut, clears}
 use Rattle.places.specs.OneStore.{nextPlace, writtenFrom}
 use Rattle.reading.specs.Received.{markedCell}
 use Rattle.laws.specs.StorePlaces.{writtenTo}
@@ -29,7 +29,7 @@ oneTooFar =
 abbrev pub clearsInPlace : Call → World → Did
 clearsInPlace = afterwards (λ c w s. cond (clears c w done) (withRx s (dropRing (w .state .rx) (w .state .rx .len))) s)
 
--- writes 0 over the byte that it hands out
+-- writes 0 over the byte that is taken
 abbrev pub wiping : Call → World → Did
 wiping = leaving (λ c w v. world (v .state) (v .rx) (cond (any (handedOut c w (step c w .said))) (set (w .tx) (w .state .tx .oldest) 0) (v .tx)))
 
@@ -71,10 +71,11 @@ oldestLate =
     (λ c w s. cond (any (handedOut c w (step c w .said)) && eqb (s .tx .oldest) 0)
     (withTx s (record { cap = s .tx .cap; oldest = s .tx .cap; len = s .tx .len })) s)
 
--- hands out the byte of place 0 in the place of the one at the last place
+-- says the byte of place 0 where the one at the last place is next
 abbrev pub readsAcross : Call → World → Did
 readsAcross =
-    answering (λ c w a. cond (any (handedOut c w a) && eqb (w .state .tx .oldest + 1) (length (w .tx))) (byte (getD (w .tx) 0 0)) a)
+    answering
+    (λ c w a. onOne askLineByte (cond (any (lineByteOf a) && eqb (w .state .tx .oldest + 1) (length (w .tx))) (byte (getD (w .tx) 0 0)) a) a c)
 
 -- ---- the stores themselves
 

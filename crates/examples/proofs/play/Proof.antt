@@ -8,7 +8,7 @@ use Rattle.examples.proofs.play.Tie as tie
 
 abbrev Inv-loop : tie.InvT-loop
 Inv-loop script from rx₀ tx₀ s₀ at₀ rx tx s at =
-    ((length rx ≡ length rx₀) × (length tx ≡ length tx₀)) × ((at ≤ length script) × (length script ≤ 4096))
+    ((length rx ≡ length rx₀) × (length tx ≡ length tx₀)) × ((at ≤ length script) × (length script ≤ 8192))
 
 abbrev μ-loop : tie.MeasureT-loop
 μ-loop script from rx₀ tx₀ s₀ at₀ rx tx s at = length script - at

@@ -20,8 +20,8 @@ abbrev μ-loop : tie.MeasureT-loop
 loop-holds : tie.Need-loop-holds Inv-loop μ-loop
 loop-holds c = (rest-start _ _ _, (omega arith, c .before .before .before .pre))
 
-next-line-byte-requires : tie.Need-next-line-byte-requires Inv-loop μ-loop
-next-line-byte-requires c κs = search needs
+ask-line-byte-requires : tie.Need-ask-line-byte-requires Inv-loop μ-loop
+ask-line-byte-requires c κs = search needs
 
 is-byte-requires : tie.Need-is-byte-requires Inv-loop μ-loop
 is-byte-requires c κs = search needs
@@ -31,7 +31,7 @@ same-length c = c .before .before .before .before .loop .inv .0 .size
 
 returns : tie.Need-returns Inv-loop μ-loop
 returns c = (
-  bytes-end (line-stops _ _ _ _ _ _ (c .before .before .before .loop-test .taken) (c .before .before .next-line-byte .ensures)
+  bytes-end (line-stops _ _ _ _ _ _ (c .before .before .before .loop-test .taken) (c .before .before .ask-line-byte .ensures)
       (c .before .is-byte .ensures) (c .if1 .taken)) (c .before .before .before .before .loop .inv .0),
   omega (arith, c .before .before .before .before .loop .inv .1 .0),
 )
@@ -39,45 +39,50 @@ returns c = (
 byte-in-requires : tie.Need-byte-in-requires Inv-loop μ-loop
 byte-in-requires c κs = search needs
 
+take-line-byte-requires : tie.Need-take-line-byte-requires Inv-loop μ-loop
+take-line-byte-requires c κs = search needs
+
 put-byte-requires : tie.Need-put-byte-requires Inv-loop μ-loop
 put-byte-requires c κs =
     omega (
       arith,
-      c .before .before .before .before .before .loop-test .taken,
-      c .before .before .before .before .before .before .loop .inv .1 .0,
-      c .before .before .before .before .before .before .loop .inv .1 .1,
+      c .before .before .before .before .before .before .loop-test .taken,
+      c .before .before .before .before .before .before .before .loop .inv .1 .0,
+      c .before .before .before .before .before .before .before .loop .inv .1 .1,
     )
 
 sub-left : tie.Need-sub-left Inv-loop μ-loop
-sub-left c = omega (arith, c .before .before .before .before .before .before .before .before .before .loop-test .taken)
+sub-left c = omega (arith, c .before .before .before .before .before .before .before .before .before .before .loop-test .taken)
 
 loop-less : tie.Need-loop-less Inv-loop μ-loop
-loop-less c = omega (arith, c .before .before .before .before .before .before .before .before .before .loop-test .taken)
+loop-less c = omega (arith, c .before .before .before .before .before .before .before .before .before .before .loop-test .taken)
 
 loop-again : tie.Need-loop-again Inv-loop μ-loop
 loop-again c = (
   bytes-again _ _ _
       (omega (
         arith,
-        c .before .before .before .before .before .before .before .before .before .before .loop .inv .1 .0,
-        c .before .before .before .before .before .before .before .before .before .before .loop .inv .1 .1,
+        c .before .before .before .before .before .before .before .before .before .before .before .loop .inv .1 .0,
+        c .before .before .before .before .before .before .before .before .before .before .before .loop .inv .1 .1,
       ))
-      (line-goes _ _ _ _ _ _ (c .before .before .before .before .before .before .before .before .before .loop-test .taken)
-      (c .before .before .before .before .before .before .before .before .next-line-byte .ensures)
-      (c .before .before .before .before .before .before .before .is-byte .ensures)
-      (c .before .before .before .before .before .before .if1 .left)) (c .before .before .before .before .byte-in .ensures)
-      (c .before .before .before .before .before .before .before .before .before .before .loop .inv .0)
+      (line-goes _ _ _ _ _ _ (c .before .before .before .before .before .before .before .before .before .before .loop-test .taken)
+      (c .before .before .before .before .before .before .before .before .before .ask-line-byte .ensures)
+      (c .before .before .before .before .before .before .before .before .is-byte .ensures)
+      _ _ (c .before .before .before .before .before .before .before .if1 .left)
+      (c .before .before .before .before .before .before .byte-in .ensures) (c .before .before .before .before .before .take-line-byte .ensures))
+      (c .before .before .before .before .before .before .byte-in .ensures)
+      (c .before .before .before .before .before .before .before .before .before .before .before .loop .inv .0)
       (c .before .before .before .put-byte .ensures .0),
   (
     omega (
       arith,
-      c .before .before .before .before .before .before .before .before .before .loop-test .taken,
-      c .before .before .before .before .before .before .before .before .before .before .loop .inv .1 .0,
+      c .before .before .before .before .before .before .before .before .before .before .loop-test .taken,
+      c .before .before .before .before .before .before .before .before .before .before .before .loop .inv .1 .0,
       c .before .before .before .put-byte .ensures .1,
     ),
     omega (
       arith,
-      c .before .before .before .before .before .before .before .before .before .before .loop .inv .1 .1,
+      c .before .before .before .before .before .before .before .before .before .before .before .loop .inv .1 .1,
       c .before .before .before .put-byte .ensures .0 .size,
     ),
   ),
@@ -96,11 +101,12 @@ put-line-spec =
     Inv-loop
     μ-loop
     loop-holds
-    next-line-byte-requires
+    ask-line-byte-requires
     is-byte-requires
     same-length
     returns
     byte-in-requires
+    take-line-byte-requires
     put-byte-requires
     sub-left
     loop-less

@@ -1,8 +1,8 @@
 use mathlib.Core.Path.{sym, _∙_}
 use Rattle.line.proofs.Parts.{given-some, given-own, given-held, given-none}
 use borrow.Author.Needs.{needs}
-use Rattle.line.proofs.after_giving.Statement.{statement}
-use Rattle.line.proofs.after_giving.Tie as tie
+use Rattle.line.proofs.gone.Statement.{statement}
+use Rattle.line.proofs.gone.Tie as tie
 
 drop-oldest-requires : tie.Need-drop-oldest-requires
 drop-oldest-requires c κs =
@@ -20,8 +20,8 @@ returns-3 : tie.Need-returns-3
 returns-3 c =
     given-none _ _ (c .enum-told .given .1)
 
-pub after-giving-spec : {M : Type 1} → statement M
-after-giving-spec =
+pub gone-spec : {M : Type 1} → statement M
+gone-spec =
     tie.close
     (tie.spec
     (λ c. search needs)
