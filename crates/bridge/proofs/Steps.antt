@@ -84,7 +84,7 @@ module _ (s : State) (rx tx : List ℕ) (e : fits s (length rx) (length tx) ≡ 
   unfolding step checks refusedOr said
   refused-told c n t h d q = ap (λ (x : Told). told x rx tx) q ∙ sym (rw (e, ← h, ne-eqb n 0 d))
 
-  -- a call that has nothing to hand out, and tells no room
+  -- a call that answers no more than done, and tells no room
   pub done-met : (c : OnState) (o : Outcome) (rx′ tx′ : List ℕ) (t : State) → firstRefusal (checksOn c (world s rx tx)) ≡ 0 → ((q : State) → roomOf c q ≡ 0) →
       doneWith t ≡ outcome c (world s rx tx) → settled s t ≡ settledBy c s t → rx′ ≡ rxAfter c (world s rx tx) → tx′ ≡ txAfter c (world s rx tx) →
       o ≡ settledOutcome s (doneWith t) → did o rx′ tx′ ≡ step (on c) (world s rx tx)

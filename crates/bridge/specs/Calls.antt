@@ -152,15 +152,15 @@ unfoldable pub heldLine : State → ℕ → Bool
 heldLine s n = ltb 0 (s .rx .len) && ofReadingRule n
 
 -- what goes out next on the line
-abbrev pub nextIn : World → Out
-nextIn w = nextOut (w .state) (w .tx)
+abbrev pub nextOf : World → Out
+nextOf w = nextOut (w .state) (w .tx)
 
 -- the table after that, in the order of its numbers: a register write has 5 to 8, which look at the registers alone, and 10, which looks at
 -- the receive store; a loop frame has 3 and 4; Ask, then take, 12: nothing is next, or the byte named is not
 unfoldable pub checksOn : OnState → World → List Check
 checksOn (write n v) w = writeChecks (w .state .regs) n v ++ (check 10 (heldLine (w .state) n) ∷ [])
 checksOn (loopFrame f) w = check 3 (ltb 2047 f) ∷ check 4 (busy (w .state) f) ∷ []
-checksOn (takeLineByte b) w = check 12 (not (isNext (nextIn w) b)) ∷ []
+checksOn (takeLineByte b) w = check 12 (not (isNext (nextOf w) b)) ∷ []
 checksOn reset w = []
 checksOn (lineByte b) w = []
 checksOn lineBreak w = []
@@ -192,8 +192,8 @@ outcome (write n v) w = doneWith (afterWrite (w .state) n (written (w .state .re
 outcome (lineByte b) w = doneWith (lineState (w .state) b)
 outcome lineBreak w = doneWith (breakState (w .state))
 outcome key w = doneWith (keyState (w .state))
-outcome askLineByte w = record { state = w .state; answer = outAnswer (nextIn w) }
-outcome (takeLineByte b) w = doneWith (gone (w .state) (nextIn w))
+outcome askLineByte w = record { state = w .state; answer = outAnswer (nextOf w) }
+outcome (takeLineByte b) w = doneWith (gone (w .state) (nextOf w))
 outcome (loopFrame f) w = frameTaken (w .state) (w .rx) f
 
 -- Status byte, requests: one begins in any call on a state, and a device clear leaves none

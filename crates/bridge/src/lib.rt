@@ -36,7 +36,7 @@ fn alone(s: State, n: u8) -> Told
     }
 }
 
-// What a call on a state gives that has nothing to hand out.
+// What a call on a state gives that answers no more than done.
 fn done(before: State, after: State) -> Outcome
     ensures { λ r. ⌜ r ≡ settledOutcome before (doneWith after) ⌝ }
 {
@@ -149,7 +149,7 @@ pub fn ask_line_byte(s: State, rx: &[u16], tx: &[u8]) -> Answer
     line::out_answer(o)
 }
 
-// Marks the line byte of this name as gone, if it is the next one.
+// Takes the line byte that is named: if it is the next one it is gone, and any other is refused.
 pub fn take_line_byte(s: State, rx: &[u16], tx: &[u8], b: u8) -> Outcome
     ensures { λ r. ⌜ Promised (on (takeLineByte b)) (world s (now (rx .entry)) (now (tx .entry))) (did r (now (rx .entry)) (now (tx .entry))) ⌝ }
 {

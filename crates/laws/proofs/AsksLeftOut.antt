@@ -1,47 +1,45 @@
--- A run goes as it goes without its asks. Assumes nothing.
+-- A machine whose asks leave all that it keeps goes as it goes without them. Assumes nothing.
 use mathlib.Core.Path.{_≡_, refl, ap, _∙_}
-use mathlib.Core.Bool.{Bool, true, false, cond, false≢true}
+use mathlib.Core.Bool.{Bool, true, false, false≢true}
 use mathlib.Core.List.{List, [], _∷_}
-use Rattle.machine.specs.Course as course
-use Rattle.machine.specs.Machine as machine
-use Rattle.machine.specs.Machine.{Obeys}
-use Rattle.bridge.specs.Calls.{reset, write, lineByte, lineBreak, key, askLineByte, takeLineByte, loopFrame, Call, create, show, on, World, Did}
-use Rattle.laws.specs.Bridges.{Saw, bridge}
-use Rattle.laws.specs.AskThenTake.{AskLooks}
-use Rattle.laws.specs.AsksLeftOut.{isAsk, withoutAsks, seenWithoutAsks, LeftOut, AsksLeftOut}
+use Rattle.machine.specs.Course.{Seen}
+use Rattle.machine.specs.Machine.{Machine, seen, course, finally}
+use Rattle.bridge.specs.Calls.{reset, write, lineByte, lineBreak, key, askLineByte, takeLineByte, loopFrame, Call, create, show, on, World}
+use Rattle.laws.specs.Observers.{isAsk}
+use Rattle.laws.specs.AsksLeftOut.{withoutAsks, seenWithoutAsks, LeftOut, AsksLeftOut}
 
--- no other call is one
-is-ask : (c : Call) → isAsk c ≡ true → c ≡ on askLineByte
-is-ask (create m) e = absurd (false≢true e)
-is-ask (show side) e = absurd (false≢true e)
-is-ask (on reset) e = absurd (false≢true e)
-is-ask (on (write n v)) e = absurd (false≢true e)
-is-ask (on (lineByte b)) e = absurd (false≢true e)
-is-ask (on lineBreak) e = absurd (false≢true e)
-is-ask (on key) e = absurd (false≢true e)
-is-ask (on askLineByte) e = refl
-is-ask (on (takeLineByte b)) e = absurd (false≢true e)
-is-ask (on (loopFrame f)) e = absurd (false≢true e)
+-- what holds of an ask holds of a call that is one
+pub at-ask : (P : Call → Type 0) → P (on askLineByte) → (c : Call) → isAsk c ≡ true → P c
+at-ask P p (create m) e = absurd (false≢true e)
+at-ask P p (show side) e = absurd (false≢true e)
+at-ask P p (on reset) e = absurd (false≢true e)
+at-ask P p (on (write n v)) e = absurd (false≢true e)
+at-ask P p (on (lineByte b)) e = absurd (false≢true e)
+at-ask P p (on lineBreak) e = absurd (false≢true e)
+at-ask P p (on key) e = absurd (false≢true e)
+at-ask P p (on askLineByte) e = p
+at-ask P p (on (takeLineByte b)) e = absurd (false≢true e)
+at-ask P p (on (loopFrame f)) e = absurd (false≢true e)
 
-module _ (B : Call → World → Did) (law : Obeys (bridge B) AskLooks) where
-  abbrev seenOf : List Call → World → List Saw
-  seenOf cs w = machine.course (bridge B) cs w
-
+module _ {Said : Type 0} (M : Machine World Call Said) (leaves : (o : M .Own) → M .after (on askLineByte) o ≡ o) where
   -- by whether the first call is an ask
-  first-out : (c : Call) (cs : List Call) (w : World) → LeftOut B cs (B c w .world) → LeftOut B (c ∷ cs) w
-  unfolding withoutAsks seenWithoutAsks machine.course course.end
-  first-out c cs w rest = by-kind (isAsk c) refl
+  first-out : (c : Call) (cs : List Call) (o : M .Own) → LeftOut M cs (M .after c o) → LeftOut M (c ∷ cs) o
+  unfolding withoutAsks seenWithoutAsks course finally
+  first-out c cs o rest = by-kind (isAsk c) refl
     where
-      by-kind : (t : Bool) → isAsk c ≡ t → LeftOut B (c ∷ cs) w
+      by-kind : (t : Bool) → isAsk c ≡ t → LeftOut M (c ∷ cs) o
       by-kind true e =
-          let same : B c w .world ≡ w = law c w tt (is-ask c e) in
+          let same : M .after c o ≡ o = at-ask (λ c. M .after c o ≡ o) (leaves o) c e in
           record {
-            seen = rw e (rest .seen ∙ ap (seenOf (withoutAsks cs)) same);
-            end = rw e (rest .end ∙ (λ i. course.end (same i) (seenOf (withoutAsks cs) (same i))));
+            seen = rw e (rest .seen ∙ ap (course M (withoutAsks cs)) same);
+            end = rw e (rest .end ∙ ap (λ (q : M .Own). M .stands (finally M (withoutAsks cs) q)) same);
           }
-      by-kind false e = record { seen = rw e (ap (λ (ss : List Saw). machine.seen (bridge B) c w ∷ ss) (rest .seen)); end = rw e (rest .end) }
+      by-kind false e = record { seen = rw e (ap (λ (ss : List (Seen World Call Said)). seen M c o ∷ ss) (rest .seen)); end = rw e (rest .end) }
 
-pub asks-left-out : AsksLeftOut
-unfolding withoutAsks seenWithoutAsks machine.course course.end
-asks-left-out B law [] w = record { seen = refl; end = refl }
-asks-left-out B law (c ∷ cs) w = first-out B law c cs w (asks-left-out B law cs (B c w .world))
+  out : (cs : List Call) (o : M .Own) → LeftOut M cs o
+  unfolding withoutAsks seenWithoutAsks course finally
+  out [] o = record { seen = refl; end = refl }
+  out (c ∷ cs) o = first-out c cs o (out cs (M .after c o))
+
+  pub left-out : AsksLeftOut M
+  left-out cs o fine fair = out cs o

@@ -28,7 +28,7 @@ use Rattle.reading.specs.Received.{markedCell}
 use Rattle.line.specs.Breaks.{breakCells}
 use Rattle.line.proofs.Breaks.{break-marks, break-nothing}
 use Rattle.line.specs.HoldingOff.{isGoOrStop, flowed, lostState, storedWith, storedState, lineState, lineBytes, setAfresh, afterWrite, nextOut, gone}
-use Rattle.line.proofs.Parts.{given-some}
+use Rattle.line.proofs.Parts.{gone-some}
 use Rattle.loopside.specs.LoopToLine.{adds, busy, addedBytes}
 use Rattle.loopside.specs.Frames.{frameTaken, deviceClear, addsBytes, frameBytes}
 use Rattle.bridge.specs.Calls.{Store, receive, transmit, reset, write, lineByte, lineBreak, key, askLineByte, takeLineByte, loopFrame, Call, create, show, on}
@@ -116,7 +116,7 @@ module _ (w : World) (e : Fits w) where
   gone-tx : (o : Out) → o ≡ nextOut (w .state) (w .tx) → nextPlace (length (w .tx)) (gone (w .state) o .tx) ≡ nextPlace (length (w .tx)) (w .state .tx)
   unfolding gone
   gone-tx (out.Own b) h = refl
-  gone-tx (out.Held b) h = places-go-on .removed (w .tx) (w .state .tx) 1 (g .ring) (given-some (w .state) (w .tx) b h)
+  gone-tx (out.Held b) h = places-go-on .removed (w .tx) (w .state .tx) 1 (g .ring) (gone-some (w .state) (w .tx) b h)
   gone-tx out.Nothing h = refl
 
   -- ---- a frame

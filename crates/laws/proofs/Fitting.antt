@@ -34,7 +34,7 @@ use Rattle.cells.proofs.Newest.{replaced-size}
 use Rattle.line.specs.Breaks.{breakCells}
 use Rattle.line.specs.HoldingOff.{isGoOrStop, flowed, storedWith, storedState, lostState, lineState}
 use Rattle.line.specs.HoldingOff.{lineBytes, resumed, setAfresh, afterWrite, nextOut, gone}
-use Rattle.line.proofs.Parts.{given-some}
+use Rattle.line.proofs.Parts.{gone-some}
 use Rattle.loopside.specs.LoopToLine.{adds, addedState, addedBytes}
 use Rattle.loopside.specs.Sends.{ruleOf, ended, removedState, sendState, sendFrom, sendStatus}
 use Rattle.loopside.specs.Frames.{orderIn, frameTaken, deviceClear, addsBytes, frameBytes}
@@ -154,7 +154,7 @@ module _ (rx tx : List ℕ) where
     gone-good (out.Own x) h = unfold fits in e
     gone-good (out.Held x) h =
         fits-with-tx (store-ring.dropRing (s .tx) 1)
-        (store-laws.drop-fit tx (s .tx) 1 (tx-fits s rx tx e .ring) (given-some s tx x h))
+        (store-laws.drop-fit tx (s .tx) 1 (tx-fits s rx tx e .ring) (gone-some s tx x h))
     gone-good out.Nothing h = e
 
     left-good : (f : ℕ) → G (addedState s f)

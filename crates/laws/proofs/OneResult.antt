@@ -29,6 +29,7 @@ one-result =
       calls = λ c w o₁ o₂ rx₁ rx₂ tx₁ tx₂ p q. same o₁ o₂ 0 0 rx₁ rx₂ tx₁ tx₂ (p ∙ sym q);
       tells = λ c w t₁ t₂ rx₁ rx₂ tx₁ tx₂ p q.
           record { outcome = same _ _ _ _ rx₁ rx₂ tx₁ tx₂ (p ∙ sym q); room = ap (λ (d : Did). d .room) (p ∙ sym q) };
+      asked = λ w a₁ a₂ p q. said-one a₁ a₂ (ap (λ (d : Did). d .said) (p ∙ sym q));
       shown = λ side w x₁ x₂ p q. let e : part x₁ ≡ part x₂ = ap (λ (d : Did). d .said) (p ∙ sym q) in cc;
     }
 

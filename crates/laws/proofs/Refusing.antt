@@ -10,7 +10,7 @@ use Rattle.branches.proofs.Branches.{by-cond}
 use Rattle.registers.specs.Writing.{writeChecks}
 use Rattle.line.specs.HoldingOff.{isNext}
 use Rattle.loopside.specs.LoopToLine.{busy}
-use Rattle.bridge.specs.Calls.{heldLine, nextIn, OnState, write, takeLineByte, loopFrame, Call, on, World, Did}
+use Rattle.bridge.specs.Calls.{heldLine, nextOf, OnState, write, takeLineByte, loopFrame, Call, on, World, Did}
 use Rattle.bridge.specs.Calls.{checksOn, checks, notRefused, refusedOr, step, refusal}
 use Rattle.bridge.proofs.Checks.{write-passed}
 use Rattle.laws.specs.Observers.{taken}
@@ -48,11 +48,11 @@ frame-fitting f w e =
     let y = no-check (ltb 2047 f) 3 _ (λ h. omega arith) (x .1) in
     (x .0, (y .0, no-check (busy (w .state) f) 4 0 (λ h. omega arith) (y .1) .0))
 
-pub take-fitting : (b : ℕ) (w : World) → firstRefusal (checks (on (takeLineByte b)) w) ≡ 0 → Fits w × (isNext (nextIn w) b ≡ true)
+pub take-fitting : (b : ℕ) (w : World) → firstRefusal (checks (on (takeLineByte b)) w) ≡ 0 → Fits w × (isNext (nextOf w) b ≡ true)
 unfolding checksOn
 take-fitting b w e =
     let x = fitting (takeLineByte b) w e in
-    (x .0, not-false (isNext (nextIn w) b) (no-check (not (isNext (nextIn w) b)) 12 0 (λ h. omega arith) (x .1) .0))
+    (x .0, not-false (isNext (nextOf w) b) (no-check (not (isNext (nextOf w) b)) 12 0 (λ h. omega arith) (x .1) .0))
 
 -- a call on a state that is not refused has one that fits
 pub taken-fits : (c : OnState) (w : World) → taken (step (on c) w .said) ≡ true → Fits w

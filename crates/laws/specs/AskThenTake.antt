@@ -1,7 +1,7 @@
 -- Ask, then take: what an ask says and what a take does are one, and together they are what giving the next line byte was.
 use Prim.Native.Nat.{ℕ, _+_, _-_}
 use mathlib.Core.Path.{_≡_}
-use mathlib.Core.Bool.{Bool, true, false, cond, _||_, not}
+use mathlib.Core.Bool.{Bool, true, false, cond, _&&_, _||_, not}
 use lib.Dec.{eqb}
 use Rattle.machine.specs.Course.{Without}
 use Rattle.machine.specs.Machine.{ofCalls, ofBetween}
@@ -10,9 +10,9 @@ use Rattle.store.specs.declared.Ring.{Ring}
 use Rattle.state.specs.declared.State.{State}
 use Rattle.state.specs.State.{withLine, withTx}
 use Rattle.state.specs.Conditions.{withRequest}
-use Rattle.bridge.specs.Calls.{askLineByte, takeLineByte, Call, create, show, on, is, World}
+use Rattle.bridge.specs.Calls.{askLineByte, takeLineByte, Call, create, show, on, World}
 use Rattle.laws.specs.Bridges.{Law, Saw}
-use Rattle.laws.specs.Observers.{taken, owes}
+use Rattle.laws.specs.Observers.{taken, isAsk, owes}
 use Rattle.laws.specs.Worlds.{requested}
 use Rattle.laws.specs.Requests.{asking, comes}
 use Rattle.laws.specs.NextByte.{nextByte}
@@ -21,13 +21,13 @@ use Rattle.laws.specs.NextByte.{nextByte}
 abbrev pub AskLooks : Law
 AskLooks = ofCalls (λ s. s .call ≡ on askLineByte → s .after ≡ s .before)
 
--- ---- between an ask and its take come only calls that look, other asks and showing a store, or none at all
+-- ---- after an ask only calls that look have come, other asks, showing a store and refused calls, or none
 
--- a call that does more than look
+-- a call that does more than look, and is not refused
 abbrev pub acts : Call → World → Said → Bool
-acts (create m) w a = true
+acts (create m) w a = taken a
 acts (show side) w a = false
-acts (on c) w a = not (is askLineByte c)
+acts (on c) w a = taken a && not (isAsk (on c))
 
 -- two asks answer alike
 abbrev pub AsksAlike : Law
@@ -48,9 +48,9 @@ TakesAsAsked = ofBetween (λ s ss t. (b : ℕ) → s .call ≡ on askLineByte �
 
 -- ---- what giving was
 
--- a store without its oldest byte: the next oldest stands at the next place, which behind the last is the first
-abbrev pub withoutOldest : Ring → Ring
-withoutOldest r = record { cap = r .cap; oldest = cond (eqb (r .oldest + 1) (r .cap)) 0 (r .oldest + 1); len = r .len - 1 }
+-- a store with one byte fewer: the next oldest stands at the next place, which behind the last is the first
+abbrev pub oneFewer : Ring → Ring
+oneFewer r = record { cap = r .cap; oldest = cond (eqb (r .oldest + 1) (r .cap)) 0 (r .oldest + 1); len = r .len - 1 }
 
 -- the state after our own character was given: the last of go and stop that we sent is what holds
 abbrev pub ownGone : State → State
@@ -58,7 +58,7 @@ ownGone s = withLine s (record { holding = s .line .holding; forbidden = s .line
 
 -- the state after the next line byte was given, before requests: our own character where one was owed, also if the oldest byte is equal to it
 unfoldable pub givenState : World → State
-givenState w = cond (owes (w .state .line .stopped) w) (ownGone (w .state)) (withTx (w .state) (withoutOldest (w .state .tx)))
+givenState w = cond (owes (w .state .line .stopped) w) (ownGone (w .state)) (withTx (w .state) (oneFewer (w .state .tx)))
 
 -- what giving the next line byte did when it was one call: it answered the byte b in the world w, and left the world v
 pub record Gave (w : World) (b : ℕ) (v : World) : Type 0 where
@@ -67,7 +67,11 @@ pub record Gave (w : World) (b : ℕ) (v : World) : Type 0 where
   pub rx : v .rx ≡ w .rx
   pub tx : v .tx ≡ w .tx
 
--- an ask and then a take of what it answered
+-- a take that is done is what giving was, whether the byte was asked for or not
+abbrev pub GoneAsGiven : Law
+GoneAsGiven = ofCalls (λ s. (b : ℕ) → s .call ≡ on (takeLineByte b) → s .answer ≡ done → Gave (s .before) b (s .after))
+
+-- and so are an ask and then a take of what it answered
 abbrev pub AskThenTake : Law
 AskThenTake =
     ofBetween

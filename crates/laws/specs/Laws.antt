@@ -25,7 +25,7 @@ use Rattle.laws.specs.HeldLine.{RuleStays, RefusedWhileHeld}
 use Rattle.laws.specs.Requests.{RequestsGo}
 use Rattle.laws.specs.Holding.{HoldingGoes}
 use Rattle.laws.specs.NextByte.{ForbiddenGoes, NextAsked, TakesNext}
-use Rattle.laws.specs.AskThenTake.{AskLooks, AsksAlike, TakesAsAsked, AskThenTake}
+use Rattle.laws.specs.AskThenTake.{AskLooks, AsksAlike, TakesAsAsked, GoneAsGiven, AskThenTake}
 use Rattle.laws.specs.Resuming.{EmptySendResumes}
 use Rattle.laws.specs.Rooms.{RoomTold, RoomHolds, RoomTakes}
 
@@ -41,7 +41,7 @@ laws =
     ∷ NotInvented broken ∷ NotInvented overrun ∷ NotInvented pressed
     ∷ NotAtStart broken ∷ NotAtStart overrun ∷ NotAtStart pressed
     ∷ LineKept ∷ LineSince ∷ LastKept ∷ LastSince ∷ OwnNext ∷ NextAsked ∷ TakesNext ∷ ForbiddenGoes ∷ HoldingGoes
-    ∷ AskLooks ∷ AsksAlike ∷ TakesAsAsked ∷ AskThenTake
+    ∷ AskLooks ∷ AsksAlike ∷ TakesAsAsked ∷ GoneAsGiven ∷ AskThenTake
     ∷ CountsGo ∷ CountsSince ∷ ServiceBit ∷ RequestsGo ∷ RemoteGoes
     ∷ []
 

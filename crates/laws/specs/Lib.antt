@@ -1,5 +1,5 @@
 -- Laws of any bridge. `Bridges` says what a bridge and a law are, `Observers` what is seen of a call, `Worlds` what a world holds, and `Laws`
--- lists every law. `OneResult`, `Order` and `Examples` are of our own bridge.
+-- lists every law; `OneRule` follows from these, and `AsksLeftOut` is of two runs. `OneResult`, `Order` and `Examples` are of our own bridge.
 pub mod Bridges
 pub mod Observers
 pub mod Fitting

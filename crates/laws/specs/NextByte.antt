@@ -45,11 +45,16 @@ nextByte w =
     (cond (forbidden w) none
     (oldestOf (heldForLine w)))
 
--- an ask answers it, in every world in which it is not refused
-abbrev pub NextAsked : Law
-NextAsked = ofCalls (λ s. s .call ≡ on askLineByte → taken (s .answer) ≡ true → s .answer ≡ nextByte (s .before))
+-- ---- what is asked for and what is taken
 
--- ---- what is taken
+-- an ask answers it, where the state fits
+pub record AskedRight (s : Saw) : Type 0 where
+  pub fit : Fits (s .before) → s .answer ≡ nextByte (s .before)
+  pub misfit : (Fits (s .before) → ⊥) → s .answer ≡ refused 2
+
+-- of every ask, in every world
+abbrev pub NextAsked : Law
+NextAsked = ofCalls (λ s. s .call ≡ on askLineByte → AskedRight s)
 
 -- a take that names the byte b
 pub record TakenRight (s : Saw) (b : ℕ) : Type 0 where
@@ -59,8 +64,8 @@ pub record TakenRight (s : Saw) (b : ℕ) : Type 0 where
   pub other : Fits (s .before) → (nextByte (s .before) ≡ byte b → ⊥) → s .answer ≡ refused 12
   -- and changes nothing, in any world
   pub stays : (nextByte (s .before) ≡ byte b → ⊥) → s .after ≡ s .before
-  -- 12 is answered where the state fits, so after 2
-  pub after-two : s .answer ≡ refused 12 → Fits (s .before)
+  -- 2 is checked before 12
+  pub misfit : (Fits (s .before) → ⊥) → s .answer ≡ refused 2
 
 -- of every take, in every world
 abbrev pub TakesNext : Law

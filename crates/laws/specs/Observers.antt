@@ -13,7 +13,7 @@ use Rattle.state.specs.declared.State.{State}
 use Rattle.answers.specs.Answers.{Said, done, none, byte, frame, refused, part, cell, lines, isRefusal}
 use Rattle.loopside.specs.Frames.{deviceClear}
 use Rattle.laws.specs.Worlds.{holdsSome}
-use Rattle.bridge.specs.Calls.{OnState, reset, lineBreak, Call, create, show, on, onState, ofFrame, ofLineByte, ofTake, ofWrite, is, World}
+use Rattle.bridge.specs.Calls.{OnState, reset, lineBreak, askLineByte, Call, create, show, on, onState, ofFrame, ofLineByte, ofTake, ofWrite, is, World}
 
 -- ---- answers
 
@@ -43,17 +43,6 @@ dataFrame (part l) = []
 dataFrame (cell n) = []
 dataFrame (lines n) = []
 
--- the line byte answered, the one that is next
-abbrev pub lineByteOf : Said → List ℕ
-lineByteOf (byte b) = b ∷ []
-lineByteOf (refused n) = []
-lineByteOf done = []
-lineByteOf none = []
-lineByteOf (frame k d) = []
-lineByteOf (part l) = []
-lineByteOf (cell n) = []
-lineByteOf (lines n) = []
-
 -- there is something
 abbrev pub any : List ℕ → Bool
 any [] = false
@@ -76,6 +65,10 @@ onWrite see nothing = onState (ofWrite see nothing) nothing
 -- a call on a state that brings no number
 abbrev pub onOne : {X : Type 0} → OnState → X → X → Call → X
 onOne d seen nothing = onState (λ c. cond (is d c) seen nothing) nothing
+
+-- the next line byte is asked for
+abbrev pub isAsk : Call → Bool
+isAsk c = onOne askLineByte true false c
 
 -- ---- frames, by the role before the call
 

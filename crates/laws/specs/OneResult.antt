@@ -1,14 +1,15 @@
 -- What a reader may hold us to, first: two results that a call's promise allows are equal, the reply with the room that it tells, the state and every
--- byte of both stores, refusals included. It is said of `Promised`, which the contracts of all ten calls cite.
+-- byte of both stores, refusals included. It is said of `Promised`, which the contracts of all eleven calls cite.
 use Prim.Native.Nat.{ℕ}
 use mathlib.Core.Path.{_≡_}
 use mathlib.Core.Bool.{true, false}
 use mathlib.Core.List.{List}
 use Rattle.state.specs.declared.State.{State}
 use Rattle.state.specs.declared.Outcome.{Outcome}
-use Rattle.answers.specs.Answers.{isRefusal}
+use Rattle.answers.specs.declared.Answer.{Answer}
+use Rattle.answers.specs.Answers.{said, isRefusal}
 use Rattle.bridge.specs.declared.Told.{Told}
-use Rattle.bridge.specs.Calls.{Store, Call, create, show, World, Did, world, did, told, handed, step, Promised, unmade}
+use Rattle.bridge.specs.Calls.{Store, askLineByte, Call, create, show, on, World, Did, world, did, told, looked, handed, step, Promised, unmade}
 
 -- two results are the same
 pub record Same (o₁ o₂ : Outcome) (rx₁ rx₂ tx₁ tx₂ : List ℕ) : Type 0 where
@@ -29,6 +30,8 @@ pub record OneResult : Type 0 where
   -- of a line byte and a loop frame, which tell one
   pub tells : (c : Call) (w : World) (t₁ t₂ : Told) (rx₁ rx₂ tx₁ tx₂ : List ℕ) →
       Promised c w (told t₁ rx₁ tx₁) → Promised c w (told t₂ rx₂ tx₂) → SameTold t₁ t₂ rx₁ rx₂ tx₁ tx₂
+  -- an ask answers and changes nothing
+  pub asked : (w : World) (a₁ a₂ : Answer) → Promised (on askLineByte) w (looked (said a₁) w) → Promised (on askLineByte) w (looked (said a₂) w) → a₁ ≡ a₂
   -- showing returns a part and changes nothing
   pub shown : (side : Store) (w : World) (x₁ x₂ : List ℕ) → Promised (show side) w (handed x₁ w) → Promised (show side) w (handed x₂ w) → x₁ ≡ x₂
 

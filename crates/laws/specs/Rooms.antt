@@ -29,15 +29,15 @@ RoomTold = ofCalls (λ s. s .answer .room ≡ cond (taken (s .answer .said)) (ro
 abbrev pub ofSaid : {X : Type 0} → (Call → World → Said → X) → Call → World → Answered → X
 ofSaid see c w a = see c w (a .said)
 
--- a line byte is taken
-abbrev pub takesLineByte : Call → World → Said → Bool
-takesLineByte c w a = onLineByte (λ b. taken a) false c
+-- a byte from the line comes in
+abbrev pub lineByteIn : Call → World → Said → Bool
+lineByteIn c w a = onLineByte (λ b. taken a) false c
 
 -- what is told is there: after a line byte that told n, none of the next n data bytes from the line is lost, whatever else is called
 abbrev pub RoomHolds : TellingLaw
 RoomHolds =
     ofSince
-    (λ s ss. of (ofSaid takesLineByte) s ≡ true → length (all (ofSaid arrived) ss) ≤ s .answer .room → all (ofSaid lost) ss ≡ [])
+    (λ s ss. of (ofSaid lineByteIn) s ≡ true → length (all (ofSaid arrived) ss) ≤ s .answer .room → all (ofSaid lost) ss ≡ [])
 
 -- what a frame adds to the transmit store if it is taken
 abbrev pub wouldAdd : World → ℕ → List ℕ

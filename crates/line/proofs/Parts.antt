@@ -124,9 +124,9 @@ module _ (s : State) (tx : List ℕ) where
       go false true e h = absurd (false≢true (sym h))
       go false false e h = omega (arith, eqb-false (s .tx .len) 0 e)
 
-  pub given-some : (b : ℕ) → Held b ≡ nextOut s tx → 1 ≤ s .tx .len
+  pub gone-some : (b : ℕ) → Held b ≡ nextOut s tx → 1 ≤ s .tx .len
   unfolding nextOut
-  given-some b e = go (owed (s .line)) (s .line .forbidden || eqb (s .tx .len) 0) refl e
+  gone-some b e = go (owed (s .line)) (s .line .forbidden || eqb (s .tx .len) 0) refl e
     where
       go : (w t : Bool) → (s .line .forbidden || eqb (s .tx .len) 0) ≡ t →
           Held b ≡ cond w (Own (cond (s .line .holding) (stop (s .regs)) (s .regs .c04))) (cond t Nothing (Held (getD (held tx (s .tx)) 0 0))) → 1 ≤ s .tx .len
@@ -137,17 +137,17 @@ module _ (s : State) (tx : List ℕ) where
 -- ---- a line byte that is gone
 
 module _ (s : State) (o : Out) where
-  pub given-own : (b : ℕ) → o ≡ Own b → withLine s (record { holding = s .line .holding; forbidden = s .line .forbidden; stopped = s .line .holding }) ≡ gone s o
+  pub gone-own : (b : ℕ) → o ≡ Own b → withLine s (record { holding = s .line .holding; forbidden = s .line .forbidden; stopped = s .line .holding }) ≡ gone s o
   unfolding gone
-  given-own b e = rw e
+  gone-own b e = rw e
 
-  pub given-held : (b : ℕ) (r : Ring) → o ≡ Held b → Dropped (s .tx) 1 r → withTx s r ≡ gone s o
+  pub gone-held : (b : ℕ) (r : Ring) → o ≡ Held b → Dropped (s .tx) 1 r → withTx s r ≡ gone s o
   unfolding gone
-  given-held b r e d = rw e (ap (withTx s) (d .ring))
+  gone-held b r e d = rw e (ap (withTx s) (d .ring))
 
-  pub given-none : o ≡ Nothing → s ≡ gone s o
+  pub gone-none : o ≡ Nothing → s ≡ gone s o
   unfolding gone
-  given-none e = rw e
+  gone-none e = rw e
 
 -- ---- the smaller parts
 

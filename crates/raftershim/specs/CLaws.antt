@@ -1,7 +1,12 @@
 -- What holds of every C call of the bridge, and of every run of C calls: the laws of the C functions of any product, said of this one.
 use Rattle.boundary.specs.Numbers as numbers
 use Rattle.boundary.specs.CLaws as boundary
+use mathlib.Core.Path.{_≡_}
+use Rattle.bridge.specs.Calls.{askLineByte, on}
+use Rattle.laws.specs.AsksLeftOut.{AsksLeftOut}
+use Rattle.boundary.specs.CRuns.{cTelling}
 use Rattle.raftershim.specs.Bridge.{bridges}
+use Rattle.raftershim.specs.CCalls.{Lent, cStep}
 
 -- ---- the answer
 
@@ -56,6 +61,16 @@ RefusalKeepsAll = boundary.RefusalKeepsAll bridges
 -- the same with the whole number, and so without any room
 abbrev pub RefusalAlone : Type 0
 RefusalAlone = boundary.RefusalAlone bridges
+
+-- ---- asks
+
+-- Ask, then take: the C function that asks leaves every byte of the block and of both stores, whatever they are
+abbrev pub AskWritesNothing : Type 0
+AskWritesNothing = (l : Lent) → cStep (on askLineByte) l .lent ≡ l
+
+-- and a run of C calls goes as it goes without its asks, the room told included
+abbrev pub AsksLeftOutInC : Type 0
+AsksLeftOutInC = AsksLeftOut (cTelling bridges)
 
 -- ---- every C function is the call of its name
 

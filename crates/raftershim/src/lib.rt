@@ -79,7 +79,7 @@ pub extern "C" fn raftershim_write_register(
     finished(block, o, 0)
 }
 
-// Takes a line byte, and tells the room of the receive store.
+// Takes a byte that comes in from the line, and tells the room of the receive store.
 #[no_mangle]
 pub extern "C" fn raftershim_line_byte(block: &mut [u8], rx: &mut [u16], tx: &[u8], byte: u8) -> u64
     ensures { λ r. ⌜ CPromised (on (lineByte byte))
@@ -128,7 +128,7 @@ pub extern "C" fn raftershim_ask_line_byte(block: &[u8], rx: &[u16], tx: &[u8]) 
     answers::word_of(a)
 }
 
-// Marks the line byte of this name as gone, if it is the next one.
+// Takes the line byte that is named: if it is the next one it is gone, and any other is refused.
 #[no_mangle]
 pub extern "C" fn raftershim_take_line_byte(
     block: &mut [u8],

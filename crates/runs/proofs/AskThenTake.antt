@@ -15,20 +15,23 @@ use Rattle.state.specs.declared.Out.{Out}
 use Rattle.state.specs.declared.Out.the-variants.{Own, Held, Nothing}
 use Rattle.state.specs.State.{withTx}
 use Rattle.state.specs.Conditions.{withRequest, settled}
-use Rattle.answers.specs.Answers.{Said, said, done, byte, refused, isByte}
+use Rattle.answers.specs.Answers.{Said, said, done, byte, refused, isByte, faultOf}
 use Rattle.state.proofs.Fits.{tx-fits}
 use Rattle.line.specs.HoldingOff.{owed, nextOut, isNext, gone, outAnswer}
-use Rattle.bridge.specs.Calls.{on, reset, write, lineByte, lineBreak, key, askLineByte, takeLineByte, loopFrame, show, create, Call, nextIn, World, Did, looked, checks, outcome, settledBy}
+use Rattle.bridge.specs.Calls.{on, askLineByte, takeLineByte, show, create, Call, nextOf, World, Did, looked, checks, outcome, settledBy}
 use Rattle.bridge.specs.Calls.{rxAfter, txAfter, shown, notRefused, refusal, refusedOr, step}
 use Rattle.bridge.proofs.Asks.{fitted, ask-is, take-is, take-fits, named, not-named, ask-leaves, asked-next}
-use Rattle.laws.specs.Observers.{taken, restarts, clears, statusSent}
+use Rattle.laws.specs.Bridges.{telling}
+use Rattle.laws.specs.Observers.{taken, isAsk, restarts, clears, statusSent}
+use Rattle.laws.specs.AsksLeftOut.{AsksLeftOut}
+use Rattle.laws.proofs.AsksLeftOut.{at-ask, left-out}
 use Rattle.laws.specs.Worlds.{requested}
 use Rattle.laws.specs.Requests.{asking, comes}
-use Rattle.laws.specs.AskThenTake.{AskLooks, acts, AsksAlike, AsAsked, TakesAsAsked, withoutOldest, ownGone, givenState, Gave, AskThenTake}
+use Rattle.laws.specs.AskThenTake.{AskLooks, acts, AsksAlike, AsAsked, TakesAsAsked, oneFewer, ownGone, givenState, Gave, GoneAsGiven, AskThenTake}
 use Rattle.runs.proofs.Shapes.{Fits}
 use Rattle.runs.proofs.Runs.{first-not}
 use Rattle.runs.proofs.Requests.{requests-go}
-use Rattle.runs.proofs.Refused.{out-taken}
+use Rattle.runs.proofs.Refused.{out-taken, refused-stays}
 use Rattle.runs.proofs.NextByte.{next-is}
 use Rattle.runs.proofs.Steps.{after, end, ours, answer, Without, at-call}
 use Rattle.machine.specs.Machine.{Obeys, finally, course}
@@ -36,21 +39,22 @@ use Rattle.machine.specs.Course as course
 
 -- ---- calls that only look
 
+-- a run goes as it goes without its asks, the room told included
+pub asks-left-out : AsksLeftOut (telling step)
+asks-left-out = left-out (telling step) ask-leaves
+
 pub ask-looks : Obeys ours AskLooks
 ask-looks c w B = at-call (λ c. after c w ≡ w) (on askLineByte) (ask-leaves w) c
 
 look-leaves : (c : Call) (w : World) → acts c w (answer c w) ≡ false → after c w ≡ w
 unfolding step refusedOr checks notRefused
-look-leaves (create m) w e = absurd (false≢true (sym e))
+look-leaves (create m) w e = refused-stays (create m) w tt e
 look-leaves (show side) w e = refl
-look-leaves (on askLineByte) w e = ask-leaves w
-look-leaves (on reset) w e = absurd (false≢true (sym e))
-look-leaves (on (write n v)) w e = absurd (false≢true (sym e))
-look-leaves (on (lineByte b)) w e = absurd (false≢true (sym e))
-look-leaves (on lineBreak) w e = absurd (false≢true (sym e))
-look-leaves (on key) w e = absurd (false≢true (sym e))
-look-leaves (on (takeLineByte b)) w e = absurd (false≢true (sym e))
-look-leaves (on (loopFrame f)) w e = absurd (false≢true (sym e))
+look-leaves (on c) w e = by-kind (isAsk (on c)) refl
+  where
+    by-kind : (t : Bool) → isAsk (on c) ≡ t → after (on c) w ≡ w
+    by-kind true q = at-ask (λ c. after c w ≡ w) (ask-leaves w) (on c) q
+    by-kind false q = refused-stays (on c) w tt (sym (and-true (taken (answer (on c) w))) ∙ (λ i. taken (answer (on c) w) && not (sym q i)) ∙ e)
 
 -- a run of them leaves the world as it was
 looks-leave : (cs : List Call) (w : World) → Without acts cs w → finally ours cs w ≡ w
@@ -80,11 +84,11 @@ module _ (b : ℕ) (w : World) where
   abbrev Taken : Said → Did → Type 0
   Taken a d = AsAsked a b (record { call = on (takeLineByte b); before = w; answer = d .said; after = d .world })
 
-  as-asked : (t u : Bool) → isNext (nextIn w) b ≡ u →
-      Taken (cond t (said (outAnswer (nextIn w))) (refused 2)) (cond t (cond u (notRefused (on (takeLineByte b)) w) (refusal 12 w)) (refusal 2 w))
+  as-asked : (t u : Bool) → isNext (nextOf w) b ≡ u →
+      Taken (cond t (said (outAnswer (nextOf w))) (refused 2)) (cond t (cond u (notRefused (on (takeLineByte b)) w) (refusal 12 w)) (refusal 2 w))
   unfolding notRefused outcome said isByte
   as-asked true true e =
-      let n : said (outAnswer (nextIn w)) ≡ byte b = named (nextIn w) b e in
+      let n : said (outAnswer (nextOf w)) ≡ byte b = named (nextOf w) b e in
       record {
         same = λ _. refl;
         misfit = λ q. absurd (false≢true (sym q ∙ ap taken n));
@@ -93,8 +97,8 @@ module _ (b : ℕ) (w : World) where
       }
   as-asked true false e =
       record {
-        same = λ q. absurd (not-named (nextIn w) b e q);
-        misfit = λ q. absurd (false≢true (sym q ∙ out-taken (nextIn w)));
+        same = λ q. absurd (not-named (nextOf w) b e q);
+        misfit = λ q. absurd (false≢true (sym q ∙ out-taken (nextOf w)));
         other = λ _ _. refl;
         stays = λ _. refl;
       }
@@ -105,7 +109,7 @@ module _ (b : ℕ) (w : World) where
   taken-as-asked : Taken (answer (on askLineByte) w) (step (on (takeLineByte b)) w)
   taken-as-asked =
       subst (λ (x : Did). Taken (x .said) (step (on (takeLineByte b)) w)) (sym (ask-is w))
-      (subst (Taken (cond (fitted w) (said (outAnswer (nextIn w))) (refused 2))) (sym (take-is b w)) (as-asked (fitted w) (isNext (nextIn w) b) refl))
+      (subst (Taken (cond (fitted w) (said (outAnswer (nextOf w))) (refused 2))) (sym (take-is b w)) (as-asked (fitted w) (isNext (nextOf w) b) refl))
 
 abbrev AsAskedAt : ℕ → Said → Call → World → Type 0
 AsAskedAt b a d v = AsAsked a b (record { call = d; before = v; answer = answer d v; after = after d v })
@@ -120,7 +124,7 @@ takes-as-asked c cs d w B j k b =
 -- ---- what giving was
 
 -- a place behind the last is the first
-wrapped : (r : Ring) → Within r → dropRing r 1 ≡ withoutOldest r
+wrapped : (r : Ring) → Within r → dropRing r 1 ≡ oneFewer r
 unfolding dropRing
 wrapped r h = ap (λ (n : ℕ). record { cap = r .cap; oldest = n; len = r .len - 1 }) (go (eqb (r .oldest + 1) (r .cap)) refl)
   where
@@ -130,7 +134,7 @@ wrapped r h = ap (λ (n : ℕ). record { cap = r .cap; oldest = n; len = r .len 
 
 module _ (w : World) (F : Fits w) (b : ℕ) where
   -- the state before requests
-  gone-given : isNext (nextIn w) b ≡ true → gone (w .state) (nextIn w) ≡ givenState w
+  gone-given : isNext (nextOf w) b ≡ true → gone (w .state) (nextOf w) ≡ givenState w
   unfolding nextOut isNext gone givenState
   gone-given n = by-tests (owed (w .state .line)) (w .state .line .forbidden || eqb (w .state .tx .len) 0) n
     where
@@ -139,13 +143,13 @@ module _ (w : World) (F : Fits w) (b : ℕ) where
           (cond u Nothing (Held (getD (held (w .tx) (w .state .tx)) 0 0)))
 
       by-tests : (t u : Bool) → isNext (out t u) b ≡ true →
-          gone (w .state) (out t u) ≡ cond t (ownGone (w .state)) (withTx (w .state) (withoutOldest (w .state .tx)))
+          gone (w .state) (out t u) ≡ cond t (ownGone (w .state)) (withTx (w .state) (oneFewer (w .state .tx)))
       by-tests true u n = refl
       by-tests false true n = absurd (false≢true n)
       by-tests false false n = ap (withTx (w .state)) (wrapped (w .state .tx) (tx-fits (w .state) (w .rx) (w .tx) F .ring .within))
 
   -- the world that a take leaves
-  module _ (n : isNext (nextIn w) b ≡ true) where
+  module _ (n : isNext (nextOf w) b ≡ true) where
     left : step (on (takeLineByte b)) w ≡ notRefused (on (takeLineByte b)) w
     left = take-fits b w F n
 
@@ -159,7 +163,7 @@ module _ (w : World) (F : Fits w) (b : ℕ) where
     unfolding notRefused outcome settledBy settled rxAfter txAfter
     gave =
         record {
-          byte = sym (next-is w F) ∙ named (nextIn w) b n;
+          byte = sym (next-is w F) ∙ named (nextOf w) b n;
           state =
               ap (λ (d : Did). d .world .state) left
               ∙ (λ i. withRequest (gone-given n i) (sym left i .world .state .notes .request))
@@ -167,6 +171,20 @@ module _ (w : World) (F : Fits w) (b : ℕ) where
           rx = ap (λ (d : Did). d .world .rx) left;
           tx = ap (λ (d : Did). d .world .tx) left;
         }
+
+-- a take is done only where the state fits and the byte is next
+done-next : (b : ℕ) (w : World) → answer (on (takeLineByte b)) w ≡ done → Fits w × (isNext (nextOf w) b ≡ true)
+unfolding faultOf
+done-next b w q = go (fitted w) (isNext (nextOf w) b) (ap (λ (d : Did). faultOf (d .said)) (sym (take-is b w)) ∙ ap faultOf q)
+  where
+    go : (t u : Bool) → faultOf (cond t (cond u (notRefused (on (takeLineByte b)) w) (refusal 12 w)) (refusal 2 w) .said) ≡ 0 → (t ≡ true) × (u ≡ true)
+    go true true z = (refl, refl)
+    go true false z = absurd (omega (arith, z))
+    go false u z = absurd (omega (arith, z))
+
+pub gone-as-given : Obeys ours GoneAsGiven
+gone-as-given c w B b =
+    at-call (λ c. answer c w ≡ done → Gave w b (after c w)) (on (takeLineByte b)) (λ q. let x = done-next b w q in gave w (x .0) b (x .1)) c
 
 pub ask-then-take : Obeys ours AskThenTake
 ask-then-take c cs d w B j k b =

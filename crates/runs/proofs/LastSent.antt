@@ -1,7 +1,7 @@
 -- The last of go and stop that we sent is what the bridge recorded. Assumes nothing.
 use Prim.Native.Nat.{ℕ}
 use mathlib.Core.Path.{_≡_, refl, sym, ap, _∙_}
-use mathlib.Core.Bool.{Bool, true, false, cond, _||_}
+use mathlib.Core.Bool.{Bool, true, false, cond, _&&_, _||_}
 use mathlib.Core.List.{List, [], _∷_}
 use lib.Dec.{eqb}
 use lib.ListN.{getD, length}
@@ -31,7 +31,7 @@ use Rattle.talker.specs.UnderWay.{talking}
 use Rattle.loopside.specs.Sends.{ruleOf, removedState, sendState, sendFrom, sendStatus, ended}
 use Rattle.loopside.specs.Frames.{obeyed, cleared, deviceClear}
 use Rattle.bridge.specs.Calls.{Call, on, create, reset, write, lineByte, lineBreak, key, askLineByte, takeLineByte}
-use Rattle.bridge.specs.Calls.{loopFrame, show, nextIn, World, Did, outcome, settledBy, refusedOr, step, refusal}
+use Rattle.bridge.specs.Calls.{loopFrame, show, nextOf, World, Did, outcome, settledBy, refusedOr, step, refusal}
 use Rattle.bridge.specs.Calls as calls
 use Rattle.laws.specs.Observers.{restarts, startsAnew}
 use Rattle.laws.proofs.Refusing.{take-fitting}
@@ -95,7 +95,7 @@ module _ (w : World) (b : ℕ) where
   GoneKept o = gone (w .state) o .line .stopped ≡ lastOf (recorded w) (on (takeLineByte b)) w done
 
   -- where one is owed, the byte taken is our own character
-  gone-same : Fits w → isNext (nextIn w) b ≡ true → GoneKept (nextIn w)
+  gone-same : Fits w → isNext (nextOf w) b ≡ true → GoneKept (nextOf w)
   unfolding nextOut isNext gone lastOf
   gone-same F n =
       by-tests (owed (w .state .line)) (w .state .line .forbidden || eqb (w .state .tx .len) 0) refl n
@@ -116,9 +116,9 @@ module _ (w : World) (b : ℕ) where
       by-tests : (t u : Bool) → owed (w .state .line) ≡ t → isNext (out t u) b ≡ true → GoneKept (out t u)
       by-tests true u e n =
           own-character (w .state .line .holding) (go g) (stop g) differ ∙
-          (λ i. cond (sym e i) (eqb (eqb-true own b n i) (stop g)) (recorded w))
-      by-tests false true e n = λ i. cond (sym e i) (eqb b (stop g)) (recorded w)
-      by-tests false false e n = λ i. cond (sym e i) (eqb b (stop g)) (recorded w)
+          (λ i. cond (sym e i && sym (eq-eqb b own (sym (eqb-true own b n))) i) (eqb (eqb-true own b n i) (stop g)) (recorded w))
+      by-tests false true e n = λ i. cond (sym e i && eqb b own) (eqb b (stop g)) (recorded w)
+      by-tests false false e n = λ i. cond (sym e i && eqb b own) (eqb b (stop g)) (recorded w)
 
 -- ---- every call
 

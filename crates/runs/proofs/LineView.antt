@@ -16,7 +16,7 @@ use Rattle.state.specs.State.{withRegisters}
 use Rattle.answers.specs.Answers.{done}
 use Rattle.line.specs.HoldingOff.{isGoOrStop, flowed, lostState, storedState, lineState, lineBytes, setAfresh, afterWrite, owed, nextOut, isNext, gone}
 use Rattle.line.proofs.Parts.{some-held}
-use Rattle.bridge.specs.Calls.{heldLine, nextIn, on, write, lineByte, takeLineByte, World}
+use Rattle.bridge.specs.Calls.{heldLine, nextOf, on, write, lineByte, takeLineByte, World}
 use Rattle.laws.specs.Observers.{isFlow, arrived, accepted, lost, sent, added, handedOut, restarts, writes, clears}
 use Rattle.runs.proofs.Shapes.{seen, core, Fits, Shape, isStill, isWritten, isStored, isLost, isHanded}
 use Rattle.runs.proofs.RuleKept.{rule-kept}
@@ -43,7 +43,7 @@ module _ (w : World) (F : Fits w) (b : ℕ) where
 
 module _ (w : World) (F : Fits w) (b : ℕ) where
   -- our own character is not handed out, and the oldest byte is
-  pub gone-shape : isNext (nextIn w) b ≡ true → Shape w (seen (on (takeLineByte b)) w done) (core (gone (w .state) (nextIn w))) (w .rx) (w .tx)
+  pub gone-shape : isNext (nextOf w) b ≡ true → Shape w (seen (on (takeLineByte b)) w done) (core (gone (w .state) (nextOf w))) (w .rx) (w .tx)
   unfolding arrived sent added handedOut restarts writes clears nextOut isNext gone
   gone-shape n =
       none-arrives (on (takeLineByte b)) w done _ _ _ refl (by-tests (owed (w .state .line)) (w .state .line .forbidden || eqb (w .state .tx .len) 0) refl refl n)

@@ -18,11 +18,11 @@ use Rattle.state.specs.Sizes.{TxFits}
 use Rattle.state.specs.Conditions.{settled}
 use Rattle.state.proofs.Fits.{tx-fits}
 use Rattle.line.specs.HoldingOff.{owed, nextOut, isNext, gone, outAnswer}
-use Rattle.bridge.specs.Calls.{on, askLineByte, takeLineByte, nextIn, World, Did, outcome, settledBy, notRefused, step}
+use Rattle.bridge.specs.Calls.{on, askLineByte, takeLineByte, nextOf, World, Did, outcome, settledBy, notRefused, step}
 use Rattle.bridge.proofs.Asks.{ask-fits, take-fits, ask-leaves, asked-next}
 use Rattle.laws.specs.Fitting.{Fits}
 use Rattle.laws.proofs.Fitting.{keeps-fit}
-use Rattle.transcript.specs.Transcript.{asked, takenNext, lineOut, asks}
+use Rattle.transcript.specs.Transcript.{askAnswer, takesNext, takeAnswer, nextTaken, lineOut, asks}
 use Rattle.transcript.specs.UntilNone.{lineWorld, Enough}
 
 -- how much there is to take: the bytes held, and the go or stop that is owed
@@ -54,61 +54,70 @@ module _ (b : ℕ) where
       fewer zero h = absurd (h refl)
       fewer (suc k) h = omega arith
 
--- a byte that was asked for is taken, and leaves less
-step-falls : (w : World) → isByte (asked w) ≡ true → weight (takenNext w .state) < weight (w .state)
-unfolding notRefused outcome settledBy settled isByte byteIn
+is-byte : (a : Said) → isByte a ≡ true → a ≡ byte (byteIn a)
+unfolding isByte byteIn
+is-byte (byte b) e = refl
+is-byte done e = absurd (false≢true e)
+is-byte none e = absurd (false≢true e)
+is-byte (frame k d) e = absurd (false≢true e)
+is-byte (refused n) e = absurd (false≢true e)
+is-byte (part l) e = absurd (false≢true e)
+is-byte (cell n) e = absurd (false≢true e)
+is-byte (lines n) e = absurd (false≢true e)
+
+-- a byte that was asked for is taken
+next-taken : (w : World) → isByte (askAnswer w) ≡ true → takesNext w ≡ notRefused (on (takeLineByte (byteIn (askAnswer w)))) w
+next-taken w h =
+    let x = asked-next (byteIn (askAnswer w)) w (is-byte (askAnswer w) h) in
+    ap (step (on (takeLineByte (byteIn (askAnswer w))))) (ask-leaves w) ∙ take-fits (byteIn (askAnswer w)) w (x .0) (x .1)
+
+take-done : (w : World) → isByte (askAnswer w) ≡ true → takeAnswer w ≡ done
+unfolding notRefused outcome said
+take-done w h = ap (λ (d : Did). d .said) (next-taken w h)
+
+-- and leaves less
+step-falls : (w : World) → isByte (askAnswer w) ≡ true → weight (nextTaken w .state) < weight (w .state)
+unfolding notRefused outcome settledBy settled
 step-falls w h =
-    let x = asked-next (byteIn (asked w)) w (is-byte (asked w) h) in
-    let q = take-fits (byteIn (asked w)) w (x .0) (x .1) in
-    subst (λ (v : World). weight (step (on (takeLineByte (byteIn (asked w)))) v .world .state) < weight (w .state)) (sym (ask-leaves w))
-    (subst (λ (d : Did). weight (d .world .state) < weight (w .state)) (sym q) (falls (byteIn (asked w)) (w .state) (w .tx) (x .1)))
-  where
-    is-byte : (a : Said) → isByte a ≡ true → a ≡ byte (byteIn a)
-    is-byte (byte b) e = refl
-    is-byte done e = absurd (false≢true e)
-    is-byte none e = absurd (false≢true e)
-    is-byte (frame k d) e = absurd (false≢true e)
-    is-byte (refused n) e = absurd (false≢true e)
-    is-byte (part l) e = absurd (false≢true e)
-    is-byte (cell n) e = absurd (false≢true e)
-    is-byte (lines n) e = absurd (false≢true e)
+    let x = asked-next (byteIn (askAnswer w)) w (is-byte (askAnswer w) h) in
+    subst (λ (d : Did). weight (d .world .state) < weight (w .state)) (sym (next-taken w h)) (falls (byteIn (askAnswer w)) (w .state) (w .tx) (x .1))
 
 -- ---- no byte left to take
 
 -- a state that fits is not refused, so that an answer which is no byte is none
-no-byte : (w : World) → Fits w → isByte (asked w) ≡ false → asked w ≡ none
+no-byte : (w : World) → Fits w → isByte (askAnswer w) ≡ false → askAnswer w ≡ none
 unfolding isByte said outAnswer
 no-byte w e =
-    subst (λ (d : Did). isByte (d .said) ≡ false → d .said ≡ none) (sym (ask-fits w e)) (go (nextIn w))
+    subst (λ (d : Did). isByte (d .said) ≡ false → d .said ≡ none) (sym (ask-fits w e)) (go (nextOf w))
   where
     go : (o : Out) → isByte (said (outAnswer o)) ≡ false → said (outAnswer o) ≡ none
     go (Own b) h = absurd (false≢true (sym h))
     go (Held b) h = absurd (false≢true (sym h))
     go Nothing h = refl
 
-taken-fits : (w : World) → Fits w → Fits (takenNext w)
-taken-fits w e = keeps-fit (on (takeLineByte (byteIn (asked w)))) (step (on askLineByte) w .world) tt (keeps-fit (on askLineByte) w tt e)
+taken-fits : (w : World) → Fits w → Fits (nextTaken w)
+taken-fits w e = keeps-fit (on (takeLineByte (byteIn (askAnswer w)))) (step (on askLineByte) w .world) tt (keeps-fit (on askLineByte) w tt e)
 
 -- more asks than there is to take end with none
-pub until-none : (n : ℕ) (w : World) → Fits w → weight (w .state) < n → asked (lineWorld n w) ≡ none
+pub until-none : (n : ℕ) (w : World) → Fits w → weight (w .state) < n → askAnswer (lineWorld n w) ≡ none
 unfolding lineWorld
 until-none zero w e h = absurd (omega arith)
 until-none (suc k) w e h =
-    by-cond (λ (v : World). asked v ≡ none) (isByte (asked w)) _ _
-    (λ t. until-none k (takenNext w) (taken-fits w e) (omega (arith, step-falls w t)))
+    by-cond (λ (v : World). askAnswer v ≡ none) (isByte (askAnswer w)) _ _
+    (λ t. until-none k (nextTaken w) (taken-fits w e) (omega (arith, step-falls w t)))
     (λ t. no-byte w e t)
 
 -- asks after none say nothing more
-pub no-more : (n m : ℕ) (w : World) → n ≤ m → isByte (asked (lineWorld n w)) ≡ false → lineOut m w ≡ lineOut n w
+pub no-more : (n m : ℕ) (w : World) → n ≤ m → isByte (askAnswer (lineWorld n w)) ≡ false → lineOut m w ≡ lineOut n w
 unfolding lineOut lineWorld
 no-more zero zero w l h = refl
 no-more zero (suc m) w l h = rw h
 no-more (suc n) zero w l h = absurd (omega arith)
-no-more (suc n) (suc m) w l h = pick (no-more n m (takenNext w) (omega arith)) (isByte (asked w)) refl
+no-more (suc n) (suc m) w l h = pick (no-more n m (nextTaken w) (omega arith)) (isByte (askAnswer w)) refl
   where
-    pick : (isByte (asked (lineWorld n (takenNext w))) ≡ false → lineOut m (takenNext w) ≡ lineOut n (takenNext w)) → (t : Bool) → isByte (asked w) ≡ t →
-        cond (isByte (asked w)) (byteIn (asked w) ∷ lineOut m (takenNext w)) [] ≡ cond (isByte (asked w)) (byteIn (asked w) ∷ lineOut n (takenNext w)) []
-    pick more true e = rw e (ap (λ (bs : List ℕ). byteIn (asked w) ∷ bs) (more (rw e at h)))
+    pick : (isByte (askAnswer (lineWorld n (nextTaken w))) ≡ false → lineOut m (nextTaken w) ≡ lineOut n (nextTaken w)) → (t : Bool) → isByte (askAnswer w) ≡ t →
+        cond (isByte (askAnswer w)) (byteIn (askAnswer w) ∷ lineOut m (nextTaken w)) [] ≡ cond (isByte (askAnswer w)) (byteIn (askAnswer w) ∷ lineOut n (nextTaken w)) []
+    pick more true e = rw e (ap (λ (bs : List ℕ). byteIn (askAnswer w) ∷ bs) (more (rw e at h)))
     pick more false e = rw e
 
 at-most-one : (b : Bool) → cond b 1 0 ≤ 1
@@ -120,6 +129,6 @@ pub asks-enough : (w : World) → Fits w → length (w .tx) ≡ 64 → Enough w
 unfolding isByte
 asks-enough w e h =
     let f : TxFits (w .state) (w .tx) = tx-fits (w .state) (w .rx) (w .tx) e in
-    let last : asked (lineWorld asks w) ≡ none =
+    let last : askAnswer (lineWorld asks w) ≡ none =
     until-none asks w e (omega (arith, f .ring .cap, f .ring .within .len, at-most-one (owed (w .state .line)))) in
-    record { answer = last; same = λ n k. no-more asks n w k (ap isByte last) }
+    record { answer = last; taken = λ n h. take-done (lineWorld n w) h; same = λ n k. no-more asks n w k (ap isByte last) }

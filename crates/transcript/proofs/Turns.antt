@@ -16,7 +16,7 @@ use Rattle.bridge.specs.Calls.{on, write, lineByte, askLineByte, takeLineByte, 
 use Rattle.transcript.specs.declared.Set.{Set}
 use Rattle.transcript.specs.Text.{decimal, answerText, bytesText, overwritten, Wrote}
 use Rattle.transcript.specs.Input.{high}
-use Rattle.transcript.specs.Transcript.{setRegisters, takeBytes, framesText, framesWorld, Offers, asked, takenNext, lineOut}
+use Rattle.transcript.specs.Transcript.{setRegisters, bytesIn, framesText, framesWorld, Offers, askAnswer, nextTaken, lineOut}
 use Rattle.transcript.proofs.Writing.{overwritten-then, overwritten-none}
 
 none-left : (n : ℕ) → n ≤ 0 → n ≡ 0
@@ -61,19 +61,19 @@ module _ (x : List ℕ) (rx tx : List ℕ) where
 
 -- ---- line bytes in
 
-take-step : (x : List ℕ) (n i : ℕ) (w : World) → 0 < n → takeBytes n x i w ≡ takeBytes (n - 1) x (i + 1) (step (on (lineByte (getD x i 0))) w .world)
-unfolding takeBytes
-take-step x n i w h = ap (λ (k : ℕ). takeBytes k x i w) (one-left n h)
+take-step : (x : List ℕ) (n i : ℕ) (w : World) → 0 < n → bytesIn n x i w ≡ bytesIn (n - 1) x (i + 1) (step (on (lineByte (getD x i 0))) w .world)
+unfolding bytesIn
+take-step x n i w h = ap (λ (k : ℕ). bytesIn k x i w) (one-left n h)
 
 pub take-again : (x rx rx′ tx : List ℕ) (t : State) (i n : ℕ) (o : Told) {total : World} → 0 < n →
     told o rx′ tx ≡ step (on (lineByte (getD x i 0))) (world t rx tx) →
-    takeBytes n x i (world t rx tx) ≡ total → takeBytes (n - 1) x (i + 1) (world (o .outcome .state) rx′ tx) ≡ total
+    bytesIn n x i (world t rx tx) ≡ total → bytesIn (n - 1) x (i + 1) (world (o .outcome .state) rx′ tx) ≡ total
 take-again x rx rx′ tx t i n o h e inv =
-    ap (λ (d : Did). takeBytes (n - 1) x (i + 1) (d .world)) e ∙ sym (take-step x n i (world t rx tx) h) ∙ inv
+    ap (λ (d : Did). bytesIn (n - 1) x (i + 1) (d .world)) e ∙ sym (take-step x n i (world t rx tx) h) ∙ inv
 
-pub take-ends : (x : List ℕ) (w : World) (i n : ℕ) {total : World} → n ≤ 0 → takeBytes n x i w ≡ total → w ≡ total
-unfolding takeBytes
-take-ends x w i n h inv = ap (λ (k : ℕ). takeBytes k x i w) (sym (none-left n h)) ∙ inv
+pub take-ends : (x : List ℕ) (w : World) (i n : ℕ) {total : World} → n ≤ 0 → bytesIn n x i w ≡ total → w ≡ total
+unfolding bytesIn
+take-ends x w i n h inv = ap (λ (k : ℕ). bytesIn k x i w) (sym (none-left n h)) ∙ inv
 
 -- ---- frames
 
@@ -150,7 +150,7 @@ offer-ends {x} {rx} {tx₀} {i} {n} {out₀} {to} {t₀} {tx} {out} {t} {at} {le
 
 -- ---- line bytes out
 
-line-step : (n : ℕ) (w : World) → 0 < n → lineOut n w ≡ cond (isByte (asked w)) (byteIn (asked w) ∷ lineOut (n - 1) (takenNext w)) []
+line-step : (n : ℕ) (w : World) → 0 < n → lineOut n w ≡ cond (isByte (askAnswer w)) (byteIn (askAnswer w) ∷ lineOut (n - 1) (nextTaken w)) []
 unfolding lineOut
 line-step n w h = ap (λ (k : ℕ). lineOut k w) (one-left n h)
 

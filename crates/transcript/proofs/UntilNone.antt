@@ -15,7 +15,7 @@ use Rattle.laws.proofs.Fitting.{keeps-fit, stores-stay}
 use Rattle.transcript.specs.declared.Set.{Set}
 use Rattle.transcript.specs.Input.{high, sectionsOf}
 use Rattle.answers.specs.Answers.{faultOf}
-use Rattle.transcript.specs.Transcript.{setRegisters, takeBytes, framesWorld, store}
+use Rattle.transcript.specs.Transcript.{setRegisters, bytesIn, framesWorld, store}
 use Rattle.transcript.specs.UntilNone.{runWorld, UntilNone}
 use Rattle.transcript.proofs.Asks.{asks-enough}
 
@@ -52,8 +52,8 @@ set-right (suc n) x i w r =
     same-stores _ (kept .0) (kept .1) (set-right n x (i + 2) (step c w .world) (step-right c w r)))
     (λ _. r)
 
-take-right : (n : ℕ) (x : List ℕ) (i : ℕ) (w : World) → Right w → Right (takeBytes n x i w)
-unfolding takeBytes
+take-right : (n : ℕ) (x : List ℕ) (i : ℕ) (w : World) → Right w → Right (bytesIn n x i w)
+unfolding bytesIn
 take-right zero x i w r = r
 take-right (suc n) x i w r = take-right n x (i + 1) (step (on (lineByte (getD x i 0))) w .world) (step-right (on (lineByte (getD x i 0))) w r)
 

@@ -4,7 +4,7 @@ ghost use Prim.Native.Nat.{_+_, _*_, _≤_, _<_};
 ghost use lib.ListN.{length};
 ghost use Rattle.bridge.specs.Calls.{world};
 ghost use Rattle.transcript.specs.Text.{bytesText, Wrote};
-ghost use Rattle.transcript.specs.Transcript.{setRegisters, Offers, takeBytes, lineOut};
+ghost use Rattle.transcript.specs.Transcript.{setRegisters, Offers, bytesIn, lineOut};
 use crate::Offered;
 use crate::Set;
 use state::State;
@@ -41,10 +41,10 @@ pub fn set_registers(s: State, rx: &[u16], tx: &[u8], x: &[u8], i: usize, n: usi
     Set { state: t, fault: 0 }
 }
 
-// Takes n line bytes from place i of the input.
-pub fn take_bytes(s: State, rx: &mut [u16], tx: &[u8], x: &[u8], i: usize, n: usize) -> State
+// Takes in n line bytes from place i of the input.
+pub fn bytes_in(s: State, rx: &mut [u16], tx: &[u8], x: &[u8], i: usize, n: usize) -> State
     requires { ⌜ (i + n ≤ length (now x)) × (i + n < 65536) ⌝ }
-    ensures { λ r. ⌜ world r (now (rx .exit)) (now (tx .entry)) ≡ takeBytes n (now (x .entry)) i (world s (now (rx .entry)) (now (tx .entry))) ⌝ }
+    ensures { λ r. ⌜ world r (now (rx .exit)) (now (tx .entry)) ≡ bytesIn n (now (x .entry)) i (world s (now (rx .entry)) (now (tx .entry))) ⌝ }
 {
     let mut t = s;
     let mut at = i;

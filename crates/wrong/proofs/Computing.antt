@@ -21,7 +21,7 @@ use Rattle.talker.specs.TalkerFit as talker-fit
 use Rattle.store.specs.Ring.{fitTest, putRing, putBytes, putsRing, putsBytes, dropRing}
 use Rattle.status.specs.Status.{statusByte}
 use Rattle.sending.specs.Sending.{sendHeld, sentRing}
-use Rattle.answers.specs.Answers.{said, byteIn}
+use Rattle.answers.specs.Answers.{said, isByte, byteIn}
 use Rattle.state.specs.Sizes.{sizesObeyed, startState, fits}
 use Rattle.state.specs.Conditions as status
 use Rattle.line.specs.HoldingOff as line
@@ -74,7 +74,7 @@ stores-open = tt
 
 -- the state, its line and its loop
 unfoldable state-open : Unit {0}
-unfolding said byteIn sizesObeyed startState fits status.conditions status.enabledBy status.asking status.settled status.shows status.serviced
+unfolding said isByte byteIn sizesObeyed startState fits status.conditions status.enabledBy status.asking status.settled status.shows status.serviced
 state-open = tt
 
 unfoldable status-open : Unit {0}

@@ -1,21 +1,28 @@
 -- Bridges whose ask or take is wrong. Assumes nothing.
 use Prim.Native.Nat.{ℕ}
+use native.Mathlib.Omega.{arith}
 use mathlib.Core.Path.{_≡_, refl, ap}
 use mathlib.Core.Bool.{false≢true, true≢false}
-use mathlib.Core.List.{[], _∷_}
-use Rattle.answers.specs.Answers.{byte}
+use mathlib.Core.List.{List, [], _∷_, _++_}
+use Rattle.answers.specs.Answers.{done, none, byte}
 use Rattle.state.specs.declared.State.{State}
-use Rattle.bridge.specs.Calls.{on, askLineByte, takeLineByte, World}
+use Rattle.bridge.specs.Calls.{lineByte, askLineByte, takeLineByte, Call, on, World}
+use Rattle.state.specs.State.{withRx}
+use Rattle.laws.specs.Bridges.{Saw, bridge}
+use Rattle.laws.specs.AsksLeftOut.{withoutAsks, seenWithoutAsks, AsksLeftOut}
 use Rattle.laws.specs.LineBytes.{LineKept}
 use Rattle.laws.specs.LastSent.{LastKept}
-use Rattle.laws.specs.NextByte.{nextByte, TakesNext}
-use Rattle.laws.specs.AskThenTake.{AskLooks, AsksAlike, TakesAsAsked, AskThenTake}
-use Rattle.refuting.proofs.Apart.{numbers-differ, lists-differ, answers-differ}
+use Rattle.laws.specs.NextByte.{nextByte, NextAsked, TakesNext}
+use Rattle.laws.specs.AskThenTake.{AskLooks, AsksAlike, TakesAsAsked, GoneAsGiven, AskThenTake}
+use Rattle.refuting.proofs.Apart.{numbers-differ, lists-differ, spelled, answers-differ}
 use Rattle.refuting.proofs.StandsIn.{holds, no-round}
+use Rattle.refuting.specs.SmallRings.{ring}
+use Rattle.wrong.specs.Seeing.{having}
 use Rattle.wrong.specs.SmallWorlds.{misfitting}
 use Rattle.wrong.specs.Trials.{begunWith, oneForTheLine, goneFromLine, stopIsDue}
 use Rattle.wrong.specs.WrongLine.{stuttering, neverRecordsSent}
-use Rattle.wrong.specs.WrongAsks.{askRemoves, countsAnAsk, takesAnyByte, takesHeldWhenDue, refusesTheNext, twelveBeforeTwo, refusedTakeRemoves, goesByItsAsk}
+use Rattle.wrong.specs.WrongAsks.{askRemoves, countsAnAsk, refusesForNone, takesAnyByte, takesOfNothing, takesHeldWhenDue, takesDataForOwn}
+use Rattle.wrong.specs.WrongAsks.{refusesTheNext, twelveBeforeTwo, refusedTakeRemoves, goesByItsAsk}
 use Rattle.wrong.specs.Broken.{Breaks, BreaksAs}
 use Rattle.wrong.proofs.Computing.{computes}
 use Rattle.wrong.proofs.Written.{Turn, Does, leaves}
@@ -59,6 +66,11 @@ counts-an-ask-asked-again law =
     answers-differ _ _ refl
     (rw (holds (begunWith 65) 0 1 refl) at (law (on askLineByte) [] (on askLineByte) (stopIsDue (oneForTheLine 65)) tt tt tt refl refl refl))
 
+-- an ask is refused, where it should say none
+pub refuses-for-none-falls : Breaks refusesForNone NextAsked
+unfolding computes
+refuses-for-none-falls law = answers-differ _ _ refl (rw (holds (begunWith 65) 1 0 refl) at (law (on askLineByte) (goneFromLine 65) tt refl .fit refl))
+
 -- "A" is neither handed out nor held
 pub ask-removes-loses : Breaks askRemoves LineKept
 unfolding computes
@@ -83,6 +95,10 @@ not-b e = answers-differ _ _ refl (rw (holds (begunWith 65) 0 1 refl) at e)
 not-a : nextByte (stopIsDue (oneForTheLine 65)) ≡ byte 65 → ⊥
 unfolding computes
 not-a e = answers-differ _ _ refl e
+
+none-next : nextByte (goneFromLine 65) ≡ byte 0 → ⊥
+unfolding computes
+none-next e = answers-differ _ _ refl (rw (holds (begunWith 65) 1 0 refl) at e)
 
 a-not-b : byte 65 ≡ byte 66 → ⊥
 a-not-b e = answers-differ _ _ refl e
@@ -111,7 +127,20 @@ unfolding computes
 goes-by-its-ask-falls law =
     answers-differ _ _ refl
     (rw (holds (begunWith 65) 0 1 refl) at
-    (law (on (takeLineByte 65)) (record { world = stopIsDue (oneForTheLine 65); asked = 65 }) tt 65 refl .other refl not-a))
+    (law (on (takeLineByte 65)) (record { world = stopIsDue (oneForTheLine 65); saidLast = byte 65 }) tt 65 refl .other refl not-a))
+
+-- 0 is taken, where nothing is next
+pub takes-of-nothing-falls : Breaks takesOfNothing TakesNext
+unfolding computes
+takes-of-nothing-falls law =
+    answers-differ _ _ refl
+    (law (on (takeLineByte 0)) (goneFromLine 65) tt 0 refl .other refl none-next)
+
+-- "A" is taken for the stop that is due
+pub takes-data-for-own-falls : Breaks takesDataForOwn LastKept
+unfolding computes
+takes-data-for-own-falls law =
+    true≢false (rw (holds (begunWith 65) 0 1 refl) at (law (on (takeLineByte 65) ∷ []) (stopIsDue (oneForTheLine 65)) tt (omega arith, tt) refl))
 
 -- "A" is refused
 pub refuses-the-next-falls : Breaks refusesTheNext TakesNext
@@ -123,7 +152,7 @@ refuses-the-next-falls law =
 -- 12 is answered of a state that does not fit
 pub twelve-before-two-falls : Breaks twelveBeforeTwo TakesNext
 unfolding computes
-twelve-before-two-falls law = false≢true (law (on (takeLineByte 0)) misfitting tt 0 refl .after-two refl)
+twelve-before-two-falls law = answers-differ _ _ refl (law (on (takeLineByte 0)) misfitting tt 0 refl .misfit false≢true)
 
 -- "B" is refused, and "A" is gone
 pub refused-take-removes-falls : Breaks refusedTakeRemoves TakesNext
@@ -188,3 +217,50 @@ unfolding computes
 never-records-sent-falls-asked law =
     false≢true (ap (λ (s : State). s .line .stopped)
     (law (on askLineByte) [] (on (takeLineByte 19)) (stopIsDue (oneForTheLine 65)) tt tt tt 19 refl refl refl refl .state))
+
+-- ---- a take that is done is what giving was
+
+-- "A" is still held
+pub stuttering-falls-taken : Breaks stuttering GoneAsGiven
+unfolding computes
+stuttering-falls-taken law =
+    numbers-differ _ _ refl
+    (rw (holds (begunWith 65) 0 1 refl) at (ap (λ (s : State). s .tx .len) (law (on (takeLineByte 65)) (oneForTheLine 65) tt 65 refl taken-a .state)))
+  where
+    taken-a : stuttering (on (takeLineByte 65)) (oneForTheLine 65) .said ≡ done
+    taken-a = rw (holds (begunWith 65) 0 1 refl)
+
+-- stop is taken and not recorded
+pub never-records-sent-falls-taken : Breaks neverRecordsSent GoneAsGiven
+unfolding computes
+never-records-sent-falls-taken law =
+    false≢true (ap (λ (s : State). s .line .stopped) (law (on (takeLineByte 19)) (stopIsDue (oneForTheLine 65)) tt 19 refl refl .state))
+
+-- ---- asks in between change nothing
+
+-- the answers that are seen, spelled out
+answersOf : List Saw → List ℕ
+answersOf [] = []
+answersOf (s ∷ ss) = spelled (s .answer) ++ answersOf ss
+
+-- "A" is refused without the ask, and taken with it
+pub goes-by-its-ask-heeds-asks : AsksLeftOut goesByItsAsk → ⊥
+unfolding computes answersOf withoutAsks seenWithoutAsks
+goes-by-its-ask-heeds-asks law =
+    lists-differ _ _ refl
+    (rw (holds (begunWith 65) 0 1 refl, no-round 4 2 refl) at
+    (ap answersOf (law asked (record { world = twoCame; saidLast = none }) tt (tt, (omega arith, (omega arith, tt))) .seen)))
+  where
+    twoCame : World
+    twoCame = having (λ s. withRx s (ring 4 0 2)) (oneForTheLine 65)
+
+    asked : List Call
+    asked = on askLineByte ∷ on (lineByte 51) ∷ on (takeLineByte 65) ∷ []
+
+-- "A" is taken without the ask, and refused with it
+pub ask-removes-heeds-asks : AsksLeftOut (bridge askRemoves) → ⊥
+unfolding computes answersOf withoutAsks seenWithoutAsks
+ask-removes-heeds-asks law =
+    lists-differ _ _ refl
+    (rw (holds (begunWith 65) 0 1 refl, no-round 3 1 refl) at
+    (ap answersOf (law (on askLineByte ∷ on (takeLineByte 65) ∷ []) (oneForTheLine 65) tt (tt, (omega arith, tt)) .seen)))

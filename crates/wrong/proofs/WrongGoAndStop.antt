@@ -70,11 +70,11 @@ unfolding computes begins stoppedOff
 switch-off-drops-go-stays-silent law =
     answers-differ _ _ refl
     (in-between switchOffDropsGo OwnNext fresh begins (stoppedOff false) (on askLineByte) switch-off-drops-go-runs refl law
-    refl refl refl refl refl)
+    refl refl refl .asked refl)
 
 pub withholds-go-when-off-stays-silent : Breaks withholdsGoWhenOff OwnNext
 unfolding computes begins stoppedOff
 withholds-go-when-off-stays-silent law =
     answers-differ _ _ refl
     (in-between withholdsGoWhenOff OwnNext fresh begins (stoppedOff true) (on askLineByte) withholds-go-when-off-runs refl law
-    refl refl refl refl refl)
+    refl refl refl .asked refl)

@@ -1,4 +1,4 @@
--- Bridges that give wrong bytes to the line or at the wrong time. Assumes nothing.
+-- Bridges by which a wrong byte goes to the line, or one at the wrong time. Assumes nothing.
 use mathlib.Core.Path.{refl}
 use mathlib.Core.Bool.{true, false, true≢false}
 use mathlib.Core.List.{List, [], _∷_}
@@ -7,11 +7,11 @@ use Rattle.answers.specs.Answers.{done, frame}
 use Rattle.state.specs.State.{withTx}
 use Rattle.bridge.specs.Calls.{on, write, askLineByte, takeLineByte, loopFrame, World, world}
 use Rattle.laws.specs.LineBytes.{LineKept, LineSince}
-use Rattle.laws.specs.NextByte.{NextAsked, ForbiddenGoes}
+use Rattle.laws.specs.NextByte.{NextAsked, TakesNext, ForbiddenGoes}
 use Rattle.refuting.proofs.Apart.{lists-differ, answers-differ}
 use Rattle.refuting.proofs.StandsIn.{holds, no-round}
 use Rattle.wrong.specs.Trials.{cameIn, switchedOff, forbidding, begunWith, oneForTheLine, stopIsDue, listenerAddingEnds, clearAll}
-use Rattle.wrong.specs.WrongLine.{stuttering, leavesOutC03, withholdsGoWhenOff, dataBeforeOwn, givesWhileForbidden}
+use Rattle.wrong.specs.WrongLine.{stuttering, leavesOutC03, withholdsGoWhenOff, dataBeforeOwn, goesWhileForbidden, ownWaitsWhileForbidden}
 use Rattle.wrong.specs.WrongLine.{clearKeepsForbidden, writeKeepsForbidden}
 use Rattle.wrong.specs.Broken.{Breaks}
 use Rattle.refuting.specs.SmallRings.{ring}
@@ -75,21 +75,36 @@ leaves-out-c03-falls-since law =
 -- nothing is said to be next, where go is owed
 pub withholds-go-when-off-falls : Breaks withholdsGoWhenOff NextAsked
 unfolding computes
-withholds-go-when-off-falls law = answers-differ _ _ refl (law (on askLineByte) (switchedOff (cameIn 3 false true)) tt refl refl)
+withholds-go-when-off-falls law = answers-differ _ _ refl (law (on askLineByte) (switchedOff (cameIn 3 false true)) tt refl .fit refl)
 
 -- "A" is said to be next, where stop is owed
 pub data-before-own-falls : Breaks dataBeforeOwn NextAsked
 unfolding computes
 data-before-own-falls law =
     answers-differ _ _ refl
-    (rw (holds (begunWith 65) 0 1 refl) at (law (on askLineByte) (stopIsDue (oneForTheLine 65)) tt refl refl))
+    (rw (holds (begunWith 65) 0 1 refl) at (law (on askLineByte) (stopIsDue (oneForTheLine 65)) tt refl .fit refl))
 
 -- "A" is said to be next, where nothing may be
-pub gives-while-forbidden-falls : Breaks givesWhileForbidden NextAsked
+pub goes-while-forbidden-falls : Breaks goesWhileForbidden NextAsked
 unfolding computes
-gives-while-forbidden-falls law =
+goes-while-forbidden-falls law =
     answers-differ _ _ refl
-    (rw (holds (begunWith 65) 0 1 refl) at (law (on askLineByte) (forbidding (oneForTheLine 65)) tt refl refl))
+    (rw (holds (begunWith 65) 0 1 refl) at (law (on askLineByte) (forbidding (oneForTheLine 65)) tt refl .fit refl))
+
+-- "A" is taken, where nothing may be
+pub goes-while-forbidden-taken : Breaks goesWhileForbidden TakesNext
+unfolding computes
+goes-while-forbidden-taken law =
+    answers-differ _ _ refl
+    (rw (holds (begunWith 65) 0 1 refl) at
+    (law (on (takeLineByte 65)) (forbidding (oneForTheLine 65)) tt 65 refl .other refl (λ e. answers-differ _ _ refl e)))
+
+-- nothing is said to be next, where stop is due
+pub own-waits-while-forbidden-falls : Breaks ownWaitsWhileForbidden NextAsked
+unfolding computes
+own-waits-while-forbidden-falls law =
+    answers-differ _ _ refl
+    (law (on askLineByte) (forbidding (stopIsDue (oneForTheLine 65))) tt refl .fit refl)
 
 -- ---- what permits and forbids our sending
 

@@ -152,4 +152,4 @@ pub reads-across-falls : Breaks readsAcross NextAsked
 unfolding computes
 reads-across-falls law =
     answers-differ _ _ refl
-    (rw (holds (65 ∷ 66 ∷ 67 ∷ []) 2 1 refl) at (law (on askLineByte) (listenerHolding (65 ∷ 66 ∷ 67 ∷ []) 2 1) tt refl refl))
+    (rw (holds (65 ∷ 66 ∷ 67 ∷ []) 2 1 refl) at (law (on askLineByte) (listenerHolding (65 ∷ 66 ∷ 67 ∷ []) 2 1) tt refl .fit refl))

@@ -64,6 +64,10 @@ withForbidden s f = withLine s (record { holding = s .line .holding; forbidden =
 abbrev pub withStopped : State → Bool → State
 withStopped s k = withLine s (record { holding = s .line .holding; forbidden = s .line .forbidden; stopped = k })
 
+-- what a call does where no go or stop is owed; which of them was sent last stays recorded as it was
+abbrev pub asIfNoneOwed : Call → World → Did
+asIfNoneOwed c w = inState (λ s. withStopped s (w .state .line .stopped)) (step c (having (λ s. withStopped s (s .line .holding)) w))
+
 -- the event is noted, or not
 abbrev pub noting : Event → Bool → Events → Events
 noting broken b x = record { brk = b; overrun = x .overrun; key = x .key }

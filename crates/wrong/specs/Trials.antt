@@ -165,9 +165,9 @@ oneForTheLine b = world (withTx (startState 1 4 3) (ring 3 0 1)) oneToFour (begu
 abbrev pub goneFromLine : ℕ → World
 goneFromLine b = having (λ s. withTx s (ring 3 1 0)) (oneForTheLine b)
 
--- one where stop has become due
+-- the same world when three bytes have come in, so that stop has become due
 abbrev pub stopIsDue : World → World
-stopIsDue = having (λ s. withHolding s true)
+stopIsDue = having (λ s. withRx (withHolding s true) (ring 4 0 3))
 
 -- a listener that adds C02, C03 to an end byte
 abbrev pub listenerAddingEnds : World

@@ -1,22 +1,22 @@
 -- Bridges whose ask or take is wrong.
 use Prim.Native.Nat.{ℕ}
-use mathlib.Core.Bool.{Bool, true, false, cond, not}
+use mathlib.Core.Bool.{Bool, true, false, cond, _&&_, not}
 use lib.Dec.{eqb}
-use Rattle.answers.specs.Answers.{Said, byteIn, refused}
+use Rattle.answers.specs.Answers.{Said, done, none, refused, isByte, byteIn}
 use Rattle.bridge.specs.Calls.{askLineByte, takeLineByte, Call, on, World, Did, misfit, step}
 use Rattle.laws.specs.Bridges.{Machine, ByteCall}
-use Rattle.laws.specs.Observers.{taken, onOne, onTake, owes}
+use Rattle.laws.specs.Observers.{taken, onOne, isAsk, onTake, owes, ownCharacter}
 use Rattle.wrong.specs.Changing.{leaving}
-use Rattle.wrong.specs.Seeing.{Sight, afterSight, insteadAt, only, having, inState, withStopped}
+use Rattle.wrong.specs.Seeing.{afterSight, insteadAt, only, inState, withStopped, asIfNoneOwed}
 
 -- ---- asks
 
--- the byte that an ask says, and what its take does
-abbrev pub askedByte : World → ℕ
-askedByte w = byteIn (step (on askLineByte) w .said)
+-- the answer to an ask, and what a take of it does
+abbrev pub askAnswer : World → Said
+askAnswer w = step (on askLineByte) w .said
 
 abbrev pub takesAsked : World → Did
-takesAsked w = step (on (takeLineByte (askedByte w))) w
+takesAsked w = step (on (takeLineByte (byteIn (askAnswer w)))) w
 
 -- an ask removes the byte that it says, as giving did
 abbrev pub askRemoves : Call → World → Did
@@ -24,7 +24,11 @@ askRemoves = leaving (λ c w v. onOne askLineByte (takesAsked w .world) v c)
 
 -- counts an ask as handed out: its own go or stop is recorded as sent when it is asked for
 abbrev pub countsAnAsk : Call → World → Did
-countsAnAsk = afterSight (λ c w a. onOne askLineByte true false c) (λ before after. withStopped after (before .line .holding))
+countsAnAsk = afterSight (λ c w a. isAsk c) (λ before after. withStopped after (before .line .holding))
+
+-- refuses an ask where nothing is next
+abbrev pub refusesForNone : Call → World → Did
+refusesForNone = insteadAt (λ c w a. isAsk c && (taken a && not (isByte a))) (λ c w. only (refused 12) w)
 
 -- ---- takes
 
@@ -32,11 +36,19 @@ countsAnAsk = afterSight (λ c w a. onOne askLineByte true false c) (λ before a
 abbrev pub takesAnyByte : Call → World → Did
 takesAnyByte = insteadAt (λ c w a. onTake (λ b. true) false c) (λ c w. takesAsked w)
 
+-- a take is done where nothing is next
+abbrev pub takesOfNothing : Call → World → Did
+takesOfNothing = insteadAt (λ c w a. onTake (λ b. taken (askAnswer w) && not (isByte (askAnswer w))) false c) (λ c w. only done w)
+
 -- takes the byte that it holds where its own stop or go has become due: a take acts as if none were owed
 abbrev pub takesHeldWhenDue : Call → World → Did
-takesHeldWhenDue =
-    insteadAt (λ c w a. onTake (λ b. owes (w .state .line .stopped) w) false c)
-    (λ c w. inState (λ s. withStopped s (w .state .line .stopped)) (step c (having (λ s. withStopped s (s .line .holding)) w)))
+takesHeldWhenDue = insteadAt (λ c w a. onTake (λ b. owes (w .state .line .stopped) w) false c) asIfNoneOwed
+
+-- takes a data byte for the go or stop that it owes: the byte is gone, and go or stop is recorded as sent
+abbrev pub takesDataForOwn : Call → World → Did
+takesDataForOwn =
+    insteadAt (λ c w a. onTake (λ b. owes (w .state .line .stopped) w && not (eqb b (ownCharacter w))) false c)
+    (λ c w. inState (λ s. withStopped s (s .line .holding)) (asIfNoneOwed c w))
 
 -- refuses the right byte
 abbrev pub refusesTheNext : Call → World → Did
@@ -48,29 +60,29 @@ twelveBeforeTwo = insteadAt (λ c w a. onTake (λ b. misfit w .given) false c) (
 
 -- a take that is refused throws the next byte away
 abbrev pub refusedTakeRemoves : Call → World → Did
-refusedTakeRemoves = insteadAt (λ c w a. onTake (λ b. not (taken a)) false c) (λ c w. only (refused 12) (takesAsked w .world))
+refusedTakeRemoves = insteadAt (λ c w a. onTake (λ b. not (taken a)) false c) (λ c w. only (step c w .said) (takesAsked w .world))
 
--- ---- it keeps more than a world: the byte that it said last
+-- ---- it keeps more than a world: its answer to the last ask
 
 pub record Remembered : Type 0 where
   pub world : World
-  pub asked : ℕ
+  pub saidLast : Said
 
-abbrev pub remembers : Call → Remembered → ℕ
-remembers c o = onOne askLineByte (askedByte (o .world)) (o .asked) c
+-- the byte that it said last, where it is not next any more
+abbrev pub saidOnce : ℕ → Remembered → Bool
+saidOnce b o = isByte (o .saidLast) && (eqb b (byteIn (o .saidLast)) && not (taken (step (on (takeLineByte b)) (o .world) .said)))
 
--- a take of the byte that it said last, whatever has become due since
 abbrev pub takesWhatItSaid : Call → Remembered → Did
-takesWhatItSaid c o = onTake (λ b. cond (eqb b (o .asked)) (takesHeldWhenDue c (o .world)) (step c (o .world))) (step c (o .world)) c
+takesWhatItSaid c o = onTake (λ b. cond (saidOnce b o) (asIfNoneOwed c (o .world)) (step c (o .world))) (step c (o .world)) c
 
--- goes by what it said and not by what is next: takes the byte of its last ask though its own stop has become due
+-- goes by what it said and not by what is next: the byte of its last ask is taken though its own stop or go has become due since
 abbrev pub goesByItsAsk : Machine
 goesByItsAsk =
     record {
       Own = Remembered;
       stands = λ o. o .world;
       answer = λ c o. takesWhatItSaid c o .said;
-      after = λ c o. record { world = takesWhatItSaid c o .world; asked = remembers c o };
+      after = λ c o. record { world = takesWhatItSaid c o .world; saidLast = cond (isAsk c) (askAnswer (o .world)) (o .saidLast) };
       Fine = λ o. Unit {0};
       Fair = ByteCall;
     }

@@ -1,4 +1,4 @@
--- Bridges that give wrong bytes to the line, or give them at the wrong time.
+-- Bridges by which a wrong byte goes to the line, or one at the wrong time.
 use Prim.Native.Nat.{ℕ, _-_}
 use mathlib.Core.Bool.{Bool, true, false, cond, _&&_, not}
 use mathlib.Core.List.{List, [], _∷_}
@@ -11,7 +11,8 @@ use Rattle.bridge.specs.Calls.{askLineByte, Call, World, Did, step}
 use Rattle.laws.specs.Observers.{onOne, onTake, added, handedOut, owes, clears}
 use Rattle.laws.specs.Worlds.{protocol, forbidden}
 use Rattle.laws.specs.Holding.{writesR11}
-use Rattle.wrong.specs.Seeing.{Sight, afterSight, insteadAt, only, always, having, inState, withForbidden, withStopped}
+use Rattle.wrong.specs.Seeing.{Sight, afterSight, insteadAt, always, having, inState, withForbidden, withStopped, asIfNoneOwed}
+use Rattle.wrong.specs.Changing.{answering}
 
 -- a line byte is taken and it still holds it
 abbrev pub stuttering : Call → World → Did
@@ -48,21 +49,23 @@ ofNext c = onOne askLineByte true (onTake (λ b. true) false c) c
 abbrev pub owesOwn : Sight
 owesOwn c w a = ofNext c && owes (w .state .line .stopped) w
 
--- the same slip in another way: knows that it owes go, and says none while the protocol is off
+-- the same slip in another way: knows that it owes go or stop, and says none while the protocol is off
 abbrev pub withholdsGoWhenOff : Call → World → Did
-withholdsGoWhenOff = insteadAt (λ c w a. not (protocol w) && (onOne askLineByte true false c && owesOwn c w a)) (λ c w. only none w)
+withholdsGoWhenOff = answering (λ c w a. onOne askLineByte (cond (not (protocol w) && owes (w .state .line .stopped) w) none a) a c)
 
 -- what it holds goes before its own go or stop: it acts as if none were owed
 abbrev pub dataBeforeOwn : Call → World → Did
-dataBeforeOwn =
-    insteadAt owesOwn
-    (λ c w. inState (λ s. withStopped s (w .state .line .stopped)) (step c (having (λ s. withStopped s (s .line .holding)) w)))
+dataBeforeOwn = insteadAt owesOwn asIfNoneOwed
 
 -- a byte goes while the other end forbids it
-abbrev pub givesWhileForbidden : Call → World → Did
-givesWhileForbidden =
+abbrev pub goesWhileForbidden : Call → World → Did
+goesWhileForbidden =
     insteadAt (λ c w a. ofNext c && forbidden w)
     (λ c w. inState (λ s. withForbidden s true) (step c (having (λ s. withForbidden s false) w)))
+
+-- its own go or stop waits too while the other end forbids our sending: an ask says none
+abbrev pub ownWaitsWhileForbidden : Call → World → Did
+ownWaitsWhileForbidden = answering (λ c w a. onOne askLineByte (cond (forbidden w) none a) a c)
 
 -- keeps the other end's stop at a device clear
 abbrev pub clearKeepsForbidden : Call → World → Did

@@ -2,17 +2,17 @@
 use mathlib.Core.Bool.{true, false, cond, _&&_}
 use lib.Dec.{eqb}
 use Rattle.frame.specs.Frame.{controlOf, isData}
-use Rattle.answers.specs.Answers.{done}
+use Rattle.answers.specs.Answers.{done, isByte}
 use Rattle.loopside.specs.Frames.{addsBytes}
 use Rattle.bridge.specs.Calls.{askLineByte, Call, World, Did, misfit, notRefused, step}
-use Rattle.laws.specs.Observers.{any, lineByteOf, onFrame, onWrite, onOne}
+use Rattle.laws.specs.Observers.{onFrame, onWrite, onOne}
 use Rattle.wrong.specs.Changing.{instead, answering, answeringFrame, refusing, isShow}
 
 -- ---- answers
 
 -- answers that it is done where no line byte is next
 abbrev pub doneForNone : Call → World → Did
-doneForNone = answering (λ c w a. onOne askLineByte (cond (any (lineByteOf a)) a done) a c)
+doneForNone = answering (λ c w a. onOne askLineByte (cond (isByte a) a done) a c)
 
 -- refuses to show a store where the state does not fit, and gives no empty part
 abbrev pub refusesToShow : Call → World → Did

@@ -1,14 +1,14 @@
 -- Bridges that treat the stores, or the state that goes with them, wrongly.
 use Prim.Native.Nat.{ℕ, _+_, _%_}
-use mathlib.Core.Bool.{cond, _&&_}
+use mathlib.Core.Bool.{cond, _&&_, not}
 use mathlib.Core.List.{List, [], _∷_, _++_}
 use lib.Dec.{eqb}
 use lib.ListN.{length, set, getD}
 use Rattle.store.specs.Ring.{emptyRing, dropRing}
-use Rattle.answers.specs.Answers.{done, byte}
+use Rattle.answers.specs.Answers.{done, byte, isByte}
 use Rattle.state.specs.State.{withRx, withTx}
 use Rattle.bridge.specs.Calls.{receive, askLineByte, Call, World, world, Did, step}
-use Rattle.laws.specs.Observers.{any, lineByteOf, onOne, accepted, breaks, lost, added, handedOut, clears}
+use Rattle.laws.specs.Observers.{any, onOne, owes, accepted, breaks, lost, added, handedOut, clears}
 use Rattle.places.specs.OneStore.{nextPlace, writtenFrom}
 use Rattle.reading.specs.Received.{markedCell}
 use Rattle.laws.specs.StorePlaces.{writtenTo}
@@ -75,7 +75,8 @@ oldestLate =
 abbrev pub readsAcross : Call → World → Did
 readsAcross =
     answering
-    (λ c w a. onOne askLineByte (cond (any (lineByteOf a) && eqb (w .state .tx .oldest + 1) (length (w .tx))) (byte (getD (w .tx) 0 0)) a) a c)
+    (λ c w a. onOne askLineByte
+    (cond (isByte a && (not (owes (w .state .line .stopped) w) && eqb (w .state .tx .oldest + 1) (length (w .tx)))) (byte (getD (w .tx) 0 0)) a) a c)
 
 -- ---- the stores themselves
 

@@ -1,24 +1,24 @@
 use mathlib.Core.Path.{sym, _∙_}
-use Rattle.line.proofs.Parts.{given-some, given-own, given-held, given-none}
+use Rattle.line.proofs.Parts.{gone-some, gone-own, gone-held, gone-none}
 use borrow.Author.Needs.{needs}
 use Rattle.line.proofs.gone.Statement.{statement}
 use Rattle.line.proofs.gone.Tie as tie
 
 drop-oldest-requires : tie.Need-drop-oldest-requires
 drop-oldest-requires c κs =
-    (c .before .before .before .before .pre .0 .ring .within, given-some _ _ _ (sym (c .before .o2 .given .1) ∙ c .before .before .before .before .pre .1))
+    (c .before .before .before .before .pre .0 .ring .within, gone-some _ _ _ (sym (c .before .o2 .given .1) ∙ c .before .before .before .before .pre .1))
 
 returns : tie.Need-returns
 returns c =
-    given-own _ _ _ (c .before .before .o .given .1)
+    gone-own _ _ _ (c .before .before .o .given .1)
 
 returns-2 : tie.Need-returns-2
 returns-2 c =
-    given-held _ _ _ _ (c .before .before .o2 .given .1) (c .drop-oldest .ensures)
+    gone-held _ _ _ _ (c .before .before .o2 .given .1) (c .drop-oldest .ensures)
 
 returns-3 : tie.Need-returns-3
 returns-3 c =
-    given-none _ _ (c .enum-told .given .1)
+    gone-none _ _ (c .enum-told .given .1)
 
 pub gone-spec : {M : Type 1} → statement M
 gone-spec =

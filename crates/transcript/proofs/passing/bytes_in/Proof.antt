@@ -4,14 +4,14 @@ use native.Mathlib.Omega.{arith}
 use mathlib.Core.Path.{_≡_, refl}
 use lib.ListN.{length}
 use Rattle.bridge.specs.Calls.{world}
-use Rattle.transcript.specs.Transcript.{takeBytes}
+use Rattle.transcript.specs.Transcript.{bytesIn}
 use Rattle.transcript.proofs.Turns.{take-again, take-ends}
-use Rattle.transcript.proofs.passing.take_bytes.Statement.{statement}
-use Rattle.transcript.proofs.passing.take_bytes.Tie as tie
+use Rattle.transcript.proofs.passing.bytes_in.Statement.{statement}
+use Rattle.transcript.proofs.passing.bytes_in.Tie as tie
 
 abbrev Inv-loop : tie.InvT-loop
 Inv-loop rx₀ tx x i n t₀ at₀ left₀ rx t at left =
-    (takeBytes left x at (world t rx tx) ≡ takeBytes n x i (world t₀ rx₀ tx)) × (((at + left ≤ length x) × (at + left < 65536)) × (length rx ≡ length rx₀))
+    (bytesIn left x at (world t rx tx) ≡ bytesIn n x i (world t₀ rx₀ tx)) × (((at + left ≤ length x) × (at + left < 65536)) × (length rx ≡ length rx₀))
 
 abbrev μ-loop : tie.MeasureT-loop
 μ-loop rx₀ tx x i n t₀ at₀ left₀ rx t at left = left
@@ -48,8 +48,8 @@ same-length c = c .before .loop .inv .1 .1
 returns : tie.Need-returns Inv-loop μ-loop
 returns c = take-ends _ _ _ _ (c .loop-test .left) (c .before .loop .inv .0)
 
-pub take-bytes-spec : {M : Type 1} → statement M
-take-bytes-spec =
+pub bytes-in-spec : {M : Type 1} → statement M
+bytes-in-spec =
     tie.close
     (tie.spec
     Inv-loop
