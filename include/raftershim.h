@@ -43,6 +43,7 @@
  *   7   register write: a control bit that is not carried
  *   8   register write: the go and stop characters would be equal
  *   10  held bytes: R10, C00 or C01 is written while the receive store holds at least one cell
+ *   12  not next: a line byte is taken that is not the next one, or nothing is next
  *
  * They are checked in the order of their numbers. A call that is refused leaves the block and both stores as they were.
  */
@@ -67,11 +68,13 @@ extern "C" {
 #define RAFTERSHIM_REFUSED 4u
 
 /*
- * The two refusals that pass. Busy: the frame is offered again when the line has taken bytes. Held bytes: the register is written again
- * when RAFTERSHIM_RECEIVE_HELD is 0, that is when all has been read. Bytes that wait for more are not read: a break decides them.
+ * The three refusals that pass. Busy: the frame is offered again when bytes for the line were taken. Held bytes: the register is written
+ * again when RAFTERSHIM_RECEIVE_HELD is 0, that is when all has been read. Bytes that wait for more are not read: a break decides them.
+ * Not next: raftershim_ask_line_byte says which byte is next now, if any is.
  */
 #define RAFTERSHIM_BUSY 4u
 #define RAFTERSHIM_HELD_BYTES 10u
+#define RAFTERSHIM_NOT_NEXT 12u
 
 /* The start and the length of a part that was shown: in cells of the receive store, in bytes of the transmit store. */
 #define RAFTERSHIM_START(answer) ((uint32_t)((answer) >> 32))
@@ -232,18 +235,35 @@ uint64_t raftershim_break(uint8_t *block, uint64_t block_len, uint16_t *rx, uint
 uint64_t raftershim_key(uint8_t *block, uint64_t block_len, const uint16_t *rx, uint64_t rx_len, const uint8_t *tx, uint64_t tx_len);
 
 /*
- * Gives the next line byte: our own go or stop if one is owed, else the oldest byte of the transmit store. Answers that line byte, or
- * none.
+ * Says which line byte is next: our own go or stop if one is owed, else the oldest byte of the transmit store, unless the other end forbids
+ * our sending. Answers that line byte, or none. Nothing changes, however often it is asked: the byte is next until it is taken, or until
+ * another call makes another byte next.
  * Refusal 2: the block is not a state that fits the stores.
  */
-uint64_t raftershim_next_line_byte(uint8_t *block, uint64_t block_len, const uint16_t *rx, uint64_t rx_len, const uint8_t *tx,
-                                   uint64_t tx_len);
+uint64_t raftershim_ask_line_byte(const uint8_t *block, uint64_t block_len, const uint16_t *rx, uint64_t rx_len, const uint8_t *tx,
+                                  uint64_t tx_len);
+
+/*
+ * Takes the line byte of this name, if it is the next one: it is gone. Our own go or stop counts as sent from then on, and a byte of the
+ * transmit store leaves that store. If a go or stop is owed and the oldest byte held is the same byte, the go or stop is what goes, and
+ * the byte stays. Neither store is written. Answers done.
+ * Refusal 2: the block is not a state that fits the stores. Refusal 12: nothing is next, or the byte is not the next one.
+ *
+ * So ask, send the byte, and take it when the port has it. If the port fails, take nothing: the byte is still there, and the next ask says
+ * it again. A take right after its ask is never refused.
+ * Make no other call on these buffers between the ask, the sending and the take. Such a call can make a go or stop due, or no longer due,
+ * and a device clear or a reset throws away what is held. The take is then refused, though its byte is on the line already, and nothing is
+ * recorded. A byte of the transmit store so goes out a second time. A stop that was sent is not followed by a go, and the meter stays
+ * silent for good. A go that was sent is not followed by the stop that has become due, and bytes of the meter may be lost.
+ */
+uint64_t raftershim_take_line_byte(uint8_t *block, uint64_t block_len, const uint16_t *rx, uint64_t rx_len, const uint8_t *tx,
+                                   uint64_t tx_len, uint8_t byte);
 
 /*
  * Takes a frame from the loop. Answers the one frame that goes on, and the room of the transmit store: whichever frame it is, whether or
  * not a byte was stored. After a device clear it is the whole store. What a send frees in the receive store is not in it.
  * Refusal 2: the block is not a state that fits the stores. Refusal 3: the frame is above 2047. Refusal 4: busy, offer the frame again
- * when the line has taken bytes.
+ * when bytes for the line were taken.
  */
 uint64_t raftershim_loop_frame(uint8_t *block, uint64_t block_len, const uint16_t *rx, uint64_t rx_len, uint8_t *tx, uint64_t tx_len,
                                uint32_t frame);

@@ -31,12 +31,14 @@ static void line_in(void) {
     gaps_note(&gaps, block);
 }
 
-/* A byte for the line, if it can take one. The bridge hands a byte out once, so it is asked only then. */
+/*
+ * A byte for the line: it is asked for, sent, and taken when the port has it, with no other call in between. A byte that the port does not
+ * take stays in the bridge, and a later turn asks for it again. So the port may be slow, or fail, and nothing is lost.
+ */
 static void line_out(void) {
-    if (line_free()) {
-        uint64_t answer = raftershim_next_line_byte(LENT);
-        if (RAFTERSHIM_KIND(answer) == RAFTERSHIM_BYTE) line_give((uint8_t)RAFTERSHIM_VALUE(answer));
-    }
+    uint64_t answer = raftershim_ask_line_byte(LENT);
+    uint8_t byte = (uint8_t)RAFTERSHIM_VALUE(answer);
+    if (RAFTERSHIM_KIND(answer) == RAFTERSHIM_BYTE && line_give(byte)) raftershim_take_line_byte(LENT, byte);
 }
 
 /* Whether the frame is the end byte of a reading of ours, and not one that passes by. */

@@ -38,15 +38,12 @@ int line_overran(void) {
     return overran != 0u;
 }
 
-int line_free(void) {
-    if (sending && TXDRDY) sending = 0;
-    return !sending;
-}
-
-void line_give(uint8_t byte) {
+int line_give(uint8_t byte) {
+    if (sending && !TXDRDY) return 0;
     TXDRDY = 0;
     sending = 1;
     TXD = byte;
+    return 1;
 }
 
 void reading_ended(int missing) {

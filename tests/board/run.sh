@@ -34,5 +34,5 @@ runs() { # SOURCE
 
 [ $# -gt 0 ] || set -- thumbv6m-none-eabi thumbv7em-none-eabi riscv32imc-unknown-none-elf
 for triple in "$@"; do
-    for source in tests/c/calls.c tests/c/breaks.c tests/c/mailbox*.c; do runs "$source"; done
+    for source in tests/c/calls.c tests/c/breaks.c tests/c/line_out.c tests/c/mailbox*.c; do runs "$source"; done
 done

@@ -34,9 +34,25 @@ static inline uint64_t writes(uint32_t n, uint32_t v) { return raftershim_write_
 static inline uint64_t line(uint8_t b) { return raftershim_line_byte(LENT, b); }
 static inline uint64_t brk(void) { return raftershim_break(LENT); }
 static inline uint64_t key(void) { return raftershim_key(LENT); }
-static inline uint64_t next(void) { return raftershim_next_line_byte(LENT); }
+static inline uint64_t ask(void) { return raftershim_ask_line_byte(LENT); }
+static inline uint64_t take(uint8_t b) { return raftershim_take_line_byte(LENT, b); }
 static inline uint64_t frame(uint32_t c, uint32_t d) { return raftershim_loop_frame(LENT, c << 8 | d); }
 static inline uint64_t show_receive(void) { return raftershim_show_receive(LENT); }
 static inline uint64_t show_transmit(void) { return raftershim_show_transmit(LENT); }
+
+/* what goes out on the line: this byte is asked for and taken, and nothing is next; asking changes nothing, and no other byte is taken */
+static inline void goes_out(uint8_t b) {
+    keep();
+    IS(ask(), BYTE(b));
+    IS(changed(), 0);
+    REFUSED(RAFTERSHIM_NOT_NEXT, take(b ^ 1));
+    IS(take(b), DONE);
+}
+static inline void nothing_next(void) {
+    keep();
+    IS(ask(), NONE);
+    IS(changed(), 0);
+    REFUSED(RAFTERSHIM_NOT_NEXT, take(0));
+}
 
 #endif

@@ -50,7 +50,8 @@ static void misfits(void) {
     REFUSED(2, line(50));
     REFUSED(2, brk());
     REFUSED(2, key());
-    REFUSED(2, next());
+    REFUSED(2, ask());
+    REFUSED(2, take(50));
     REFUSED(2, frame(5, 129));
     REFUSED(2, raftershim_loop_frame(LENT, 2048));
     keep();
@@ -174,10 +175,10 @@ static void held_lines(void) {
 static void holding(void) {
     IS(create(8, 3, 3), DONE);
     for (uint8_t b = 1; b <= 4; b++) IS(line(b), TAKEN(8 - b));
-    IS(next(), NONE);
+    nothing_next();
     IS(line(5), TAKEN(3));
-    IS(next(), BYTE(19));
-    IS(next(), NONE);
+    goes_out(19);
+    nothing_next();
     for (uint8_t b = 6; b <= 8; b++) IS(line(b), TAKEN(8 - b));
     IS(line(9), TAKEN(0));
     IS(show_receive(), PART(0, 8));
@@ -187,7 +188,7 @@ static void holding(void) {
     IS(frame(4, 64), OUT(3, 4, 64));
     IS(frame(5, 96), OUT(3, 0, 1));
     for (uint32_t d = 1; d <= 5; d++) IS(frame(0, d), OUT(3, 0, d + 1));
-    IS(next(), BYTE(17));
+    goes_out(17);
     IS(show_receive(), PART(6, 2));
     IS(line(10), TAKEN(5));
     IS(show_receive(), PART(6, 2));
@@ -213,18 +214,18 @@ static void listening(void) {
     IS(tx[1], 13);
     IS(tx[2], 10);
     REFUSED(4, frame(0, 66));
-    IS(next(), BYTE(65));
-    IS(next(), BYTE(13));
+    goes_out(65);
+    goes_out(13);
     REFUSED(4, frame(2, 66));
     IS(frame(0, 66), OUT(1, 0, 66));
     IS(show_transmit(), PART(2, 1));
-    IS(next(), BYTE(10));
+    goes_out(10);
     IS(show_transmit(), PART(0, 1));
     IS(line(19), TAKEN(8));
-    IS(next(), NONE);
+    nothing_next();
     IS(line(17), TAKEN(8));
-    IS(next(), BYTE(66));
-    IS(next(), NONE);
+    goes_out(66);
+    nothing_next();
 }
 
 /* "Status byte": break, key and overrun are told, and clear on return */
@@ -329,7 +330,7 @@ static void room_of_frames(void) {
     IS(frame(5, 96), OUT(3, 5, 64));
     IS(frame(4, 33), OUT(3, 4, 33));
     IS(frame(3, 68), OUT(0, 3, 68));
-    IS(next(), BYTE(65));
+    goes_out(65);
     IS(frame(6, 0), OUT(1, 6, 0));
     IS(frame(1, 69), OUT(0, 1, 69));
     IS(frame(4, 20), OUT(7, 4, 20));
@@ -347,8 +348,9 @@ static void no_room_told(void) {
     IS(line(50), TAKEN(5));
     IS(brk(), DONE);
     IS(key(), DONE);
-    IS(next(), BYTE(65));
-    IS(next(), NONE);
+    goes_out(65);
+    nothing_next();
+    REFUSED(12, take(65));
     REFUSED(3, raftershim_loop_frame(LENT, 2048));
     REFUSED(5, writes(3, 0));
     REFUSED(6, writes(0, 16));
@@ -389,7 +391,7 @@ static void onepass(void) {
     IS(frame(0, 50), OUT(64, 0, 46));
     IS(frame(0, 46), OUT(64, 2, 53));
     IS(frame(2, 53), OUT(64, 5, 64));
-    IS(next(), NONE);
+    nothing_next();
 }
 
 int main(void) {

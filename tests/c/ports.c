@@ -1,6 +1,7 @@
 /*
  * Stands in for a board under the main loop of the dongle, on a machine of ours: a serial port with a queue of six bytes, which loses
- * what comes when it is full, and the phone of the example, between whose questions come commands that throw away what is held.
+ * what comes when it is full, and which fails to send more often than not; and the phone of the example, between whose questions come
+ * commands that throw away what is held, and bytes for the line.
  */
 #include <stdio.h>
 #include <stdlib.h>
@@ -13,9 +14,13 @@
 #undef loop_give
 
 #define QUEUE 6u
-#define COMMANDS 3u
+#define COMMANDS 5u
+/* Of so many tries to send a byte one succeeds. */
+#define TRIES 3u
+/* The most bytes for the line that are kept. */
+#define SENT 8u
 
-/* What comes at once when the port is empty: first commands on the loop, then bytes on the line. */
+/* What comes at once when the port is empty: first frames on the loop, then bytes on the line. */
 struct moment {
     uint32_t commands[COMMANDS + 1u];
     const char *line;
@@ -30,7 +35,8 @@ static const struct moment moments[] = {
     /* The 2 of 2.5 is the seventh byte, and the six before it are a reading. */
     {{0}, "6.25\r\n2"},
     {{0}, ".5\r\n"},
-    {{0}, "7.5\r\n"},
+    /* The phone sets the range of the meter. */
+    {{LISTEN_1, 'R', '1', '3', TALK_1}, "7.5\r\n"},
     /* The 2 is thrown away. */
     {{0}, "12"},
     {{DEVICE_CLEAR}, ".5\r\n"},
@@ -46,8 +52,8 @@ static const struct moment moments[] = {
 uint32_t line_came;
 static const struct moment *moment = moments;
 static const uint32_t *commands = moments[0].commands;
-static char queue[QUEUE];
-static uint32_t queued;
+static char queue[QUEUE], sent[SENT + 1u];
+static uint32_t queued, sendings, tries;
 static int overran, commanding;
 
 /* The next moment. The program ends after the last. */
@@ -61,9 +67,15 @@ static void comes(void) {
     moment++;
 }
 
+/* At the end: what the line got. */
+static void line_got(void) {
+    printf("the line got %s in %u tries\n", sent, (unsigned)tries);
+}
+
 /* The phone asks from the first byte on. */
 void line_open(void) {
     asked_at = 0u;
+    atexit(line_got);
 }
 
 int line_take(uint8_t *byte) {
@@ -81,13 +93,11 @@ int line_overran(void) {
     return told;
 }
 
-/* Nothing goes out on the line here. */
-int line_free(void) {
-    return 0;
-}
-
-void line_give(uint8_t byte) {
-    (void)byte;
+/* What the port does not send it does not take. */
+int line_give(uint8_t byte) {
+    if (++tries % TRIES != 0u) return 0;
+    if (sendings < SENT) sent[sendings++] = (char)byte;
+    return 1;
 }
 
 int loop_take(uint32_t *frame) {

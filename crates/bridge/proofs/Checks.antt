@@ -58,7 +58,8 @@ module _ (w : World) (n v : ℕ) where
   write-ten : ofWrite ≡ 10 → (ofTable ≡ 0) × (heldLine (w .state) n ≡ true)
   unfolding checksOn writeChecks
   write-ten e =
-      go (eqb (carriedOf n) nothing) (tooLarge (carriedOf n) v) (bitNotCarried (carriedOf n) v) (goIsStop (written (w .state .regs) n v)) (heldLine (w .state) n) e
+      go (eqb (carriedOf n) nothing) (tooLarge (carriedOf n) v) (bitNotCarried (carriedOf n) v) (goIsStop (written (w .state .regs) n v))
+      (heldLine (w .state) n) e
     where
       go : (five six seven eight ten : Bool) → _≡_ {A = ℕ} (cond five 5 (cond six 6 (cond seven 7 (cond eight 8 (cond ten 10 0))))) 10 →
           (_≡_ {A = ℕ} (cond five 5 (cond six 6 (cond seven 7 (cond eight 8 0)))) 0) × (ten ≡ true)

@@ -69,7 +69,8 @@ module _ (s : State) (rx tx : List ℕ) (e : fits s (length rx) (length tx) ≡ 
 
 module _ (s : State) (rx tx : List ℕ) (e : fits s (length rx) (length tx) ≡ true) where
   -- a state that fits, and no refusal after that: what is accepted was done
-  pub fit-met : (c : OnState) (d : Did) → firstRefusal (checksOn c (world s rx tx)) ≡ 0 → d ≡ notRefused (on c) (world s rx tx) → d ≡ step (on c) (world s rx tx)
+  pub fit-met : (c : OnState) (d : Did) → firstRefusal (checksOn c (world s rx tx)) ≡ 0 → d ≡ notRefused (on c) (world s rx tx) →
+      d ≡ step (on c) (world s rx tx)
   unfolding step checks refusedOr
   fit-met c d h q = q ∙ sym (rw (e, h))
 

@@ -140,7 +140,8 @@ pub fn take_key(s: State, rx: &[u16], tx: &[u8]) -> Outcome
 
 // Says which line byte is next, or none; nothing changes.
 pub fn ask_line_byte(s: State, rx: &[u16], tx: &[u8]) -> Answer
-    ensures { λ r. ⌜ Promised (on askLineByte) (world s (now (rx .entry)) (now (tx .entry))) (looked (said r) (world s (now (rx .entry)) (now (tx .entry)))) ⌝ }
+    ensures { λ r. ⌜ Promised (on askLineByte) (world s (now (rx .entry)) (now (tx .entry)))
+        (looked (said r) (world s (now (rx .entry)) (now (tx .entry)))) ⌝ }
 {
     if !state::fitting::state_fits(s, rx.len(), tx.len()) {
         return Answer::Refused(2);

@@ -215,7 +215,11 @@ done-places (on askLineByte) w h = none w (quiet w _ refl refl)
 done-places (on (takeLineByte b)) w h =
     let e : Fits w = fitting (takeLineByte b) w h .0 in
     let o : Out = nextOut (w .state) (w .tx) in
-    none w (record { rx = placed-same markedCell (w .rx) (w .state .rx) _ (gone-rx w e o); tx = placed-still markedCell (w .tx) (w .state .tx) _ (gone-tx w e o refl) })
+    none w
+    (record {
+      rx = placed-same markedCell (w .rx) (w .state .rx) _ (gone-rx w e o);
+      tx = placed-still markedCell (w .tx) (w .state .tx) _ (gone-tx w e o refl);
+    })
 done-places (on (loopFrame n)) w h =
     let x = frame-fitting n w h in
     let t : State = frameTaken (w .state) (w .rx) n .state in

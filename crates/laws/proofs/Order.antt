@@ -3,7 +3,8 @@ use mathlib.Core.Path.{_≡_, refl}
 use mathlib.Core.Bool.{true}
 use Rattle.answers.specs.Refusals.{rising}
 use Rattle.registers.specs.Writing.{writeChecks}
-use Rattle.bridge.specs.Calls.{OnState, reset, write, lineByte, lineBreak, key, askLineByte, takeLineByte, loopFrame, create, show, on, World, checksOn, checks}
+use Rattle.bridge.specs.Calls.{OnState, reset, write, lineByte, lineBreak, key, askLineByte, takeLineByte, loopFrame, create, show, on, World}
+use Rattle.bridge.specs.Calls.{checksOn, checks}
 use Rattle.laws.specs.Order.{ChecksRise}
 
 rise-on : (c : OnState) (w : World) → rising 2 (checksOn c w) ≡ true

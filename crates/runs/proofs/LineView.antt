@@ -46,7 +46,8 @@ module _ (w : World) (F : Fits w) (b : ℕ) where
   pub gone-shape : isNext (nextOf w) b ≡ true → Shape w (seen (on (takeLineByte b)) w done) (core (gone (w .state) (nextOf w))) (w .rx) (w .tx)
   unfolding arrived sent added handedOut restarts writes clears nextOut isNext gone
   gone-shape n =
-      none-arrives (on (takeLineByte b)) w done _ _ _ refl (by-tests (owed (w .state .line)) (w .state .line .forbidden || eqb (w .state .tx .len) 0) refl refl n)
+      none-arrives (on (takeLineByte b)) w done _ _ _ refl
+      (by-tests (owed (w .state .line)) (w .state .line .forbidden || eqb (w .state .tx .len) 0) refl refl n)
     where
       own : ℕ
       own = cond (w .state .line .holding) (stop (w .state .regs)) (go (w .state .regs))

@@ -14,7 +14,8 @@ use Rattle.answers.specs.Answers.{Said, said, done, none, byte, frame, refused,
 use Rattle.line.specs.HoldingOff.{nextOut, outAnswer}
 use Rattle.loopside.specs.Sends.{sendState, sendFrom, sendStatus, ended}
 use Rattle.loopside.specs.Frames.{frameTaken}
-use Rattle.bridge.specs.Calls.{on, create, reset, write, lineByte, lineBreak, key, askLineByte, takeLineByte, loopFrame, show, World, Did, checks, outcome, refusedOr, step}
+use Rattle.bridge.specs.Calls.{on, create, reset, write, lineByte, lineBreak, key, askLineByte, takeLineByte, loopFrame, show, World, Did, checks}
+use Rattle.bridge.specs.Calls.{outcome, refusedOr, step}
 use Rattle.bridge.specs.Calls as calls
 use Rattle.laws.specs.Observers.{taken, isFrame}
 use Rattle.laws.specs.Demands.{RefusedStays, OneFrameOut}

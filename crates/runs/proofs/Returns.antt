@@ -45,7 +45,8 @@ use Rattle.runs.proofs.FrameKinds.{Kind, no-data, kind-of, address-high
 use Rattle.runs.proofs.FrameKinds as kinds
 use Rattle.laws.proofs.Ways.{Way, isNext, isBack, isLast, isDamaged, isStored, isPassed, isCleared}
 use Rattle.laws.proofs.Ways.{isObeyed, isAssigned, isSendAsked, isTold, isFinishing, isReady, isIdentified, way}
-use Rattle.runs.proofs.Untouched.{Untouched, both-untouched, settled-untouched, break-untouched, key-untouched, line-untouched, gone-untouched, write-untouched}
+use Rattle.runs.proofs.Untouched.{Untouched, both-untouched, settled-untouched, break-untouched, key-untouched, line-untouched, gone-untouched}
+use Rattle.runs.proofs.Untouched.{write-untouched}
 use Rattle.runs.proofs.Steps.{answer, after, end, some, Without, ours, at-call, at-left}
 
 -- the frame under way is g but for the service bit, the talker is active, with status where k holds, and finishing is e

@@ -19,7 +19,8 @@ use Rattle.state.specs.Sizes.{startState, fits}
 use Rattle.state.proofs.Fits.{tx-fits}
 use Rattle.line.specs.HoldingOff.{storedWith}
 use Rattle.loopside.specs.LoopToLine.{adds, busy}
-use Rattle.bridge.specs.Calls.{reset, write, lineByte, lineBreak, key, askLineByte, takeLineByte, loopFrame, Call, create, show, on, World, checksOn, checks, roomOf, step}
+use Rattle.bridge.specs.Calls.{reset, write, lineByte, lineBreak, key, askLineByte, takeLineByte, loopFrame, Call, create, show, on, World, checksOn}
+use Rattle.bridge.specs.Calls.{checks, roomOf, step}
 use Rattle.laws.specs.Bridges.{telling}
 use Rattle.laws.specs.Observers.{taken, added}
 use Rattle.laws.specs.Rooms.{ofSaid, wouldAdd, RoomTakes}

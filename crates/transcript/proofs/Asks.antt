@@ -115,8 +115,10 @@ no-more zero (suc m) w l h = rw h
 no-more (suc n) zero w l h = absurd (omega arith)
 no-more (suc n) (suc m) w l h = pick (no-more n m (nextTaken w) (omega arith)) (isByte (askAnswer w)) refl
   where
-    pick : (isByte (askAnswer (lineWorld n (nextTaken w))) ≡ false → lineOut m (nextTaken w) ≡ lineOut n (nextTaken w)) → (t : Bool) → isByte (askAnswer w) ≡ t →
-        cond (isByte (askAnswer w)) (byteIn (askAnswer w) ∷ lineOut m (nextTaken w)) [] ≡ cond (isByte (askAnswer w)) (byteIn (askAnswer w) ∷ lineOut n (nextTaken w)) []
+    pick : (isByte (askAnswer (lineWorld n (nextTaken w))) ≡ false → lineOut m (nextTaken w) ≡ lineOut n (nextTaken w)) →
+        (t : Bool) → isByte (askAnswer w) ≡ t →
+        cond (isByte (askAnswer w)) (byteIn (askAnswer w) ∷ lineOut m (nextTaken w)) []
+        ≡ cond (isByte (askAnswer w)) (byteIn (askAnswer w) ∷ lineOut n (nextTaken w)) []
     pick more true e = rw e (ap (λ (bs : List ℕ). byteIn (askAnswer w) ∷ bs) (more (rw e at h)))
     pick more false e = rw e
 

@@ -160,7 +160,9 @@ module _ (rx tx : List ℕ) (t : State) (n : ℕ) (a : Answer) (r : Bool) (h : 0
       cond (isByte (said a)) (byteIn (said a) ∷ lineOut (n - 1) (step (on (takeLineByte (byteIn (said a)))) (world t rx tx) .world)) []
   line-is =
       line-step n (world t rx tx) h
-      ∙ ap (λ (d : Did). cond (isByte (d .said)) (byteIn (d .said) ∷ lineOut (n - 1) (step (on (takeLineByte (byteIn (d .said)))) (d .world) .world)) []) (sym e)
+      ∙ ap
+      (λ (d : Did). cond (isByte (d .said)) (byteIn (d .said) ∷ lineOut (n - 1) (step (on (takeLineByte (byteIn (d .said)))) (d .world) .world)) [])
+      (sym e)
 
   pub line-stops : not r ≡ true → lineOut n (world t rx tx) ≡ []
   line-stops q = line-is ∙ rw (← b, not-true r q)

@@ -120,11 +120,11 @@ unfolding see.bytesAndBreaks see.bytesAndMarks see.added see.handedOut see.resta
 others-open = tt
 
 unfoldable laws-open : Unit {0}
-unfolding holding.sends holding.holdingAfter next.afterByte next.forbiddenAfter next.nextByte last.lastOf last.lastSent ask-take.givenState finishes spells numberOf
+unfolding holding.sends holding.holdingAfter next.afterByte next.forbiddenAfter next.nextByte last.lastOf last.lastSent finishes spells numberOf
 laws-open = tt
 
 unfoldable roles-said : Unit {0}
-unfolding roles.commanded roles.readied roles.returnedTo roles.byFrame roles.commandedRemote roles.remoteByFrame writtenTo comes
+unfolding ask-take.givenState roles.commanded roles.readied roles.returnedTo roles.byFrame roles.commandedRemote roles.remoteByFrame writtenTo comes
 roles-said = tt
 
 unfoldable rules-open : Unit {0}

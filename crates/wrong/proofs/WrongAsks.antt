@@ -173,7 +173,8 @@ unfolding computes
 takes-any-byte-unasked law =
     answers-differ _ _ refl
     (rw (holds (begunWith 65) 0 1 refl) at
-    (in-between takesAnyByte TakesAsAsked (oneForTheLine 65) saysA [] (on (takeLineByte 66)) (rw (holds (begunWith 65) 0 1 refl), tt) refl law 66 refl refl refl
+    (in-between takesAnyByte TakesAsAsked (oneForTheLine 65) saysA [] (on (takeLineByte 66))
+    (rw (holds (begunWith 65) 0 1 refl), tt) refl law 66 refl refl refl
     .other refl a-not-b))
 
 -- "A" is refused
@@ -182,7 +183,8 @@ unfolding computes
 refuses-the-next-asked law =
     answers-differ _ _ refl
     (rw (holds (begunWith 65) 0 1 refl) at
-    (in-between refusesTheNext TakesAsAsked (oneForTheLine 65) saysA [] (on (takeLineByte 65)) (rw (holds (begunWith 65) 0 1 refl), tt) refl law 65 refl refl refl
+    (in-between refusesTheNext TakesAsAsked (oneForTheLine 65) saysA [] (on (takeLineByte 65))
+    (rw (holds (begunWith 65) 0 1 refl), tt) refl law 65 refl refl refl
     .same refl))
 
 -- an ask has removed "A", and its take is refused
@@ -200,7 +202,8 @@ unfolding computes
 stuttering-falls-asked law =
     numbers-differ _ _ refl
     (rw (holds (begunWith 65) 0 1 refl) at (ap (λ (s : State). s .tx .len)
-    (in-between stuttering AskThenTake (oneForTheLine 65) saysA [] (on (takeLineByte 65)) (rw (holds (begunWith 65) 0 1 refl), tt) refl law 65 refl refl refl refl
+    (in-between stuttering AskThenTake (oneForTheLine 65) saysA [] (on (takeLineByte 65))
+    (rw (holds (begunWith 65) 0 1 refl), tt) refl law 65 refl refl refl refl
     .state)))
 
 -- stop is due and the byte held is equal to it: the byte held is gone, and stop is still due

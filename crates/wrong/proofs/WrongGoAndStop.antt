@@ -20,7 +20,8 @@ use Rattle.wrong.proofs.Trying.{in-since, in-between}
 -- the data byte 19 is taken
 pub takes-data-for-stop-falls : Breaks takesDataForStop LastKept
 unfolding computes
-takes-data-for-stop-falls law = true≢false (rw (holds (begunWith 19) 0 1 refl) at (law (on (takeLineByte 19) ∷ []) (oneForTheLine 19) tt (omega arith, tt) refl))
+takes-data-for-stop-falls law =
+    true≢false (rw (holds (begunWith 19) 0 1 refl) at (law (on (takeLineByte 19) ∷ []) (oneForTheLine 19) tt (omega arith, tt) refl))
 
 -- our own 19 is taken
 pub never-records-sent-falls : Breaks neverRecordsSent LastKept

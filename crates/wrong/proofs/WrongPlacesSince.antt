@@ -145,7 +145,9 @@ compares-once-falls law =
 -- the byte at the last place is handed out, and the next is at place 3 of three
 pub oldest-late-falls : Breaks oldestLate KeepsFit
 unfolding computes
-oldest-late-falls law = false≢true (rw (holds (65 ∷ 66 ∷ 67 ∷ []) 2 1 refl, goes-round 3 3 refl) at (law (on (takeLineByte 67)) (listenerHolding (65 ∷ 66 ∷ 67 ∷ []) 2 1) tt refl))
+oldest-late-falls law =
+    false≢true
+    (rw (holds (65 ∷ 66 ∷ 67 ∷ []) 2 1 refl, goes-round 3 3 refl) at (law (on (takeLineByte 67)) (listenerHolding (65 ∷ 66 ∷ 67 ∷ []) 2 1) tt refl))
 
 -- "C" is at the last place, and "A" is said to be next
 pub reads-across-falls : Breaks readsAcross NextAsked

@@ -82,6 +82,32 @@ mod tests {
     }
 
     #[test]
+    fn a_line_byte_that_is_not_said_or_not_taken_is_found() {
+        let (peer, idle) = (bridge::peer::SIDE, bridge::IDLE);
+        let print = written_down::<Bridge>(Bridge::work("print").expect("a work"), 64);
+        // Five bytes of the loop and two that end the line.
+        assert_eq!(print.bytes, 7);
+        let beside = |side| {
+            let mut sides = Bridge::answering();
+            sides.push(side);
+            calls::<Bridge>(sides, 64, &print, 3)
+        };
+        assert!(beside(peer).is_ok());
+        let mute = bridge::Side {
+            ask_line_byte: idle.ask_line_byte,
+            ..peer
+        };
+        let told = beside(mute).expect_err("a byte is not said");
+        assert!(told.starts_with("AskLineByte: the answers are"), "{told}");
+        let deaf = bridge::Side {
+            take_line_byte: idle.take_line_byte,
+            ..peer
+        };
+        let told = beside(deaf).expect_err("a byte is not taken");
+        assert_eq!(told, "TakeLineByte(86): the blocks or stores differ");
+    }
+
+    #[test]
     fn a_mailbox_that_differs_is_found() {
         let (model, idle) = (mailbox::model::SIDE, mailbox::IDLE);
         assert!(beside::<Mailbox>(model).is_ok());

@@ -86,7 +86,15 @@ pub fn data_frame(answer: u64) -> Option<u32> {
     (frame < 4 << 8).then_some(frame as u32)
 }
 
+/// The answer of a call that has nothing to hand out and tells no room.
+pub const DONE: u64 = 0;
+
 /// Whether an answer is a byte for the line or the bus.
 pub fn is_byte(answer: u64) -> bool {
     answer >> 16 & 0xff == 2
+}
+
+/// The line byte in an answer, if it is one.
+pub fn byte_in(answer: u64) -> Option<u8> {
+    is_byte(answer).then_some(answer as u8)
 }

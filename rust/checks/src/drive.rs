@@ -1,6 +1,6 @@
 //! Drives a pair through a run.
 
-use crate::machine::{Machine, Made, Watcher};
+use crate::machine::{Machine, Made, Stores, Watcher};
 use crate::pair::Pair;
 use crate::random::Random;
 use crate::runs::Drawable;
@@ -10,6 +10,11 @@ use crate::tally::Tally;
 pub trait What<M: Machine>: Copy {
     /// The call in this state, if it is done this often already in a row.
     fn call(self, state: &M::State, done: u8) -> M::Call;
+
+    /// The same where it depends on what the stores hold too.
+    fn call_on(self, state: &M::State, _stores: Stores<M>, done: u8) -> M::Call {
+        self.call(state, done)
+    }
 }
 
 /// A step: a thing that is often done several times in a row.
@@ -37,23 +42,25 @@ pub fn drive<M: Machine, W: What<M>>(
     steps: &[Step<W>],
     tally: &mut Tally<M>,
 ) -> Result<(), String> {
-    let call = |step: &Step<W>, state: &M::State| step.what.call(state, step.done);
+    let call = |step: &Step<W>, state: &M::State, stores: Stores<M>| {
+        step.what.call_on(state, stores, step.done)
+    };
     run(pair, steps, call, tally)
 }
 
-/// Makes a call for each of these on both sides, by the state before it, and holds them to the laws by
-/// the run's history.
+/// Makes a call for each of these on both sides, by the state and the stores before it, and holds
+/// them to the laws by the run's history.
 pub fn run<M: Machine, T>(
     mut pair: Pair<M>,
     steps: &[T],
-    call: impl Fn(&T, &M::State) -> M::Call,
+    call: impl Fn(&T, &M::State, Stores<M>) -> M::Call,
     tally: &mut Tally<M>,
 ) -> Result<(), String> {
     tally.runs += 1;
     let mut before = pair.state().ok_or("the run starts at no state")?;
     let mut run = M::Run::starting(&before, pair.buffers().stores());
     for step in steps {
-        let call = call(step, &before);
+        let call = call(step, &before, pair.buffers().stores());
         let answer = pair.call(call)?;
         let after = pair.state().ok_or_else(|| pair.told("no state"))?;
         let noted = run.note(&Made {

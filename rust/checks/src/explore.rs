@@ -211,7 +211,7 @@ impl<M: Machine> Plan<'_, M> {
             let place = next.lasting.first_difference(&same, M::STORES);
             return Err(format!("{one} and {other} differ: {place}"));
         }
-        let quiet = M::shows(call) || kind(answer) == REFUSED;
+        let quiet = M::looks(call) || kind(answer) == REFUSED;
         if quiet && next.lasting != node.lasting {
             return Err("refused or shown, yet changed".into());
         }

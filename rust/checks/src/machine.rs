@@ -50,8 +50,14 @@ pub trait Machine: Copy + Debug + Eq + Hash + 'static {
     /// Writes a state to its block.
     fn pack(state: &Self::State, block: &mut [u8]);
 
-    /// Whether a call only shows something and changes nothing.
+    /// Whether a call shows a store: it changes nothing, and its answer is a part.
     fn shows(call: Self::Call) -> bool;
+
+    /// Whether a call changes nothing: it shows a store or, where a machine says so, something
+    /// else.
+    fn looks(call: Self::Call) -> bool {
+        Self::shows(call)
+    }
 
     /// The frame under way comes back with these bits changed; `None` where that cannot come.
     fn back(state: &Self::State, change: u16) -> Option<Self::Call>;

@@ -71,7 +71,7 @@ impl<M: Machine> Pair<M> {
     pub fn call(&mut self, call: M::Call) -> Result<u64, String> {
         self.written.add(call);
         let ours = (self.ours.call)(self.our_buffers.lend(), call);
-        if M::shows(call) || kind(ours) == REFUSED {
+        if M::looks(call) || kind(ours) == REFUSED {
             // The other is not asked yet, so its buffers are those of before the call.
             self.same_buffers("refused or shown, yet ")?;
         }

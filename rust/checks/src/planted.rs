@@ -63,7 +63,7 @@ pub fn version_taken<M: Machine, const VERSION: u8>(lent: Lent<M>, call: M::Call
 }
 
 /// Makes a call as the model does and then changes the state, given the state before the call. A
-/// call that is refused or shows is left alone.
+/// call that is refused or only looks is left alone.
 pub fn changed<M: Machine>(
     mut lent: Lent<M>,
     call: M::Call,
@@ -71,7 +71,7 @@ pub fn changed<M: Machine>(
 ) -> u64 {
     let before = M::state(lent.block);
     let answer = right::<M>(lent.again(), call);
-    let quiet = M::shows(call) || kind(answer) == REFUSED;
+    let quiet = M::looks(call) || kind(answer) == REFUSED;
     if let (Some(before), Some(mut after), false) = (before, M::state(lent.block), quiet) {
         change(&before, &mut after);
         M::pack(&after, lent.block);

@@ -208,7 +208,8 @@ fn every_byte_of_the_block_at_every_value() {
     let calls = [
         Call::Break,
         frame(0, 9),
-        Call::Next,
+        Call::Ask,
+        Call::Take(65),
         Call::Line(13),
         Call::Reset,
     ];
@@ -246,7 +247,9 @@ fn another_version_is_refused_by_every_call_but_create() {
             Call::Line(50),
             Call::Break,
             Call::Key,
-            Call::Next,
+            Call::Ask,
+            Call::Take(65),
+            Call::Take(66),
             Call::Frame(2048),
             frame(0, 9),
         ] {
@@ -271,9 +274,15 @@ fn lengths_other_than_recorded() {
                 other.resize(block_len, 0);
                 let mut pair = Pair::holding(&other, &vec![0; rx_len], &vec![0; tx_len]);
                 let fits = (rx_len, tx_len, block_len) == (4, 3, 56);
-                let answer = pair.ask(Call::Next);
+                let answer = pair.ask(Call::Ask);
                 assert_eq!(answer == refused(2), !fits);
-                for call in [Call::Reset, Call::Register(3, 99), Call::Frame(2048)] {
+                let calls = [
+                    Call::Take(0),
+                    Call::Reset,
+                    Call::Register(3, 99),
+                    Call::Frame(2048),
+                ];
+                for call in calls {
                     let answer = pair.ask(call);
                     assert_eq!(kind(answer) == REFUSED && value(answer) == 2, !fits);
                 }

@@ -16,10 +16,13 @@ use raftershim_checks::machine::Machine;
 use raftershim_checks::played::play;
 use raftershim_checks::tally::Tally;
 use script::Script;
-use Call::{Break, Frame, Key, Line, Next, Register, Reset, ShowReceive, ShowTransmit};
+use Call::{Ask, Break, Frame, Key, Line, Register, Reset, ShowReceive, ShowTransmit, Take};
 
 /// A correct return, one with another service bit, and two damaged ones.
 const RETURNS: [u16; 4] = [0, 1 << 8, 1, 2 << 8];
+/// What goes out on the line where nothing comes from the loop: our own go and stop.
+const OUT: [Call; 3] = [Ask, Take(17), Take(19)];
+
 /// A limit where all states are too many for every day.
 fn nearest() -> usize {
     first_states(600_000, 20_000_000)
@@ -46,13 +49,13 @@ fn run(
 #[test]
 fn reading_off() {
     let bytes = [Line(13), Line(10), Line(50)];
-    let calls = [SEND, FINISH, OTHER_COMMAND, Next, ShowReceive];
+    let calls = [SEND, FINISH, OTHER_COMMAND, ShowReceive];
     let start = [Register(10, 8), ASSIGN, TALK];
     let found = run(
         "reading off",
         (4, 1),
         &start,
-        &[&bytes[..], &calls].concat(),
+        &[&bytes[..], &calls, &OUT].concat(),
         EVERY_STATE,
     );
     found.assert_met(&["frames sent", "bytes lost"]);
@@ -61,12 +64,12 @@ fn reading_off() {
 #[test]
 fn reading_off_a_pair_of_equal_bytes() {
     let start = [Register(10, 8), Register(16, 10), ASSIGN, TALK];
-    let calls = [Line(10), Line(50), SEND, FINISH, Next, ShowReceive];
+    let calls = [Line(10), Line(50), SEND, FINISH, ShowReceive];
     let found = run(
         "reading off, pair 10, 10, store 6",
         (6, 2),
         &start,
-        &calls,
+        &[&calls[..], &OUT].concat(),
         EVERY_STATE,
     );
     found.assert_met(&["frames sent", "bytes lost"]);
@@ -83,9 +86,9 @@ fn status_under_way() {
         SEND,
         OTHER_COMMAND,
         CLEAR,
-        Next,
         IDENTIFY,
     ];
+    let calls = [&calls[..], &OUT].concat();
     let found = run("status under way", (4, 1), &start, &calls, EVERY_STATE);
     found.assert_met(&[
         "bytes lost",
@@ -104,19 +107,20 @@ fn listening() {
         frame(3, 66),
         Line(17),
         Line(19),
-        Next,
         SEND,
         ShowTransmit,
     ];
+    // A return where no frame of ours is under way adds a 0 or a 1.
+    let out = [0, 1, 65, 66, 13, 10].map(Take);
     let found = run(
         "listening",
         (4, 1),
         &start,
-        &[&roles[..], &calls].concat(),
+        &[&roles[..], &calls, &out, &[Ask]].concat(),
         EVERY_STATE,
     );
-    found.assert_met(&["frames kept for the line"]);
-    found.assert_refusals(&[4]);
+    found.assert_met(&["frames kept for the line", "line bytes taken"]);
+    found.assert_refusals(&[4, 12]);
 }
 
 #[test]
@@ -164,9 +168,9 @@ fn requests_by_the_stores() {
     let start = [
         ASSIGN,
         LISTEN,
+        frame(0, 19),
         frame(0, 65),
-        frame(0, 66),
-        frame(0, 67),
+        frame(0, 17),
         TALK,
     ];
     let enable = [
@@ -175,8 +179,8 @@ fn requests_by_the_stores() {
         Register(1, 0),
         Register(1, 15),
     ];
-    let calls = [Line(50), SEND, SEND_STATUS, IDENTIFY, Next];
-    let calls = [&enable[..], &calls].concat();
+    let calls = [Line(50), SEND, SEND_STATUS, IDENTIFY, Take(65)];
+    let calls = [&enable[..], &calls, &OUT].concat();
     let found = run(
         "requests by the stores",
         (4, 1),
@@ -184,22 +188,23 @@ fn requests_by_the_stores() {
         &calls,
         EVERY_STATE,
     );
-    found.assert_met(&["frames sent", "status bytes back"]);
+    found.assert_met(&["frames sent", "status bytes back", "line bytes taken"]);
+    found.assert_met(&["takes of go or stop where an equal byte waits"]);
 }
 
 #[test]
 fn holding_off() {
-    let line = [Line(50), Line(17), Line(19), Next];
+    let line = [Line(50), Line(17), Line(19)];
     let calls = [SEND, Register(11, 0), Register(11, 8), CLEAR];
-    let calls = [&line[..], &calls].concat();
+    let calls = [&line[..], &calls, &OUT].concat();
     let found = run("holding off", (4, 1), &[ASSIGN, TALK], &calls, EVERY_STATE);
-    found.assert_met(&["frames sent", "bytes lost"]);
+    found.assert_met(&["frames sent", "bytes lost", "go and stop taken"]);
 }
 
 #[test]
 fn holding_off_with_more_room() {
-    let start = [ASSIGN, LISTEN, frame(0, 65), TALK];
-    let line = [Line(50), Line(17), Line(19), Next];
+    let start = [ASSIGN, LISTEN, frame(0, 19), TALK];
+    let line = [Line(50), Line(17), Line(19)];
     let calls = [
         SEND,
         FINISH,
@@ -209,7 +214,7 @@ fn holding_off_with_more_room() {
         ASSIGN,
         TALK,
     ];
-    let calls = [&line[..], &calls].concat();
+    let calls = [&line[..], &calls, &OUT].concat();
     let found = run("holding off, store 6", (6, 2), &start, &calls, EVERY_STATE);
     found.assert_met(&["frames sent", "bytes lost"]);
 }
@@ -217,9 +222,9 @@ fn holding_off_with_more_room() {
 #[test]
 fn reading_off_with_more_room() {
     let bytes = [Line(13), Line(10), Line(50)];
-    let calls = [SEND, SEND_STATUS, FINISH, OTHER_COMMAND, Next, ShowReceive];
+    let calls = [SEND, SEND_STATUS, FINISH, OTHER_COMMAND, ShowReceive];
     let start = [Register(10, 8), ASSIGN, TALK];
-    let calls = [&bytes[..], &calls].concat();
+    let calls = [&bytes[..], &calls, &OUT].concat();
     let name = "reading off and status, store 6";
     let found = run(name, (6, 2), &start, &calls, nearest());
     found.assert_met(&["frames sent", "status bytes back"]);
@@ -235,7 +240,7 @@ fn all_together() {
         Line(19),
         Break,
         Key,
-        Next,
+        Take(65),
     ];
     let roles = [ASSIGN, TALK, LISTEN, UNTALK, UNLISTEN, CLEAR];
     let frames = [
@@ -261,7 +266,7 @@ fn all_together() {
         ShowReceive,
         ShowTransmit,
     ];
-    let calls = [&line[..], &roles, &frames, &writes, &more].concat();
+    let calls = [&line[..], &OUT, &roles, &frames, &writes, &more].concat();
     let found = run("all together", (6, 2), &[], &calls, nearest());
     found.assert_met(&[
         "frames sent",
@@ -285,7 +290,7 @@ fn shortest(both: Both<TheBridge>, start: &[Call], calls: &[Call]) -> Script {
 
 #[test]
 fn a_wrong_room_is_found_by_the_shortest_way() {
-    let calls = [Line(50), Line(17), ASSIGN, LISTEN, frame(0, 65), Next, Key];
+    let calls = [Line(50), Line(17), ASSIGN, LISTEN, frame(0, 65), Ask, Key];
     let faults = [
         planted::ROOM_BEFORE,
         planted::OTHER_STORES_ROOM,
@@ -317,7 +322,7 @@ fn a_room_that_is_told_with_a_refusal_is_found() {
 
 #[test]
 fn a_planted_fault_is_found_by_the_shortest_way() {
-    let calls = [Line(50), Line(51), SEND, Next, Key];
+    let calls = [Line(50), Line(51), SEND, Take(19), Key];
     let both = [planted::SILENT_LOSS, MODEL];
     let script = shortest(both, &[ASSIGN, TALK], &calls);
     // Create, address, talk, the bytes that fill the store and the one that is lost.

@@ -5,7 +5,7 @@
 use raftershim_checks::answer::{byte, framed, refused, with_room, DONE, NONE};
 use raftershim_checks::bridge::call::{frame, Call};
 use raftershim_checks::bridge::Pair;
-use Call::{Key, Line, Next, Register};
+use Call::{Ask, Key, Line, Register, Take};
 
 const SEND: Call = frame(5, 96);
 const SEND_STATUS: Call = frame(5, 97);
@@ -36,11 +36,17 @@ fn lines(pair: &mut Pair, mut room: usize, bytes: &[u8]) {
     }
 }
 
+/// This line byte is asked for and taken.
+fn goes_out(pair: &mut Pair, out: u8) {
+    pair.expect(Ask, byte(out));
+    pair.expect(Take(out), DONE);
+}
+
 #[test]
 fn receive_store_fills_in_the_call_that_drains_it() {
     let mut pair = talker(4, 1);
     lines(&mut pair, 4, b"0123");
-    pair.expect(Next, byte(19));
+    goes_out(&mut pair, 19);
     pair.expect(SEND, out(0, 48));
     // Three times round: the meter's next byte takes the place that the sending has just left.
     for number in 0..12 {
@@ -69,15 +75,15 @@ fn receive_store_fills_in_the_call_that_drains_it() {
 fn an_end_byte_drains_three_and_a_send_without_a_frame_the_rest() {
     let mut pair = talker(4, 1);
     lines(&mut pair, 4, b"2\r\n\r");
-    pair.expect(Next, byte(19));
+    goes_out(&mut pair, 19);
     pair.expect(SEND, out(2, 50));
-    pair.expect(Next, byte(17));
+    goes_out(&mut pair, 17);
     // Full again while the frame is under way: held are CR LF 5 CR.
     lines(&mut pair, 3, b"\n5\r");
-    pair.expect(Next, byte(19));
+    goes_out(&mut pair, 19);
     // Its return removes the pair, has no frame yet, and holding off ends in that call.
     pair.expect(frame(2, 50), OVER);
-    pair.expect(Next, byte(17));
+    goes_out(&mut pair, 17);
     lines(&mut pair, 2, b"\n");
     pair.expect(SEND, out(2, 53));
     pair.expect(frame(2, 53), OVER);
@@ -95,16 +101,18 @@ fn transmit_store_fills_in_the_call_that_follows_the_drain() {
     pair.expect(Register(10, 4), DONE);
     pair.expect(frame(4, 33), out(4, 33));
     pair.expect(frame(2, 50), with_room(0, framed(2, 50)));
-    // Held are 2 CR LF: full, so busy, until the line takes a byte.
-    for (data, given) in [(51, 50), (52, 13), (53, 10)] {
+    // Held are 2 CR LF: full, so busy, until a line byte is taken. Asking for it frees no place.
+    for (data, next) in [(51, 50), (52, 13), (53, 10)] {
         pair.expect(frame(0, data), refused(4));
-        pair.expect(Next, byte(given));
+        pair.expect(Ask, byte(next));
+        pair.expect(frame(0, data), refused(4));
+        goes_out(&mut pair, next);
         pair.expect(frame(0, data), with_room(0, framed(0, data.into())));
     }
-    for given in [51, 52, 53] {
-        pair.expect(Next, byte(given));
+    for next in [51, 52, 53] {
+        goes_out(&mut pair, next);
     }
-    pair.expect(Next, NONE);
+    pair.expect(Ask, NONE);
     println!(
         "the very call, transmit store: {} answers as written",
         pair.asked()

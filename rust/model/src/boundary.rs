@@ -9,7 +9,7 @@ use crate::{block, Answer, Bridge, Ring, WithRoom};
 
 /// Kind: done, and nothing to hand out.
 pub const DONE: u64 = 0;
-/// Kind: no line byte to give.
+/// Kind: no line byte is next.
 pub const NONE: u64 = 1;
 /// Kind: the value is a line byte.
 pub const BYTE: u64 = 2;
@@ -108,9 +108,17 @@ pub fn key(block: &mut [u8], rx: &[u16], tx: &[u8]) -> u64 {
     on_state(block, |bridge| bridge.take_key(rx, tx))
 }
 
-/// Gives the next line byte, or none.
-pub fn next_line_byte(block: &mut [u8], rx: &[u16], tx: &[u8]) -> u64 {
-    on_state(block, |bridge| bridge.next_line_byte(rx, tx))
+/// Says which line byte is next, or none. The block is lent for reading alone.
+pub fn ask_line_byte(block: &[u8], rx: &[u16], tx: &[u8]) -> u64 {
+    word(match block::unpack(block) {
+        Some(bridge) => bridge.ask_line_byte(rx, tx),
+        None => Answer::Refused(2),
+    })
+}
+
+/// Takes the line byte that is next, by its name.
+pub fn take_line_byte(block: &mut [u8], rx: &[u16], tx: &[u8], byte: u8) -> u64 {
+    on_state(block, |bridge| bridge.take_line_byte(rx, tx, byte))
 }
 
 /// Takes a loop frame and gives the one that goes on, and tells the room of the transmit store.

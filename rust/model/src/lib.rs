@@ -11,6 +11,7 @@
 
 pub mod block;
 pub mod boundary;
+mod line_out;
 mod reading;
 mod ring;
 
@@ -23,9 +24,9 @@ use reading::{cell, marked, reading, Reading};
 pub enum Answer {
     /// Done, and nothing to hand out.
     Done,
-    /// There is no line byte to give.
+    /// No line byte is next.
     NoByte,
-    /// The next line byte.
+    /// The line byte that is next.
     Byte(u8),
     /// The frame that goes out for the frame taken.
     Frame(u16),
@@ -341,11 +342,11 @@ impl Bridge {
 
     /// Takes a byte from the line, and tells the room of the receive store.
     pub fn line_byte(&mut self, rx: &mut [u16], tx: &[u8], byte: u8) -> WithRoom {
-        let answer = self.take_line_byte(rx, tx, byte);
+        let answer = self.line_byte_came(rx, tx, byte);
         WithRoom::of(answer, || self.receive.room(rx.len()))
     }
 
-    fn take_line_byte(&mut self, rx: &mut [u16], tx: &[u8], byte: u8) -> Answer {
+    fn line_byte_came(&mut self, rx: &mut [u16], tx: &[u8], byte: u8) -> Answer {
         if !self.fits(rx.len(), tx.len()) {
             return Answer::Refused(2);
         }
@@ -404,35 +405,6 @@ impl Bridge {
         self.key_again = true;
         self.begin_request(before);
         Answer::Done
-    }
-
-    /// Gives the next line byte, or none.
-    pub fn next_line_byte(&mut self, rx: &[u16], tx: &[u8]) -> Answer {
-        if !self.fits(rx.len(), tx.len()) {
-            return Answer::Refused(2);
-        }
-        // "If the last of go and stop we sent (at start: go) differs from what holds, the next
-        // line byte is that character, before all else, also with the protocol since off or our
-        // sending forbidden."
-        if self.stop_sent_last != self.holding {
-            self.stop_sent_last = self.holding;
-            return Answer::Byte(if self.holding {
-                self.registers.stop()
-            } else {
-                self.registers.go()
-            });
-        }
-        if self.forbidden {
-            return Answer::NoByte;
-        }
-        let byte = match self.transmit.look(tx, 0) {
-            Some(byte) => byte,
-            None => return Answer::NoByte,
-        };
-        let before = self.enabled_and_holding();
-        self.transmit.remove(tx.len(), 1);
-        self.begin_request(before);
-        Answer::Byte(byte)
     }
 
     /// Takes a loop frame, and tells the room of the transmit store.

@@ -1,6 +1,8 @@
-//! The paper's examples, its list of slips, the whole-run demands, what a break does and what a held line
-//! refuses, as calls on the model.
+//! The paper's examples, its list of slips, the whole-run demands, what a break does, what a held
+//! line refuses, and how a line byte is asked for and taken, as calls on the model.
 
+#[path = "paper/ask_take.rs"]
+mod ask_take;
 #[path = "paper/held_line.rs"]
 mod held_line;
 
@@ -25,7 +27,8 @@ enum Call {
     Line(u8),
     Break,
     Key,
-    Next,
+    Ask,
+    Take(u8),
     Loop(u32),
     Echo,
     Damage,
@@ -71,7 +74,8 @@ impl World {
             Call::Line(byte) => bridge.line_byte(rx, tx, byte),
             Call::Break => bridge.take_break(rx, tx).into(),
             Call::Key => bridge.take_key(rx, tx).into(),
-            Call::Next => bridge.next_line_byte(rx, tx).into(),
+            Call::Ask => bridge.ask_line_byte(rx, tx).into(),
+            Call::Take(byte) => bridge.take_line_byte(rx, tx, byte).into(),
             Call::Loop(frame) => bridge.loop_frame(rx, tx, frame),
             Call::Echo => bridge.loop_frame(rx, tx, under_way),
             Call::Damage => bridge.loop_frame(rx, tx, under_way ^ 1),
@@ -97,6 +101,28 @@ impl World {
         let ring = self.bridge.transmit;
         let place = |i| self.tx[(ring.oldest + i) % self.tx.len()];
         (0..ring.held).map(place).collect()
+    }
+
+    /// Asks for a line byte, sends it and takes it: this is it, or none. Asking changes nothing,
+    /// and no other byte can be taken.
+    fn goes_out(&mut self) -> Option<u8> {
+        let before = self.clone();
+        let asked = self.call(Call::Ask);
+        assert_eq!(self, &before);
+        let other = match asked {
+            Byte(byte) => byte ^ 1,
+            NoByte => 0,
+            other => panic!("no answer to an ask: {other:?}"),
+        };
+        assert_eq!(self.call(Call::Take(other)), Refused(12));
+        assert_eq!(self, &before);
+        match asked {
+            Byte(byte) => {
+                assert_eq!(self.call(Call::Take(byte)), Done);
+                Some(byte)
+            }
+            _ => None,
+        }
     }
 
     /// Asks for data with ready 96 and returns every frame unchanged until 5,64.
@@ -296,7 +322,7 @@ fn run_store_8_margin_3() {
         assert_eq!(world.bridge.lost, u32::from(number == 9));
     }
     assert!(world.bridge.overrun_seen);
-    assert_eq!(world.call(Call::Next), Byte(19));
+    assert_eq!(world.goes_out(), Some(19));
     let mut call = offer(5, 96);
     while world.bridge.receive.held > 2 {
         assert!(world.bridge.holding);
@@ -304,7 +330,7 @@ fn run_store_8_margin_3() {
         call = Call::Echo;
     }
     assert!(!world.bridge.holding);
-    assert_eq!(world.call(Call::Next), Byte(17));
+    assert_eq!(world.goes_out(), Some(17));
     println!(
         "{} bytes stored, {} lost, {} frames sent",
         world.bridge.stored, world.bridge.lost, world.bridge.sent
@@ -317,8 +343,8 @@ fn run_transmit_store_3() {
     let mut world = World::after(64, 3, 8, &listen);
     assert_eq!(world.call(offer(2, 50)), Frame(f(2, 50)));
     assert_eq!(world.waiting(), [50, 13, 10]);
-    let out: Vec<Answer> = (0..4).map(|_| world.call(Call::Next)).collect();
-    assert_eq!(out, [Byte(50), Byte(13), Byte(10), NoByte]);
+    let out: Vec<Option<u8>> = (0..4).map(|_| world.goes_out()).collect();
+    assert_eq!(out, [Some(50), Some(13), Some(10), None]);
 
     assert_eq!(world.call(offer(0, 51)), Frame(f(0, 51)));
     let before = world.clone();
@@ -331,7 +357,7 @@ fn run_transmit_store_3() {
     assert_eq!(world.call(offer(1, 52)), Frame(f(1, 52)));
     assert_eq!(world.waiting(), [51, 52]);
     println!(
-        "{} bytes given, {busy} end bytes busy at one held",
+        "{} bytes taken, {busy} end bytes busy at one held",
         out.len() - 1
     );
 }
@@ -435,14 +461,14 @@ fn slip_4_listen_address_31_while_unassigned() {
 fn slip_5_owed_go_dropped_when_the_protocol_goes_off() {
     let bytes = [Call::Line(50), Call::Line(51), Call::Line(52)];
     let mut world = World::after(4, 3, 1, &bytes);
-    assert_eq!(world.call(Call::Next), Byte(19));
+    assert_eq!(world.goes_out(), Some(19));
     assert_eq!(world.call(Call::Line(19)), Done);
     assert!(world.bridge.forbidden);
     assert_eq!(world.call(Call::Write(11, 0)), Done);
     assert!(!world.bridge.holding && !world.bridge.forbidden);
-    assert_eq!(world.call(Call::Next), Byte(17));
-    assert_eq!(world.call(Call::Next), NoByte);
-    println!("1 stop and 1 go given");
+    assert_eq!(world.goes_out(), Some(17));
+    assert_eq!(world.goes_out(), None);
+    println!("1 stop and 1 go taken");
 }
 
 #[test]
@@ -459,11 +485,11 @@ fn onepass_example() {
             other => panic!("{other:?}"),
         }
     }
-    let mut given = 0;
-    while world.call(Call::Next) != NoByte {
-        given += 1;
+    let mut taken = 0;
+    while world.goes_out().is_some() {
+        taken += 1;
     }
-    lines.push(format!("line {given}"));
+    lines.push(format!("line {taken}"));
     let expected = [
         "onepass 1",
         "5,130",
@@ -532,10 +558,10 @@ fn commands_and_ready_frames() {
     let mut world = World::after(4, 3, 1, &filled);
     world.bridge.request = false;
     // The other end's stop forbids our sending until its go.
-    for (byte, answer) in [(19, NoByte), (17, Byte(9))] {
+    for (byte, out) in [(19, None), (17, Some(9))] {
         world.call(offer(0, 9));
         world.call(Call::Line(byte));
-        assert_eq!(world.call(Call::Next), answer);
+        assert_eq!(world.goes_out(), out);
     }
     world.call(Call::Line(19));
     let talking = World::after(4, 3, 1, &[TALK[0], TALK[1], Call::Break]).then(offer(4, 4));
@@ -600,13 +626,13 @@ fn sends_hold_off_and_counts() {
     assert!(world.bridge.holding);
     assert_eq!(world.call(offer(5, 96)), Frame(f(5, 64)));
     assert_eq!((world.held(), world.bridge.holding), (vec![13], false));
-    assert_eq!(world.call(Call::Next), NoByte);
+    assert_eq!(world.goes_out(), None);
 
     // A device clear after our stop owes a go, and the next byte goes to place 0.
     let mut world = World::after(4, 3, 1, &[50, 51, 52].map(Call::Line));
-    assert_eq!(world.call(Call::Next), Byte(19));
+    assert_eq!(world.goes_out(), Some(19));
     world.call(offer(4, 20));
-    assert_eq!(world.call(Call::Next), Byte(17));
+    assert_eq!(world.goes_out(), Some(17));
     world.call(Call::Line(99));
     assert_eq!(world.rx, [99, 51, 52, 0]);
 
@@ -693,13 +719,14 @@ const SPOILERS: [fn(&mut Bridge); 24] = [
 ];
 
 /// A call of each kind that takes a state, some with refusals of larger numbers.
-const CALLS: [Call; 8] = [
+const CALLS: [Call; 9] = [
     Call::Reset,
     Call::Write(3, 99),
     Call::Line(50),
     Call::Break,
     Call::Key,
-    Call::Next,
+    Call::Ask,
+    Call::Take(50),
     Call::Loop(2048),
     Call::Echo,
 ];
@@ -761,8 +788,10 @@ struct History {
     sent: Vec<u16>,
     /// Bytes held for the line at the start, then all added.
     added: Vec<u8>,
-    /// Line bytes handed out, our own go and stop aside.
+    /// Line bytes taken, our own go and stop aside: what is taken is handed out.
     handed_out: Vec<u8>,
+    /// Whether stop was the last of our go and stop that was taken.
+    stop_taken_last: bool,
     /// A byte was lost and no status byte sent after the loss has come back unchanged.
     news_owed: bool,
     /// The status byte under way was sent after the last loss.
@@ -786,6 +815,7 @@ impl History {
             sent: Vec::new(),
             added: world.waiting(),
             handed_out: Vec::new(),
+            stop_taken_last: bridge.stop_sent_last,
             news_owed: false,
             news_under_way: false,
             no_loss_promised: bridge.registers.r11 == 8
@@ -803,6 +833,7 @@ impl History {
             sent: self.sent,
             added: self.added,
             handed_out: self.handed_out,
+            stop_taken_last: self.stop_taken_last,
             ..History::starting(world)
         }
     }
@@ -818,7 +849,10 @@ impl History {
     ) -> History {
         match call {
             Call::Reset => History::starting(after),
-            _ if call == offer(4, 20) => History::starting(after),
+            _ if call == offer(4, 20) => History {
+                stop_taken_last: self.stop_taken_last,
+                ..History::starting(after)
+            },
             Call::Write(..) => {
                 found.rules += u32::from(rule_of(&before.bridge) != rule_of(&after.bridge));
                 self.written(after)
@@ -839,18 +873,46 @@ impl History {
             Call::Damage => bridge.under_way ^ 1,
             Call::Line(byte) => return self.note_line(before, byte, found),
             Call::Break => return self.note_break(found),
-            Call::Next => {
-                if let (Byte(byte), true) = (answer, bridge.holding == bridge.stop_sent_last) {
-                    self.handed_out.push(byte);
-                }
-                return;
-            }
+            Call::Take(byte) => return self.note_taken(bridge, byte, found),
             _ => return,
         };
         if let Frame(out) = answer {
             self.note_data(bridge, frame, out, found);
             self.note_news(bridge, frame, found);
         }
+    }
+
+    /// The line byte that is next: our own go or stop, if what was taken last of them is not what
+    /// holds, and else the oldest byte that was added and not taken, unless our sending is
+    /// forbidden.
+    fn next_on_line(&self, bridge: &Bridge) -> Option<u8> {
+        match (bridge.holding, self.stop_taken_last) {
+            (true, false) => Some(bridge.registers.c[5]),
+            (false, true) => Some(bridge.registers.c[4]),
+            _ if bridge.forbidden => None,
+            _ => self.added.get(self.handed_out.len()).copied(),
+        }
+    }
+
+    /// Holds an ask and a take to what is next: the ask says it, and the take is refused exactly if
+    /// it names another byte.
+    fn check_line(&self, before: &World, call: Call, answer: Answer) {
+        let next = self.next_on_line(&before.bridge);
+        match call {
+            Call::Ask => assert_eq!(answer, next.map_or(NoByte, Byte)),
+            Call::Take(byte) if next == Some(byte) => assert_eq!(answer, Done),
+            Call::Take(_) => assert_eq!(answer, Refused(12)),
+            _ => {}
+        }
+    }
+
+    /// A line byte was taken.
+    fn note_taken(&mut self, bridge: &Bridge, byte: u8, found: &mut Found) {
+        if bridge.holding == self.stop_taken_last {
+            self.handed_out.push(byte);
+        }
+        self.stop_taken_last = bridge.holding;
+        found.taken += 1;
     }
 
     /// A break follows the byte that was accepted last, whether that is still held or not. Before
@@ -922,6 +984,7 @@ impl History {
         let sent_then_held = [self.sent.clone(), frames_of_stretches(&held)].concat();
         assert_eq!(sent_then_held, frames_of_stretches(&self.accepted));
         assert!(world.bridge.overrun_seen || !self.news_owed);
+        assert_eq!(world.bridge.stop_sent_last, self.stop_taken_last);
         let out_then_waiting = [self.handed_out.clone(), world.waiting()].concat();
         assert_eq!(out_then_waiting, self.added);
     }
@@ -938,6 +1001,8 @@ struct Found {
     news: u32,
     /// Writes that changed the reading rule.
     rules: u32,
+    /// Line bytes that were taken, our own go and stop too.
+    taken: u32,
 }
 
 /// Makes every call of the alphabet, checks, and goes on from each result.
@@ -946,9 +1011,10 @@ fn explore(world: &World, history: &History, calls: &[Call], depth: u32, found: 
         let mut next = world.clone();
         let answer = next.call(call);
         found.calls += 1;
-        if matches!(answer, Refused(_)) {
+        history.check_line(world, call, answer);
+        if call == Call::Ask || matches!(answer, Refused(_)) {
             assert_eq!(&next, world);
-            found.refused += 1;
+            found.refused += u32::from(call != Call::Ask);
             continue;
         }
         assert!(next.bridge.fits(next.rx.len(), next.tx.len()));
@@ -969,7 +1035,9 @@ fn every_order_while_talking() {
         Call::Line(10),
         Call::Line(50),
         Call::Break,
-        Call::Next,
+        Call::Ask,
+        Call::Take(17),
+        Call::Take(19),
         offer(5, 96),
         offer(5, 97),
         offer(5, 66),
@@ -990,7 +1058,7 @@ fn every_order_while_talking() {
         let mut found = Found::default();
         explore(&world, &History::starting(&world), &alphabet, 5, &mut found);
         println!("from {:?}: {found:?}", world.held());
-        assert!(found.refused > 0 && found.sent > 0 && found.breaks > 0);
+        assert!(found.refused > 0 && found.sent > 0 && found.breaks > 0 && found.taken > 0);
     }
 }
 
@@ -1001,7 +1069,11 @@ fn every_order_with_listening_and_registers() {
         Call::Line(17),
         Call::Line(19),
         Call::Key,
-        Call::Next,
+        Call::Ask,
+        Call::Take(17),
+        Call::Take(19),
+        Call::Take(65),
+        Call::Take(66),
         offer(0, 65),
         offer(3, 66),
         offer(4, 33),
@@ -1021,7 +1093,7 @@ fn every_order_with_listening_and_registers() {
         let mut found = Found::default();
         explore(&world, &History::starting(&world), &alphabet, 5, &mut found);
         println!("from {:?}: {found:?}", world.held());
-        assert!(found.refused > 0);
+        assert!(found.refused > 0 && found.taken > 0);
     }
 }
 
@@ -1101,16 +1173,17 @@ fn drawn_state(n: &mut Numbers) -> Bridge {
 
 /// A call with numbers drawn from a little more than their range.
 fn drawn_call(n: &mut Numbers) -> Call {
-    match n.below(10) {
+    match n.below(12) {
         0 => Call::Reset,
         1 => Call::Write(n.below(23) as u32, n.below(20) as u32),
         2 => Call::Line(n.below(5) as u8),
         3 => Call::Break,
         4 => Call::Key,
-        5 => Call::Next,
-        6 => Call::Echo,
-        7 => Call::Damage,
-        8 => offer(5, 96 + n.below(2) as u16),
+        5 => Call::Ask,
+        6 => Call::Take(n.below(4) as u8),
+        7 => Call::Echo,
+        8 => Call::Damage,
+        9 => offer(5, 96 + n.below(2) as u16),
         _ => Call::Loop(n.below(2060) as u32),
     }
 }
@@ -1200,7 +1273,8 @@ fn a_frame_tells_the_room_of_the_transmit_store() {
 fn no_other_call_tells_any_room() {
     let mut world = World::after(4, 3, 1, &[Call::Line(50)]);
     let calls = [
-        Call::Next,
+        Call::Ask,
+        Call::Take(50),
         Call::Break,
         Call::Key,
         Call::Write(11, 8),
@@ -1299,10 +1373,11 @@ fn a_block_of_the_version_before_is_no_state() {
         boundary::line_byte(&mut lent, &mut rx, &tx, 51),
         boundary::line_break(&mut lent, &mut rx, &tx),
         boundary::key(&mut lent, &rx, &tx),
-        boundary::next_line_byte(&mut lent, &rx, &tx),
+        boundary::ask_line_byte(&lent, &rx, &tx),
+        boundary::take_line_byte(&mut lent, &rx, &tx, 50),
         boundary::loop_frame(&mut lent, &rx, &mut tx, 0x581),
     ];
-    assert_eq!(answers, [4 << 16 | 2; 7]);
+    assert_eq!(answers, [4 << 16 | 2; 8]);
     assert_eq!(boundary::show_receive(&lent, &rx, &tx), 0);
     assert_eq!(boundary::show_transmit(&lent, &rx, &tx), 0);
     assert_eq!((lent, rx, tx), before);

@@ -5,7 +5,7 @@
 //! looks for one. It answers as the C functions do, with the same checks, and nothing is promised.
 //!
 //! - `block` has the places of the fields, and tells whether a block is a state that fits;
-//! - `ring` puts, takes and shows what a store holds, and `sending` reads frames off it;
+//! - `ring` puts, removes and shows what a store holds, and `sending` reads frames off it;
 //! - `requests` has the status byte, and `frames` takes the frames of the loop.
 
 #![forbid(unsafe_code)]
@@ -164,25 +164,44 @@ fn noted(block: &mut Block, seen: usize, again: usize) -> u64 {
     DONE
 }
 
-/// Gives the next line byte, or none.
-pub fn next_line_byte(block: &mut [u8], rx: &[u16], tx: &[u8]) -> u64 {
-    on_fitting(block, rx, tx, |block| given(block, tx))
+/// Says which line byte is next, or none.
+pub fn ask_line_byte(block: &[u8], rx: &[u16], tx: &[u8]) -> u64 {
+    match <&Block>::try_from(block) {
+        Ok(block) if fits(block, rx.len(), tx.len()) => {
+            next(block, tx).map_or(NONE, |byte| BYTE | u64::from(byte))
+        }
+        _ => MISFIT,
+    }
 }
 
+/// Takes the line byte that is next, by its name.
+pub fn take_line_byte(block: &mut [u8], rx: &[u16], tx: &[u8], byte: u8) -> u64 {
+    on_fitting(block, rx, tx, |block| {
+        if next(block, tx) != Some(byte) {
+            return REFUSED | 12;
+        }
+        if block[HOLDING] != block[STOP_SENT_LAST] {
+            block[STOP_SENT_LAST] = block[HOLDING];
+        } else {
+            let watch = Watch::enabled(block);
+            TRANSMIT.remove_oldest(block);
+            watch.settle(block);
+        }
+        DONE
+    })
+}
+
+/// The line byte that is next: our own go or stop if one is owed, else the oldest that waits,
+/// unless our sending is forbidden.
 #[inline(always)]
-fn given(block: &mut Block, tx: &[u8]) -> u64 {
-    let holding = block[HOLDING];
-    if holding != block[STOP_SENT_LAST] {
-        block[STOP_SENT_LAST] = holding;
-        return BYTE | u64::from(block[if holding == 1 { STOP } else { GO }]);
+fn next(block: &Block, tx: &[u8]) -> Option<u8> {
+    if block[HOLDING] != block[STOP_SENT_LAST] {
+        Some(block[if block[HOLDING] == 1 { STOP } else { GO }])
+    } else if block[FORBIDDEN] == 1 || TRANSMIT.held(block) == 0 {
+        None
+    } else {
+        Some(tx[TRANSMIT.oldest(block)])
     }
-    if block[FORBIDDEN] == 1 || TRANSMIT.held(block) == 0 {
-        return NONE;
-    }
-    let watch = Watch::enabled(block);
-    let byte = TRANSMIT.take(block, tx);
-    watch.settle(block);
-    BYTE | u64::from(byte)
 }
 
 /// Makes a call that writes neither store, on a block that is a state that fits them.

@@ -65,12 +65,11 @@ impl Ring {
         Some(&mut store[place])
     }
 
-    /// Takes the oldest one; there is one.
+    /// Removes the oldest one; there is one.
     #[inline(always)]
-    pub fn take<T: Copy>(self, block: &mut Block, store: &[T]) -> T {
-        let oldest = self.oldest(block);
-        self.keep(block, round(oldest + 1, store.len()), self.held(block) - 1);
-        store[oldest]
+    pub fn remove_oldest(self, block: &mut Block) {
+        let place = round(self.oldest(block) + 1, self.len(block).into());
+        self.keep(block, place, self.held(block) - 1);
     }
 
     /// Holds so many from this place on.

@@ -36,11 +36,13 @@ fn send(bridge: &mut Printer, frame: Frame) -> Result<(), Refusal> {
     }
 }
 
-// The printer takes all that waits for the line.
+// The printer gets all that waits for the line. A byte is gone when it is taken, after it was
+// printed.
 fn print(bridge: &mut Printer) -> Result<(), Refusal> {
     let mut printed = String::new();
-    while let Some(byte) = bridge.next_line_byte()? {
-        printed.push(byte.into());
+    while let Some(next) = bridge.ask_line_byte()? {
+        printed.push(next.byte().into());
+        next.take()?;
     }
     println!("printed {printed:?}");
     Ok(())

@@ -26,9 +26,9 @@ use crate::{BusByte, BusLines, Frame, MailByte, Refusal};
 pub enum Answer {
     /// The call is done and has nothing to hand out.
     Done,
-    /// There is no line byte to give.
+    /// No line byte is next.
     None,
-    /// The line byte that the call gives.
+    /// The line byte that is next.
     Byte(u8),
     /// The frame that goes on along the loop.
     Frame(Frame),

@@ -5,7 +5,8 @@ use core::fmt;
 use crate::lend::{self, done, lend, part};
 use crate::WithRoom;
 use crate::BLOCK_LEN;
-use crate::{Answer, BadSize, Frame, HeldByte, LineByte, Refusal, Register, Saved, Side, State};
+use crate::{Answer, BadSize, Frame, HeldByte, LineByte, NextLineByte, Refusal, Register, Saved};
+use crate::{Side, State};
 
 /// The two stores of a bridge, by name so that they cannot be exchanged unseen.
 ///
@@ -412,8 +413,10 @@ where
         done(call!(self, raftershim_key))
     }
 
-    /// Gives the next byte for the line, if there is one: our own go or stop if one is owed, else
-    /// the oldest byte of the transmit store.
+    /// Asks which byte is next for the line, if there is one: our own go or stop if one is owed,
+    /// else the oldest byte of the transmit store, unless the other end forbids our sending. Asking
+    /// changes nothing. The byte is gone when [`NextLineByte::take`] takes it, after the port has
+    /// sent it.
     ///
     /// # Errors
     ///
@@ -423,21 +426,31 @@ where
     /// use raftershim::{Bridge, LineByte, Stores};
     ///
     /// let mut bridge = Bridge::create(Stores { receive: [0; 4], transmit: [0; 3] }, 1)?;
-    /// assert_eq!(bridge.next_line_byte()?, None);
+    /// assert!(bridge.ask_line_byte()?.is_none());
     /// for byte in *b"123" {
     ///     assert_eq!(bridge.line_byte(byte)?, LineByte::Stored);
     /// }
     /// // One place is free, which is the margin, so the bridge owes the line its stop.
-    /// assert_eq!(bridge.next_line_byte()?, Some(19));
+    /// let mut sent = Vec::new();
+    /// while let Some(next) = bridge.ask_line_byte()? {
+    ///     sent.push(next.byte());
+    ///     next.take()?;
+    /// }
+    /// assert_eq!(sent, [19]);
     /// # Ok::<(), raftershim::Refusal>(())
     /// ```
-    #[must_use = "the byte is taken off, and the line must get it"]
-    pub fn next_line_byte(&mut self) -> Result<Option<u8>, Refusal> {
-        match call!(self, raftershim_next_line_byte)? {
+    #[must_use = "the byte that is next must be sent to the line and taken"]
+    pub fn ask_line_byte(&mut self) -> Result<Option<NextLineByte<'_, R, T>>, Refusal> {
+        match Answer::of(look!(self, raftershim_ask_line_byte))? {
             Answer::None => Ok(None),
-            Answer::Byte(byte) => Ok(Some(byte)),
+            Answer::Byte(byte) => Ok(Some(NextLineByte::of(self, byte))),
             _ => Err(Refusal::UNDESCRIBED),
         }
+    }
+
+    /// Takes the line byte of this name, which was asked for just before.
+    pub(crate) fn take_line_byte(&mut self, byte: u8) -> Result<(), Refusal> {
+        done(call!(self, raftershim_take_line_byte, byte))
     }
 
     /// Takes a frame from the loop, and gives the one frame that goes on. A frame that is not for
@@ -446,7 +459,7 @@ where
     ///
     /// # Errors
     ///
-    /// Refusal 4 if the bridge is busy: offer the frame again when the line has taken bytes. And 2.
+    /// Refusal 4 if the bridge is busy: offer the frame again when bytes for the line were taken. And 2.
     ///
     /// ```
     /// use raftershim::{Address, Bridge, Frame, Stores};
@@ -477,7 +490,7 @@ where
     ///
     /// # Errors
     ///
-    /// Refusal 4 if the bridge is busy: offer the frame again when the line has taken bytes. And 2.
+    /// Refusal 4 if the bridge is busy: offer the frame again when bytes for the line were taken. And 2.
     ///
     /// ```
     /// use raftershim::{Address, Bridge, Frame, Refusal, Stores};

@@ -24,8 +24,9 @@
 //! unwarned, as long as the go and stop characters are none that the meter sends as data: see
 //! [`Register`].
 //!
-//! A meter that heeds stop and go is held off before the store is full: hand it what
-//! [`Meter::next_line_byte`] gives.
+//! A meter that heeds stop and go is held off before the store is full: send it the byte that
+//! [`Meter::ask_line_byte`] says is next, and take that byte when the port has it. A byte that the
+//! port could not send is not taken, and so it is not lost: see [`NextLineByte`].
 //!
 //! # The same by frames
 //!
@@ -77,9 +78,9 @@
 //!
 //! # Answers and refusals
 //!
-//! Each call says by its type what it gives: what became of a byte, a byte or none, a [`Frame`], a
-//! [`Reading`], the [`BusLines`], or nothing. A call that is refused gives a [`Refusal`] with its
-//! number, and leaves the state and both stores as they were.
+//! Each call says by its type what it gives: what became of a byte, the byte that is next or none,
+//! a [`Frame`], a [`Reading`], the [`BusLines`], or nothing. A call that is refused gives a
+//! [`Refusal`] with its number, and leaves the state and both stores as they were.
 //!
 //! The answers to line bytes also tell how much room is left in the receive store, and the answers to
 //! frames how much is left in the transmit store. A caller that wants it makes the calls that end in
@@ -123,6 +124,7 @@ mod lend;
 mod line;
 mod mailbox;
 mod meter;
+mod next_line_byte;
 pub mod raw;
 mod reading;
 mod refusal;
@@ -142,6 +144,7 @@ pub use mailbox::{
     Waiting, Way, Ways,
 };
 pub use meter::{Meter, Notes};
+pub use next_line_byte::NextLineByte;
 pub use reading::{Reading, Text};
 pub use refusal::Refusal;
 pub use register::Register;

@@ -4,8 +4,8 @@ use core::fmt;
 
 use crate::gaps::{place, Gaps};
 use crate::line::Line;
-use crate::{Address, BadSize, Bridge, Frame, HeldByte, LineByte, Reading, Refusal, Register};
-use crate::{Side, State, Stores, WithRoom};
+use crate::{Address, BadSize, Bridge, Frame, HeldByte, LineByte, NextLineByte, Reading, Refusal};
+use crate::{Register, Side, State, Stores, WithRoom};
 
 /// The two buffers in which a [`Meter`] notes what it needs. What they hold at first does not
 /// matter.
@@ -410,15 +410,31 @@ where
         self.bridge.key()
     }
 
-    /// Gives the next byte for the line, as [`Bridge::next_line_byte`] does. It may be the stop or
-    /// the go that the meter waits for, so ask after every call that takes line bytes or reads.
+    /// Asks which byte is next for the line, as [`Bridge::ask_line_byte`] does. It may be the stop
+    /// or the go that the meter waits for, so ask after every call that takes line bytes or reads.
+    /// Send the byte, and take it when the port has it.
     ///
     /// # Errors
     ///
     /// Refusal 2.
-    #[must_use = "the byte is taken off, and the line must get it"]
-    pub fn next_line_byte(&mut self) -> Result<Option<u8>, Refusal> {
-        self.bridge.next_line_byte()
+    ///
+    /// ```
+    /// use raftershim::{Meter, Notes, Stores};
+    ///
+    /// let stores = Stores { receive: [0; 8], transmit: [0; 3] };
+    /// let mut meter = Meter::create(stores, Notes { gaps: [0; 1], text: [0; 32] }, 3)?;
+    /// meter.line_bytes(b"2.5\r\n")?;
+    /// let mut sent = Vec::new();
+    /// while let Some(next) = meter.ask_line_byte()? {
+    ///     sent.push(next.byte());
+    ///     next.take()?;
+    /// }
+    /// assert_eq!(sent, [19]);
+    /// # Ok::<(), raftershim::Refusal>(())
+    /// ```
+    #[must_use = "the byte that is next must be sent to the line and taken"]
+    pub fn ask_line_byte(&mut self) -> Result<Option<NextLineByte<'_, R, T>>, Refusal> {
+        self.bridge.ask_line_byte()
     }
 
     /// Writes a register, as [`Bridge::write_register`] does. Without

@@ -225,7 +225,7 @@ extern "C" {
         tx_len: u64,
     ) -> u64;
 
-    /// Gives the next line byte. Answers that byte, none, or refusal 2.
+    /// Says which line byte is next. Answers that byte, none, or refusal 2. It writes nothing.
     ///
     /// # Safety
     ///
@@ -239,17 +239,54 @@ extern "C" {
     /// // SAFETY: the three are separate arrays of these lengths.
     /// let word = unsafe {
     ///     raftershim_create(b, 56, r, 4, t, 3, 1);
-    ///     raftershim_next_line_byte(b, 56, r, 4, t, 3)
+    ///     raftershim_ask_line_byte(b, 56, r, 4, t, 3)
     /// };
     /// assert_eq!(word, 0x1_0000);
     /// ```
-    pub fn raftershim_next_line_byte(
+    pub fn raftershim_ask_line_byte(
+        block: *const u8,
+        block_len: u64,
+        rx: *const u16,
+        rx_len: u64,
+        tx: *const u8,
+        tx_len: u64,
+    ) -> u64;
+
+    /// Takes the line byte of this name, if it is the next one. Answers done, or refusal 2 or 12.
+    ///
+    /// Ask for the byte, send it, and take it when the port has it, with no other call in between.
+    /// Else the take of a byte that is on the line already can be refused: it then goes out twice,
+    /// or a stop is not recorded, and no go follows it. A [`NextLineByte`](crate::NextLineByte)
+    /// keeps that order by its type.
+    ///
+    /// # Safety
+    ///
+    /// The three buffers are as the page of the module says.
+    ///
+    /// ```
+    /// use raftershim::raw::*;
+    ///
+    /// let (mut block, mut rx, tx) = ([0; 56], [0; 4], [0; 3]);
+    /// let (b, r, t) = (block.as_mut_ptr(), rx.as_mut_ptr(), tx.as_ptr());
+    /// // SAFETY: the three are separate arrays of these lengths.
+    /// let words = unsafe {
+    ///     raftershim_create(b, 56, r, 4, t, 3, 1);
+    ///     for byte in *b"123" {
+    ///         raftershim_line_byte(b, 56, r, 4, t, 3, byte);
+    ///     }
+    ///     // The stop is next. Another byte is refused.
+    ///     [17, 19].map(|byte| raftershim_take_line_byte(b, 56, r, 4, t, 3, byte))
+    /// };
+    /// assert_eq!(words, [0x4_000C, 0]);
+    /// ```
+    pub fn raftershim_take_line_byte(
         block: *mut u8,
         block_len: u64,
         rx: *const u16,
         rx_len: u64,
         tx: *const u8,
         tx_len: u64,
+        byte: u8,
     ) -> u64;
 
     /// Takes a frame from the loop. Answers the one frame that goes on and the room of the transmit

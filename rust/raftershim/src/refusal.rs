@@ -78,6 +78,11 @@ refusals! {
     /// [`Register`](crate::Register#no-rule-changes-under-a-held-line) says how.
     HELD_BYTES = 10, "held bytes, R10, C00 and C01 are written only while the receive store holds none";
 
+    /// Refusal 12: nothing is next for the line, or the byte named is not the next one. Ask again.
+    /// The calls of a [`Bridge`](crate::Bridge) never give it as long as its stores keep what they
+    /// hold: a [`NextLineByte`](crate::NextLineByte) takes only what was asked for.
+    NOT_NEXT = 12, "not next, another byte is next for the line, or none is";
+
     /// Refusal 13: the command of the bus is above 127, so it is no command.
     COMMAND_TOO_LARGE = 13, "the command of the bus is above 127";
 }

@@ -7,8 +7,8 @@ fn frame(number: u16) -> Frame {
     Frame::try_from(number).unwrap()
 }
 
-/// The ten refusals with their numbers and the sentences that a person hears.
-const REFUSALS: [(u16, Refusal, &str); 10] = [
+/// The eleven refusals with their numbers and the sentences that a person hears.
+const REFUSALS: [(u16, Refusal, &str); 11] = [
     (
         1,
         Refusal::SIZES,
@@ -53,6 +53,11 @@ const REFUSALS: [(u16, Refusal, &str); 10] = [
         10,
         Refusal::HELD_BYTES,
         "refusal 10: held bytes, R10, C00 and C01 are written only while the receive store holds none",
+    ),
+    (
+        12,
+        Refusal::NOT_NEXT,
+        "refusal 12: not next, another byte is next for the line, or none is",
     ),
     (
         13,

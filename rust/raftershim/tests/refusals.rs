@@ -33,7 +33,7 @@ fn refused<A>(
 }
 
 /// Every call that may be refused, with arguments that a fitting state takes.
-fn calls<R, T>() -> [(&'static str, Call<R, T>); 7]
+fn calls<R, T>() -> [(&'static str, Call<R, T>); 8]
 where
     R: AsRef<[u16]> + AsMut<[u16]>,
     T: AsRef<[u8]> + AsMut<[u8]>,
@@ -46,8 +46,13 @@ where
         ("line_byte", |bridge| bridge.line_byte(50).map(Answer::from)),
         ("line_break", |bridge| bridge.line_break().map(Answer::from)),
         ("key", |bridge| bridge.key().map(Answer::from)),
-        ("next_line_byte", |bridge| {
-            bridge.next_line_byte().map(Answer::from)
+        ("ask_line_byte", |bridge| {
+            let next = bridge.ask_line_byte()?;
+            Ok(next.map(|next| next.byte()).into())
+        }),
+        ("take", |bridge| {
+            let next = bridge.ask_line_byte()?;
+            next.map_or(Ok(()), |next| next.take()).map(Answer::from)
         }),
         ("loop_frame", |bridge| {
             bridge.loop_frame(Frame::data_byte(0)).map(Answer::from)
@@ -232,7 +237,8 @@ fn a_listener_without_room_is_busy() {
     let (data, end_byte) = (Frame::data_byte(65), Frame::end_byte(66));
     assert_eq!(bridge.loop_frame(data), Ok(data));
     refused(bridge.clone(), Refusal::BUSY, |b| b.loop_frame(end_byte));
-    assert_eq!(bridge.next_line_byte(), Ok(Some(65)));
+    let next = bridge.ask_line_byte().unwrap().unwrap();
+    assert_eq!((next.byte(), next.take()), (65, Ok(())));
     assert_eq!(bridge.loop_frame(end_byte), Ok(end_byte));
 }
 

@@ -31,6 +31,13 @@ fn frame_taken(bridge: &mut Fixed, taken: (u8, u8), out: (u8, u8)) {
     assert_eq!(answered, Ok(frame(out)));
 }
 
+/// This line byte is next, is sent and taken.
+fn goes_out(bridge: &mut Fixed, byte: u8) {
+    let next = bridge.ask_line_byte().unwrap().unwrap();
+    assert_eq!(next.byte(), byte);
+    assert_eq!(next.take(), Ok(()));
+}
+
 fn frame((control, data): (u8, u8)) -> Frame {
     Frame::new(control, data).unwrap()
 }
@@ -148,7 +155,7 @@ fn a_listener_fills_the_transmit_store_and_the_line_empties_it() {
     assert_eq!((expected.transmit.oldest, expected.transmit.held), (0, 260));
     assert_eq!(bridge.room(Side::Transmit), Ok(40));
     for _ in 0..258 {
-        assert_eq!(bridge.next_line_byte(), Ok(Some(65)));
+        goes_out(&mut bridge, 65);
     }
     (expected.transmit.oldest, expected.transmit.held) = (258, 2);
     assert_eq!(state(&bridge), expected);
@@ -165,7 +172,7 @@ fn the_line_is_held_off_and_losses_are_counted() {
     line_byte(&mut bridge, 50, LineByte::Stored);
     (expected.stored, expected.receive.held, expected.holding) = (320, 320, true);
     assert_eq!(state(&bridge), expected);
-    assert_eq!(bridge.next_line_byte(), Ok(Some(19)));
+    goes_out(&mut bridge, 19);
     expected.stop_sent_last = true;
     assert_eq!(state(&bridge), expected);
     line_byte(&mut bridge, 19, LineByte::Stop);

@@ -29,7 +29,8 @@ The answer then ends in it: after line the room of the receive store, as in 3 st
 A refusal has no room.
 break: take a break on the line.
 key: take a press of the MSRQ key.
-next: give the next line byte.
+ask: say which line byte is next, as in line byte 19. Nothing changes.
+take 19: take the line byte of this number, when it has been sent. If it is not the next one, it is refused by 12, not next.
 show receive, or show transmit: say the longest unbroken run of bytes held there, from the oldest one.
 A byte of the receive store that a break follows is as in 53 break.
 

@@ -46,6 +46,20 @@ pub fn take_all_and_room(bridge: &mut Bridge, bytes: &[u8]) -> Said {
     Said::became(taken).with_room(room)
 }
 
+/// Says the line byte that is next, which stays.
+pub fn ask_next(bridge: &mut Bridge) -> Result<Option<u8>, Refusal> {
+    Ok(bridge.ask_line_byte()?.map(|next| next.byte()))
+}
+
+/// Takes the line byte of this name. The crate takes what was asked for and nothing else, so
+/// another byte is refused here.
+pub fn take_next(bridge: &mut Bridge, byte: u8) -> Result<(), Refusal> {
+    match bridge.ask_line_byte()? {
+        Some(next) if next.byte() == byte => next.take(),
+        _ => Err(Refusal::NOT_NEXT),
+    }
+}
+
 /// Takes a loop frame.
 pub fn pass(bridge: &mut Bridge, frame: u32) -> Result<Frame, Refusal> {
     bridge.loop_frame(Frame::try_from(frame)?)

@@ -101,7 +101,8 @@ impl Player {
             }
             Call::Break => self.on_bridge(|bridge| said(bridge.line_break())),
             Call::Key => self.on_bridge(|bridge| said(bridge.key())),
-            Call::Next => self.on_bridge(|bridge| said(bridge.next_line_byte())),
+            Call::Ask => self.on_bridge(|bridge| said(on_bridge::ask_next(bridge))),
+            Call::Take(byte) => self.on_bridge(|bridge| said(on_bridge::take_next(bridge, byte))),
             Call::Frame(frame) => self.on_bridge(|bridge| said(on_bridge::pass(bridge, frame))),
             Call::FrameAndRoom(frame) => {
                 self.on_bridge(|bridge| on_bridge::pass_and_room(bridge, frame))

@@ -12,7 +12,7 @@ fn a_script_without_create_is_told_its_bridge() {
     let said = format!(
         "line 2: {told}\nline 2: done\nline 3: no line byte\n1 line as expected, 0 differ\n"
     );
-    let script = "# key\nkey\nnext => no line byte\n";
+    let script = "# key\nkey\nask => no line byte\n";
     assert_eq!(play(script), strings(0, &said, ""));
 }
 
@@ -46,7 +46,7 @@ fn the_room_is_said_where_it_is_asked_for() {
                   frame 5,129 room => frame 5,130, room 3\nframe 4,33 => frame 4,33\n\
                   frame 0,65 room => frame 0,65, room 2\nframe 0,66 room => frame 0,66 room 1\n\
                   frame 0,67 room => frame 0,67, room 0\nframe 0,68 room => refusal 4\n\
-                  frame 2048 room => refusal 3\nnext => line byte 19\n";
+                  frame 2048 room => refusal 3\nask => line byte 19\n";
     assert_eq!(ends(script), end(0, "11 lines as expected, 0 differ"));
     // Another room, a room that was not asked for, one that is not expected, and one with a refusal.
     let wrong = [
@@ -64,6 +64,27 @@ fn the_room_is_said_where_it_is_asked_for() {
         said.contains("line 2: 1 stored, room 3\nline 3: refusal 3: "),
         "{said}"
     );
+}
+
+#[test]
+fn a_line_byte_is_asked_for_and_taken() {
+    let script = "create 4 3 1\ntake 0 => refusal 12\nline \"123\"\nask => line byte 19\n\
+                  ask => line byte 19\ntake 17 => refusal 12\nask => line byte 19\ntake 19 => done\n\
+                  take 19 => refusal 12\nask => no line byte\n";
+    assert_eq!(ends(script), end(0, "8 lines as expected, 0 differ"));
+    let (_, said, _) = play("create 4 3 1\ntake 65\nask\n");
+    let refused = Refusal::NOT_NEXT.to_string();
+    let lines = format!("line 2: {refused}\nline 3: no line byte\n");
+    assert!(said.contains(&lines), "{said}");
+    // What was asked for is no take, and what was taken is not next again.
+    for wrong in [
+        "ask => done",
+        "take 19 => line byte 19",
+        "take 19 => no line byte",
+    ] {
+        let script = format!("create 4 3 1\nline \"123\"\n{wrong}\n");
+        assert_eq!(ends(&script).0, 1, "{wrong}");
+    }
 }
 
 #[test]

@@ -8,16 +8,16 @@ use std::io::{self, ErrorKind, Write};
 
 #[test]
 fn arguments() {
-    assert_eq!(with(&["--help"], b"next"), strings(0, help::HELP, ""));
-    assert_eq!(with(&["-h"], b"next"), strings(0, help::HELP, ""));
+    assert_eq!(with(&["--help"], b"ask"), strings(0, help::HELP, ""));
+    assert_eq!(with(&["-h"], b"ask"), strings(0, help::HELP, ""));
     let unknown = "there is no option --loud, try replay --help\n";
-    assert_eq!(with(&["--loud"], b"next"), strings(2, "", unknown));
+    assert_eq!(with(&["--loud"], b"ask"), strings(2, "", unknown));
     let second = "expected one script, found b after it\n";
-    assert_eq!(with(&["a", "b"], b"next"), strings(2, "", second));
-    let (status, said, mistakes) = with(&["no/such.script"], b"next");
+    assert_eq!(with(&["a", "b"], b"ask"), strings(2, "", second));
+    let (status, said, mistakes) = with(&["no/such.script"], b"ask");
     assert_eq!((status, said.as_str()), (2, ""));
     assert!(mistakes.starts_with("the script no/such.script cannot be opened: "));
-    let (status, _, mistakes) = with(&[env!("CARGO_MANIFEST_DIR")], b"next");
+    let (status, _, mistakes) = with(&[env!("CARGO_MANIFEST_DIR")], b"ask");
     assert_eq!(status, 2);
     assert!(mistakes.starts_with("the script cannot be read: "));
 }
@@ -32,7 +32,7 @@ fn a_script_from_a_file() {
 
 #[test]
 fn a_mistake_ends_the_run() {
-    let (status, said, mistakes) = play("create 4 3 1\nline 300\nnext\n");
+    let (status, said, mistakes) = play("create 4 3 1\nline 300\nask\n");
     assert_eq!((status, said.as_str()), (1, "line 1: done\n"));
     let sentence = "line 2: expected a byte from 0 to 255 after line, found 300\n";
     assert_eq!(mistakes, sentence);
@@ -40,7 +40,7 @@ fn a_mistake_ends_the_run() {
 
 #[test]
 fn files_of_other_systems() {
-    let script = "\u{feff}create 4 3 1 => done\r\n\r\nnext => no line byte\r\n";
+    let script = "\u{feff}create 4 3 1 => done\r\n\r\nask => no line byte\r\n";
     assert!(play(script).1.ends_with("2 lines as expected, 0 differ\n"));
     let (status, _, mistakes) = with(&[], b"key\nline \xff\n");
     let sentence = "line 2: expected text in UTF-8, found other bytes\n";

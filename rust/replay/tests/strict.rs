@@ -29,7 +29,7 @@ fn a_refusal_that_nobody_expects_is_a_difference() {
 
 #[test]
 fn nothing_is_played_after_a_refused_create() {
-    let script = "create 4 3 1\ncreate 3 3 1\nkey\nnext => no line byte\n";
+    let script = "create 4 3 1\ncreate 3 3 1\nkey\nask => no line byte\n";
     let (status, said, _) = play(script);
     let not_played = "this is not played, since the create in line 2 was refused";
     let lines = format!(

@@ -56,8 +56,10 @@ pub enum Call {
     Break,
     /// Take a press of the MSRQ key.
     Key,
-    /// Give the next line byte.
-    Next,
+    /// Ask for the line byte that is next.
+    Ask,
+    /// Take the line byte of this name.
+    Take(u8),
     /// Take a loop frame.
     Frame(u32),
     /// Take a loop frame, and say the room that is left.
@@ -110,7 +112,8 @@ impl fmt::Display for Call {
             }
             Call::Break => f.write_str("break"),
             Call::Key => f.write_str("key"),
-            Call::Next => f.write_str("next"),
+            Call::Ask => f.write_str("ask"),
+            Call::Take(byte) => write!(f, "take {byte}"),
             Call::Frame(frame) => write!(f, "frame {}", FrameName(*frame)),
             Call::FrameAndRoom(frame) => write!(f, "frame {} {ROOM}", FrameName(*frame)),
             Call::Show(side) => write!(f, "show {side}"),

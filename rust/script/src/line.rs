@@ -82,7 +82,8 @@ fn parse_call(
         (Bridge, "line") => rest("line").line_bytes(),
         (Bridge, "break") => rest("break").end(Call::Break),
         (Bridge, "key") => rest("key").end(Call::Key),
-        (Bridge, "next") => rest("next").end(Call::Next),
+        (Bridge, "ask") => rest("ask").end(Call::Ask),
+        (Bridge, "take") => rest("take").byte().map(Call::Take),
         (Bridge, "frame") => rest("frame").bridge_frame(),
         (Bridge, "show") => rest("show").side().map(Call::Show),
         (Bridge, "state") => rest("state").end(Call::State),
@@ -134,6 +135,12 @@ impl Rest<'_> {
             value: self.number(Wanted::Value)?,
         };
         self.end(call)
+    }
+
+    /// One byte.
+    fn byte(mut self) -> Result<u8, Mistake> {
+        let byte = self.number(Wanted::Byte)? as u8;
+        self.end(byte)
     }
 
     /// Bytes and texts up to the end of the line, at least one.

@@ -6,7 +6,8 @@ use std::fmt;
 
 /// The names of the calls of a bridge.
 const BRIDGE_CALLS: &str =
-    "create, mailbox, reset, restore, register, line, break, key, next, frame, show or state";
+    "create, mailbox, reset, restore, register, line, break, key, ask, take, \
+                            frame, show or state";
 
 /// The names of the calls of a mailbox.
 const MAILBOX_CALLS: &str = "create, mailbox, reset, restore, frame, command, byte, fetch, clear, \

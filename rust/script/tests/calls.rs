@@ -39,7 +39,9 @@ fn calls() {
     assert_eq!(call("restore 2 8 0"), Call::Restore(vec![2, 8, 0]));
     assert_eq!(call("break"), Call::Break);
     assert_eq!(call("key"), Call::Key);
-    assert_eq!(call("next"), Call::Next);
+    assert_eq!(call("ask"), Call::Ask);
+    assert_eq!(call("take 0"), Call::Take(0));
+    assert_eq!(call("take 255"), Call::Take(255));
     assert_eq!(call("state"), Call::State);
     assert_eq!(call("show receive"), Call::Show(Side::Receive));
     assert_eq!(call("show transmit"), Call::Show(Side::Transmit));
@@ -180,7 +182,7 @@ fn a_line_speaks_of_what_was_made_last() {
 
 #[test]
 fn lines_without_a_call() {
-    for line in ["", "  \t", "# next", "  # next => no line byte", "\r\n"] {
+    for line in ["", "  \t", "# ask", "  # ask => no line byte", "\r\n"] {
         for product in [Product::Bridge, Product::Mailbox] {
             assert_eq!(parse(product, line), Ok(None), "{line}");
         }
@@ -190,12 +192,12 @@ fn lines_without_a_call() {
 #[test]
 fn expected_answers() {
     let expected = |line| step(line).expected.map(|expected| expected.to_string());
-    assert_eq!(expected("next"), None);
-    assert_eq!(expected("next # no"), None);
+    assert_eq!(expected("ask"), None);
+    assert_eq!(expected("ask # no"), None);
     assert_eq!(expected("line \"=> x\""), None);
     let said = Some("no line byte".to_string());
-    assert_eq!(expected("next => no line byte"), said);
-    assert_eq!(expected("  next=>no line byte  # so\r\n"), said);
+    assert_eq!(expected("ask => no line byte"), said);
+    assert_eq!(expected("  ask=>no line byte  # so\r\n"), said);
 }
 
 #[test]

@@ -40,16 +40,18 @@ fn mailbox_mistakes(expected: &str, lines: &[(&str, &str)]) {
 #[test]
 fn mistakes_in_the_call() {
     let calls =
-        "create, mailbox, reset, restore, register, line, break, key, next, frame, show or state";
+        "create, mailbox, reset, restore, register, line, break, key, ask, take, frame, show \
+                 or state";
     let found = [
         ("linen 5", "linen"),
         ("or", "or"),
         ("fetch", "fetch, a call of the mailbox"),
-        ("\"next\"", "\"next\""),
+        ("\"ask\"", "\"ask\""),
+        ("next", "next"),
         ("a\u{7}b", "a?b"),
     ];
     mistakes(calls, &found);
-    mistakes("nothing more after next", &[("next 1", "1")]);
+    mistakes("nothing more after ask", &[("ask 1", "1")]);
     let found = [
         ("frame 5,96 0,50", "0,50"),
         ("frame 5,96 Room", "Room"),
@@ -66,7 +68,7 @@ fn mistakes_in_the_call() {
     mistakes("a byte from 0 to 255 after line", &[("line room", "room")]);
     mailbox_mistakes("nothing more after frame", &[("frame 5,96 room", "room")]);
     mistakes("nothing more after create", &[("create 4 3 1 2", "2")]);
-    let found = [("next =>", "nothing"), ("next => :", "nothing")];
+    let found = [("ask =>", "nothing"), ("ask => :", "nothing")];
     mistakes("an answer after =>", &found);
     mistakes("a call before =>", &[("=> done", "nothing")]);
 }
@@ -79,6 +81,7 @@ fn mistakes_in_the_call_of_a_mailbox() {
         ("fetches", "fetches"),
         ("line 5", "line, a call of the bridge"),
         ("register R10 8", "register, a call of the bridge"),
+        ("take 19", "take, a call of the bridge"),
     ];
     mailbox_mistakes(calls, &found);
     // A create makes a bridge, and its lines are no lines of a mailbox.
@@ -180,6 +183,15 @@ fn mistakes_in_line_bytes() {
     mistakes("a byte from 0 to 255 after line", &found);
     let found = [("restore", "nothing"), ("restore 1 256", "256")];
     mistakes("a byte from 0 to 255 after restore", &found);
+    let found = [
+        ("take", "nothing"),
+        ("take 256", "256"),
+        ("take \"A\"", "\"A\""),
+        ("take stop", "stop"),
+    ];
+    mistakes("a byte from 0 to 255 after take", &found);
+    let found = [("take 65 66", "66"), ("take 65 room", "room")];
+    mistakes("nothing more after take", &found);
     mistakes("a closing quotation mark", &[("line \"2.5", "none")]);
     let between = "between the quotation marks";
     mistakes(
@@ -268,7 +280,7 @@ fn an_error_has_its_source() {
     assert!(matches!(unread, Unread::Reading(_)));
     assert_eq!(unread.to_string(), "the script cannot be read: gone");
     assert!(unread.source().is_some());
-    let unread = "next 1".parse::<Script>().expect_err("a mistake");
+    let unread = "ask 1".parse::<Script>().expect_err("a mistake");
     let source = unread.source().expect("the mistake").to_string();
     assert_eq!(unread.to_string(), format!("line 1: {source}"));
 }

@@ -20,7 +20,9 @@ fn every_call() -> Vec<Call> {
         Call::Reset,
         Call::Break,
         Call::Key,
-        Call::Next,
+        Call::Ask,
+        Call::Take(0),
+        Call::Take(255),
         Call::State,
         Call::Show(Side::Receive),
         Call::Show(Side::Transmit),
@@ -79,7 +81,7 @@ fn every_call_and_expected_answer() {
     for expected in ["done", "frame 0,50", "2 bytes: 50 46", "\"#\" => x", "é"] {
         let expected = Expected::new(expected);
         assert!(expected.is_some());
-        let call = Call::Next;
+        let call = Call::Ask;
         round_trip(&Script {
             steps: vec![Step { call, expected }],
         });
@@ -97,6 +99,7 @@ fn names_are_printed_where_there_are_some() {
     assert_eq!(print("register 13 8"), "register 13 8\n");
     assert_eq!(print("frame 1376 # send data"), "frame 5,96\n");
     assert_eq!(print("frame 8,0"), "frame 2048\n");
+    assert_eq!(print("take 019 => DONE"), "take 19 => DONE\n");
     assert_eq!(print("line \"2.5\" 13 10"), "line 50 46 53 13 10\n");
     assert_eq!(print("line \"2.5\"   room"), "line 50 46 53 room\n");
     assert_eq!(print("frame 1376 room#"), "frame 5,96 room\n");

@@ -23,7 +23,8 @@ returns-2 c =
     let a = c .before .before .before .before .before .before .before .args in
     let q = c .before .before .refused2 .ensures in
     refused-met (a .s) (now (a .rx)) (now (a .tx)) (is-fit (c .before .before .before .before .state-fits .ensures) (c .before .before .before .if1 .left)) (write (a .number) (a .value)) _ _
-    (q ∙ sym (write-refused (world (a .s) (now (a .rx)) (now (a .tx))) (a .number) (a .value) (λ z. c .before .if2 .taken (q ∙ z)))) (c .before .if2 .taken) (c .refused3 .ensures)
+    (q ∙ sym (write-refused (world (a .s) (now (a .rx)) (now (a .tx))) (a .number) (a .value) (λ z. c .before .if2 .taken (q ∙ z))))
+    (c .before .if2 .taken) (c .refused3 .ensures)
 
 returns-3 : tie.Need-returns-3
 returns-3 c =
@@ -33,7 +34,8 @@ returns-3 c =
     let ok = sym (p .before .before .refused2 .ensures) ∙ p .before .if2 .left in
     let held = sym (p .held-line .ensures) ∙ c .before .if3 .taken in
     refused-met (a .s) (now (a .rx)) (now (a .tx)) e (write (a .number) (a .value)) 10 _
-    (sym (write-let (world (a .s) (now (a .rx)) (now (a .tx))) (a .number) (a .value) ok ∙ (λ i. cond (held i) 10 0))) (λ z. omega arith) (c .refused4 .ensures)
+    (sym (write-let (world (a .s) (now (a .rx)) (now (a .tx))) (a .number) (a .value) ok ∙ (λ i. cond (held i) 10 0)))
+    (λ z. omega arith) (c .refused4 .ensures)
 
 after-write-requires : tie.Need-after-write-requires
 after-write-requires c κs =

@@ -14,4 +14,5 @@ raftershim-ask-line-byte-spec =
     (λ c κs. search needs)
     (λ c κs. search needs)
     (λ c κs. search needs)
-    (λ c. looked bridges formed askLineByte _ _ _ _ (c .before .before .meaning .ensures) _ (c .before .ask-line-byte .ensures) refl _ (c .word-of .ensures) refl))
+    (λ c. looked bridges formed askLineByte _ _ _ _ (c .before .before .meaning .ensures) _ (c .before .ask-line-byte .ensures) refl _
+    (c .word-of .ensures) refl))

@@ -14,5 +14,6 @@ raftershim-take-line-byte-spec =
     (λ c κs. search needs)
     (λ c κs. may-write bridges formed (takeLineByte _) _ _ _ _ (c .before .before .meaning .ensures) _ (c .before .take-line-byte .ensures))
     (λ c. search needs)
-    (λ c. written-with bridges formed (takeLineByte _) _ _ _ _ (c .before .before .before .before .before .meaning .ensures) _ (c .before .before .before .before .take-line-byte .ensures) _ _
+    (λ c. written-with bridges formed (takeLineByte _) _ _ _ _ (c .before .before .before .before .before .meaning .ensures) _
+    (c .before .before .before .before .take-line-byte .ensures) _ _
     (c .before .before .finished .ensures)))

@@ -15,7 +15,9 @@ sides! {
         LineByte line_byte raftershim_line_byte line_byte mut mut const (byte: u8);
         Break take_break raftershim_break line_break mut mut const ();
         Key key raftershim_key key mut const const ();
-        NextLineByte next_line_byte raftershim_next_line_byte next_line_byte mut const const ();
+        AskLineByte ask_line_byte raftershim_ask_line_byte ask_line_byte const const const ();
+        TakeLineByte take_line_byte raftershim_take_line_byte take_line_byte mut const const
+            (byte: u8);
         LoopFrame loop_frame raftershim_loop_frame loop_frame mut const mut (frame: u32);
         ShowReceive show_receive raftershim_show_receive show_receive const const const ();
         ShowTransmit show_transmit raftershim_show_transmit show_transmit const const const ();

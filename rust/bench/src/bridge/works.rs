@@ -1,7 +1,7 @@
 //! The three works: what each sets up, and the calls of one round.
 
 use super::Call;
-use crate::machine::{data_frame, is_byte};
+use crate::machine::{byte_in, data_frame, DONE};
 
 /// Our address on the loop.
 const ADDRESS: u32 = 1;
@@ -67,7 +67,7 @@ impl Work {
     pub fn crosses(self, call: Call, answer: u64) -> bool {
         match self {
             Work::Meter | Work::Status => data_frame(answer).is_some(),
-            Work::Print => matches!(call, Call::NextLineByte()) && is_byte(answer),
+            Work::Print => matches!(call, Call::TakeLineByte(_)) && answer == DONE,
         }
     }
 }
@@ -86,14 +86,17 @@ fn meter(make: &mut dyn FnMut(Call) -> u64) {
     }
 }
 
-/// The loop sends a line whose last byte is an end byte, and the line takes bytes until none.
+/// The loop sends a line whose last byte is an end byte. The bytes for the line are asked for and
+/// taken, one after the other, until none is next.
 fn print(make: &mut dyn FnMut(Call) -> u64) {
     make(LISTEN);
     for frame in [b'V', b'O', b'L', b'T'].map(u32::from) {
         make(Call::LoopFrame(frame));
     }
     make(Call::LoopFrame(END | u32::from(b'S')));
-    while is_byte(make(Call::NextLineByte())) {}
+    while let Some(byte) = byte_in(make(Call::AskLineByte())) {
+        make(Call::TakeLineByte(byte));
+    }
 }
 
 /// The loop asks for the status byte and returns it, over and over.

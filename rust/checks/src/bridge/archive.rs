@@ -36,7 +36,8 @@ pub fn call(lent: Lent, call: Call) -> u64 {
     // Safety: three slices, so no pointer is null, each is good for its length, none overlap.
     unsafe {
         match call {
-            Call::Next => raw::raftershim_next_line_byte(b, bl, r, rl, t, tl),
+            Call::Ask => raw::raftershim_ask_line_byte(b, bl, r, rl, t, tl),
+            Call::Take(byte) => raw::raftershim_take_line_byte(b, bl, r, rl, t, tl, byte),
             Call::Line(byte) => raw::raftershim_line_byte(b, bl, r, rl, t, tl, byte),
             Call::Frame(frame) => raw::raftershim_loop_frame(b, bl, r, rl, t, tl, frame),
             Call::Break => raw::raftershim_break(b, bl, r, rl, t, tl),

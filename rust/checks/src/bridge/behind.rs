@@ -20,7 +20,8 @@ macro_rules! behind {
                 other: tx,
             } = lent;
             match call {
-                Call::Next => boundary::next_line_byte(block, rx, tx),
+                Call::Ask => boundary::ask_line_byte(block, rx, tx),
+                Call::Take(byte) => boundary::take_line_byte(block, rx, tx, byte),
                 Call::Line(byte) => boundary::line_byte(block, rx, tx, byte),
                 Call::Frame(frame) => boundary::loop_frame(block, rx, tx, frame),
                 Call::Break => boundary::line_break(block, rx, tx),

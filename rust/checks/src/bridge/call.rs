@@ -5,7 +5,10 @@ use std::fmt;
 /// One call of the bridge, its three buffers aside.
 #[derive(Clone, Copy, Debug, PartialEq, Eq)]
 pub enum Call {
-    Next,
+    /// Asks for the line byte that is next.
+    Ask,
+    /// Takes the line byte of this name.
+    Take(u8),
     Line(u8),
     Frame(u32),
     Break,
@@ -26,7 +29,8 @@ impl Call {
     /// The call of a script.
     pub fn in_script(self) -> script::Call {
         match self {
-            Call::Next => script::Call::Next,
+            Call::Ask => script::Call::Ask,
+            Call::Take(byte) => script::Call::Take(byte),
             Call::Line(byte) => script::Call::Line(vec![byte]),
             Call::Frame(frame) => script::Call::Frame(frame),
             Call::Break => script::Call::Break,

@@ -9,6 +9,7 @@ mod draws;
 pub mod frames;
 pub mod garbled;
 pub mod history;
+mod line_out;
 pub mod orders;
 pub mod planted;
 pub mod promises;
@@ -84,6 +85,10 @@ impl Machine for TheBridge {
 
     fn shows(call: Call) -> bool {
         matches!(call, Call::ShowReceive | Call::ShowTransmit)
+    }
+
+    fn looks(call: Call) -> bool {
+        call == Call::Ask || Self::shows(call)
     }
 
     /// Where none is under way it is a frame of another talker.

@@ -1,5 +1,6 @@
 //! Wrong bridges, each the model with one fault planted: the checks must find every one.
 
+pub mod ask_take;
 pub mod breaks;
 pub mod held_line;
 
@@ -136,11 +137,8 @@ pub const CLEARED_BUT_ONE: Implementation = planted(|lent, call| {
 pub const ROOM_IN_EVERY_ANSWER: Implementation = planted(|mut lent, call| {
     let answer = right::<TheBridge>(lent.again(), call);
     match (call, block::unpack(lent.block)) {
-        (Call::Next | Call::Break | Call::Key | Call::Register(..) | Call::Reset, Some(state))
-            if kind(answer) != REFUSED =>
-        {
-            answer | (free(&state)[0] as u64) << 32
-        }
+        (Call::Line(_) | Call::Frame(_) | Call::ShowReceive | Call::ShowTransmit, _) => answer,
+        (_, Some(state)) if kind(answer) != REFUSED => answer | (free(&state)[0] as u64) << 32,
         _ => answer,
     }
 });

@@ -1,5 +1,6 @@
 //! The history of one run, kept whole, and demand 3 read literally against it.
 
+use super::line_out::LineOut;
 use super::promises::Promises;
 use super::room;
 use super::rule::{counting, frames, send, Accepted, Rule};
@@ -20,8 +21,9 @@ pub struct Run {
     sent: Vec<u16>,
     /// Bytes held for the line at the start, then all added.
     added: Vec<u8>,
-    /// Line bytes handed out, our own go and stop aside.
+    /// Line bytes taken, our own go and stop aside.
     handed_out: Vec<u8>,
+    line_out: LineOut,
     promises: Promises,
 }
 
@@ -44,6 +46,7 @@ impl Watcher<TheBridge> for Run {
             sent: Vec::new(),
             added: held(state.transmit, tx),
             handed_out: Vec::new(),
+            line_out: LineOut::starting(state),
             promises: Promises::starting(state),
         }
     }
@@ -55,7 +58,8 @@ impl Watcher<TheBridge> for Run {
     fn note(&mut self, made: &Made<TheBridge>) -> Result<u32, String> {
         let (before, after) = (made.before, made.after);
         let event = seen(before, made.call, made.answer);
-        let rows = event.rows(made, self.unread());
+        let oldest = self.added.get(self.handed_out.len()).copied();
+        let rows = event.rows(made, self.unread()) | self.line_out.note(made, oldest)?;
         match event {
             Seen::Accepted(byte) => {
                 let rule = Rule::of(&before.registers);
@@ -87,7 +91,7 @@ impl Watcher<TheBridge> for Run {
 
     /// Demand 3, first: what went to the loop from the receive store, and then the frames of what is
     /// still held, are the frames of all there was, held at first and then accepted, each byte by its
-    /// own rule. And what was handed out, then what is held for the line, are the bytes added.
+    /// own rule. And what was taken, then what is held for the line, are the bytes added.
     fn check(&self, state: &Bridge, (rx, tx): Stores<TheBridge>) -> Result<(), String> {
         let mut read = self.sent.clone();
         read.extend(frames(&self.still_held(&unread(state, rx))?));
@@ -97,7 +101,7 @@ impl Watcher<TheBridge> for Run {
         let mut line = self.handed_out.clone();
         line.extend(held(state.transmit, tx));
         if line != self.added {
-            return Err("line bytes given and held are not those added".into());
+            return Err("line bytes taken and held are not those added".into());
         }
         Ok(())
     }

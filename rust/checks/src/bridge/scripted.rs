@@ -22,7 +22,8 @@ impl Scripted for TheBridge {
             script::Call::Line(ref bytes) | script::Call::LineAndRoom(ref bytes) => {
                 return Line::Calls(bytes.iter().copied().map(Call::Line).collect())
             }
-            script::Call::Next => Call::Next,
+            script::Call::Ask => Call::Ask,
+            script::Call::Take(byte) => Call::Take(byte),
             script::Call::Frame(frame) | script::Call::FrameAndRoom(frame) => Call::Frame(frame),
             script::Call::Break => Call::Break,
             script::Call::Key => Call::Key,

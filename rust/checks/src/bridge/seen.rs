@@ -4,7 +4,7 @@ use super::call::Call;
 use super::rule::{heeds, Accepted, Rule};
 use super::TheBridge;
 use crate::machine::Made;
-use model::boundary::{kind, value, BYTE, REFUSED};
+use model::boundary::{kind, value, REFUSED};
 use model::{Bridge, ACTIVE_DATA, ACTIVE_STATUS, ADDRESSED, SERVICE};
 
 /// What a call did.
@@ -29,7 +29,7 @@ pub enum Seen {
     StatusGone,
     /// The first so many of these bytes were added for the line.
     Added([u8; 3], usize),
-    /// A line byte was given that is not our own go or stop.
+    /// A line byte was taken that is not our own go or stop.
     HandedOut(u8),
     /// The register with this number was written.
     Register(u32),
@@ -42,7 +42,7 @@ pub const ROWS: &[&str] = &[
     "bytes stored",
     "bytes lost",
     "frames sent",
-    "line bytes given",
+    "line bytes taken",
     "frames kept for the line",
     "status bytes back",
     "status bytes damaged or forgotten",
@@ -50,6 +50,11 @@ pub const ROWS: &[&str] = &[
     "writes of R10, C00 and C01 taken",
     "sends that a break changed",
     "changes of the reading rule",
+    "go and stop taken",
+    "takes of another byte than the next",
+    "takes where nothing is next",
+    "takes of what waits while go or stop is owed",
+    "takes of go or stop where an equal byte waits",
 ];
 
 impl Seen {
@@ -88,10 +93,8 @@ pub fn seen(before: &Bridge, call: Call, answer: u64) -> Seen {
     match call {
         Call::ShowReceive | Call::ShowTransmit => Seen::Nothing,
         _ if kind(answer) == REFUSED => Seen::Nothing,
-        Call::Next if kind(answer) == BYTE && before.holding == before.stop_sent_last => {
-            Seen::HandedOut(value(answer) as u8)
-        }
-        Call::Next => Seen::Nothing,
+        Call::Take(byte) if before.holding == before.stop_sent_last => Seen::HandedOut(byte),
+        Call::Ask | Call::Take(_) => Seen::Nothing,
         Call::Line(byte) => from_line(before, byte),
         Call::Frame(frame) => from_loop(before, frame as u16, value(answer) as u16),
         Call::Break => Seen::Break,

@@ -61,7 +61,15 @@ where
                 let taken = Frame::try_from(frame).and_then(|out| self.loop_frame_and_room(out));
                 return heard(taken, |out| Told::Answer(Ok(out.into())));
             }
-            Call::Next => self.next_line_byte().map(Answer::from),
+            Call::Ask => {
+                let asked = self.ask_line_byte();
+                asked.map(|next| next.map(|next| next.byte()).into())
+            }
+            // The crate takes what was asked for and nothing else, so another byte is refused here.
+            Call::Take(byte) => match self.ask_line_byte() {
+                Ok(Some(next)) if next.byte() == byte => next.take().map(Answer::from),
+                asked => Err(asked.err().unwrap_or(Refusal::NOT_NEXT)),
+            },
             Call::Break => self.line_break().map(Answer::from),
             Call::Key => self.key().map(Answer::from),
             Call::Register(number, value) => Register::try_from(number)

@@ -1,6 +1,7 @@
 //! A watcher that goes along every path of an exploration, small enough to be part of its states.
 
 use super::call::Call;
+use super::line_out::LineOut;
 use super::promises::Promises;
 use super::room;
 use super::rule::{self, Accepted, Rule};
@@ -16,8 +17,9 @@ use model::{Bridge, Ring};
 pub struct Watch {
     /// Accepted from the line and not read off by the reading rule, with marks where breaks came.
     unread: Few<Accepted>,
-    /// Added by frames and not handed out.
+    /// Added by frames and not taken.
     waiting: Few<u8>,
+    line_out: LineOut,
     promises: Promises,
 }
 
@@ -27,13 +29,15 @@ impl Watcher<TheBridge> for Watch {
         Watch {
             unread: Few::default(),
             waiting: Few::default(),
+            line_out: LineOut::starting(bridge),
             promises: Promises::starting(bridge),
         }
     }
 
     fn note(&mut self, made: &Made<TheBridge>) -> Result<u32, String> {
         let event = seen(made.before, made.call, made.answer);
-        let rows = event.rows(made, self.unread.cells());
+        let oldest = self.waiting.cells().first().copied();
+        let rows = event.rows(made, self.unread.cells()) | self.line_out.note(made, oldest)?;
         self.held_to(made.before, event, made.after, made.stores)?;
         self.shown(made.call, made.answer, made.stores)?;
         let (rx, tx) = made.stores;

@@ -13,12 +13,12 @@ use raftershim_checks::bridge::MODEL;
 fn bits_above_the_marks_do_not_count() {
     let both = [garbled::<Archive>(), MODEL];
     let tally = Kind::FROM_CREATE.held("garbled, from create", both);
-    tally.assert_refusals(&[3, 4, 5, 6, 7, 8, 10]);
+    tally.assert_refusals(&[3, 4, 5, 6, 7, 8, 10, 12]);
     tally.assert_answers_and_rows(&KINDS);
     let tally = Kind::FROM_STATES.held("garbled, from states", both);
     tally.assert_answers_and_rows(&KINDS);
     let tally = Kind::ON_DAMAGED.held("garbled, damaged blocks", both);
-    tally.assert_refusals(&[1, 2, 3, 4, 5, 6, 7, 8, 10]);
+    tally.assert_refusals(&[1, 2, 3, 4, 5, 6, 7, 8, 10, 12]);
 }
 
 #[test]

@@ -23,28 +23,33 @@ const KINDS: [u64; 5] = [DONE, NONE, BYTE, FRAME, REFUSED];
 /// The row of writes that refusal 10 is about and that were taken.
 const RULE_WRITES: &str = "writes of R10, C00 and C01 taken";
 
+/// The row of takes that were not refused with 12, our own go and stop aside.
+const TAKES: &str = "line bytes taken";
+
 #[test]
 fn runs_from_create() {
     let tally = Kind::FROM_CREATE.held("runs from create", TheBridge::BOTH);
-    tally.assert_refusals(&[3, 4, 5, 6, 7, 8, 10]);
+    tally.assert_refusals(&[3, 4, 5, 6, 7, 8, 10, 12]);
     tally.assert_answers_and_rows(&KINDS);
     tally.assert_often(10, RULE_WRITES, 8000);
+    tally.assert_often(12, TAKES, 15_000);
 }
 
 #[test]
 fn runs_from_states_that_calls_never_reach() {
     let name = "runs from states that calls never reach";
     let tally = Kind::FROM_STATES.held(name, TheBridge::BOTH);
-    tally.assert_refusals(&[3, 4, 5, 6, 7, 8, 10]);
+    tally.assert_refusals(&[3, 4, 5, 6, 7, 8, 10, 12]);
     tally.assert_answers_and_rows(&KINDS);
     tally.assert_often(10, RULE_WRITES, 1500);
+    tally.assert_often(12, TAKES, 3000);
 }
 
 #[test]
 fn damaged_blocks_and_other_lengths() {
     let name = "damaged blocks and other lengths";
     let tally = Kind::ON_DAMAGED.held(name, TheBridge::BOTH);
-    tally.assert_refusals(&[1, 2, 3, 4, 5, 6, 7, 8, 10]);
+    tally.assert_refusals(&[1, 2, 3, 4, 5, 6, 7, 8, 10, 12]);
 }
 
 /// The peer of the benchmarks answers as the archive does.
@@ -52,9 +57,9 @@ fn damaged_blocks_and_other_lengths() {
 fn the_peer_beside_the_archive() {
     let both = [PEER, ARCHIVE];
     let tally = Kind::FROM_CREATE.held("peer, from create", both);
-    tally.assert_refusals(&[3, 4, 5, 6, 7, 8, 10]);
+    tally.assert_refusals(&[3, 4, 5, 6, 7, 8, 10, 12]);
     tally.assert_answers_and_rows(&KINDS);
     Kind::FROM_STATES.held("peer, from states", both);
     let tally = Kind::ON_DAMAGED.held("peer, damaged blocks", both);
-    tally.assert_refusals(&[1, 2, 3, 4, 5, 6, 7, 8, 10]);
+    tally.assert_refusals(&[1, 2, 3, 4, 5, 6, 7, 8, 10, 12]);
 }

@@ -1,6 +1,8 @@
 //! Faults that are planted on purpose: the draws find each, and the script that is told is short,
 //! is read as it was printed, and leads to the same difference again.
 
+mod ask_take;
+
 use crate::again::read_again;
 use crate::Kind;
 use raftershim_checks::bridge::{planted, TheBridge, MODEL};

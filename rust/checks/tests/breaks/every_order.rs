@@ -9,7 +9,7 @@ use raftershim_checks::bridge::{TheBridge, MODEL};
 use raftershim_checks::explore::{first_states, EVERY_STATE};
 use raftershim_checks::implementation::Both;
 use raftershim_checks::machine::Machine;
-use Call::{Break, Line, Next, Register, Reset, ShowReceive};
+use Call::{Break, Line, Register, Reset, ShowReceive, Take};
 
 /// A limit where all states are too many for every day.
 fn nearest() -> usize {
@@ -86,7 +86,8 @@ fn holding_off_status_and_clears() {
             Break,
             SEND,
             SEND_STATUS,
-            Next,
+            Take(17),
+            Take(19),
             CLEAR,
             OTHER_COMMAND,
         ],

@@ -9,7 +9,7 @@ use raftershim_checks::bridge::{TheBridge, ARCHIVE, PEER};
 use raftershim_checks::explore::{first_states, EVERY_STATE};
 use raftershim_checks::implementation::Both;
 use raftershim_checks::machine::Machine;
-use Call::{Break, Line, Next, Register, Reset};
+use Call::{Ask, Break, Line, Register, Reset, Take};
 
 /// A limit where all states are too many for every day.
 fn nearest() -> usize {
@@ -132,7 +132,9 @@ fn more_room_roles_and_other_writes() {
                 Line(10),
                 Line(50),
                 Break,
-                Next,
+                Ask,
+                Take(19),
+                Take(65),
                 SEND,
                 SEND_STATUS,
                 ASSIGN,

@@ -65,7 +65,7 @@ fn a_byte_that_another_rule_reads_is_found_by_the_history_alone() {
 /// one, before its script.
 fn finding(fault: Implementation<TheBridge>, calls: &[Call]) -> Option<String> {
     let pair = Pair::created([fault, fault], [8, 3], 3);
-    let told = run(pair, calls, |call, _| *call, &mut Tally::default()).err()?;
+    let told = run(pair, calls, |call, _, _| *call, &mut Tally::default()).err()?;
     let (finding, _) = told.split_once(", after this script:").expect("a script");
     Some(finding.into())
 }

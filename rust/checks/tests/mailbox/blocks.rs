@@ -94,13 +94,16 @@ fn a_block_of_one_machine_is_none_of_the_other() {
         let mut block = of_mailbox.buffers().block().to_vec();
         block.resize(len, 0);
         let mut pair = bridge::Pair::holding(&block, &[0; 4], &[0; 3]);
-        use bridge::call::Call::{Break, Frame, Key, Line, Next, Register, Reset, ShowReceive};
+        use bridge::call::Call::{
+            Ask, Break, Frame, Key, Line, Register, Reset, ShowReceive, Take,
+        };
         for call in [
             Frame(2048),
             Break,
             Key,
             Line(1),
-            Next,
+            Ask,
+            Take(1),
             Register(3, 3),
             Reset,
         ] {

@@ -23,7 +23,7 @@ fn letter(random: &mut Random) -> Letter {
         65..=84 => Letter::Read,
         85 => Letter::Line(random.byte()),
         86 => Letter::Line(random.one_of(&[17, 19])),
-        87 => Letter::Next,
+        87 => Letter::Out,
         88 => Letter::Gap,
         89..=90 => Letter::Break,
         91 => Letter::AskStatus,
@@ -35,10 +35,11 @@ fn letter(random: &mut Random) -> Letter {
     }
 }
 
-/// A key is pressed, or a register is written.
+/// A key is pressed, a go or stop is taken whether it is due or not, or a register is written.
 fn seldom(random: &mut Random) -> Letter {
-    match random.below(4) {
+    match random.below(5) {
         0 => Letter::Key,
+        1 => Letter::Take(random.one_of(&[17, 19])),
         _ => register(random),
     }
 }

@@ -4,6 +4,7 @@ use raftershim::{Answer, Meter, Notes, Stores};
 use raftershim_checks::bridge::call::{frame, Call};
 use raftershim_checks::bridge::history::History;
 use raftershim_checks::bridge::told::{Act, Reader, Told, Worth};
+use std::collections::VecDeque;
 use std::fmt;
 
 /// What can happen at a desk with a meter.
@@ -15,7 +16,10 @@ pub enum Letter {
     Read,
     /// The port lost a byte.
     Gap,
-    Next,
+    /// The app asks for the line byte that is next, sends it and takes it.
+    Out,
+    /// The app takes a line byte of this name.
+    Take(u8),
     Break,
     Key,
     Register(u32, u8),
@@ -31,13 +35,14 @@ pub enum Letter {
 
 impl Letter {
     /// The acts that it is, given the frame that went out last.
-    fn acts(self, last: u32) -> Vec<Act> {
+    fn acts(self, last: u32) -> VecDeque<Act> {
         let calls = match self {
-            Letter::Read => return vec![Act::Read],
-            Letter::Gap => return vec![Act::Gap],
+            Letter::Read => return [Act::Read].into(),
+            Letter::Gap => return [Act::Gap].into(),
             Letter::Line(byte) => vec![Call::Line(byte)],
             Letter::LineEnd => vec![Call::Line(b'\r'), Call::Line(b'\n')],
-            Letter::Next => vec![Call::Next],
+            Letter::Out => vec![Call::Ask],
+            Letter::Take(byte) => vec![Call::Take(byte)],
             Letter::Break => vec![Call::Break],
             Letter::Key => vec![Call::Key],
             Letter::Register(number, value) => vec![Call::Register(number, value.into())],
@@ -113,9 +118,10 @@ impl<M: Reader> Both<M> {
         }
     }
 
-    /// Lets something happen to both: a sentence if they differ.
+    /// Lets something happen to both: a sentence if they differ. A line byte that is next is taken.
     pub fn happens(&mut self, letter: Letter, counts: &mut Counts) -> Result<(), String> {
-        for act in letter.acts(self.last) {
+        let mut acts = letter.acts(self.last);
+        while let Some(act) = acts.pop_front() {
             let (ours, due) = (self.reader.act(act), self.history.act(act));
             if ours != due {
                 return Err(format!(
@@ -128,6 +134,9 @@ impl<M: Reader> Both<M> {
             counts.acts += 1;
             match due.0 {
                 Told::Answer(Ok(Answer::Frame(out))) => self.last = out.into(),
+                Told::Answer(Ok(Answer::Byte(byte))) => {
+                    acts.push_front(Act::Call(Call::Take(byte)))
+                }
                 Told::Reading(Worth::Whole, _) => counts.whole += 1,
                 Told::Reading(Worth::Gap, _) => counts.gaps += 1,
                 Told::Reading(Worth::NotEnded, _) => counts.not_ended += 1,

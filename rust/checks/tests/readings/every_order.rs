@@ -3,7 +3,7 @@
 use crate::both::{our_meter, Both, Counts, Letter, Sizes};
 use raftershim_checks::bridge::told::Reader;
 use Letter::{
-    AskData, AskStatus, Back, Break, Clear, Gap, Key, Line, LineEnd, Next, Read, Register, Reset,
+    AskData, AskStatus, Back, Break, Clear, Gap, Key, Line, LineEnd, Out, Read, Register, Reset,
 };
 
 /// What to go through.
@@ -195,6 +195,6 @@ fn rules_changed_under_way() {
 
 #[test]
 fn go_and_stop() {
-    let letters = &[Line(b'2'), LineEnd, Line(17), Line(19), Read, Next];
+    let letters = &[Line(b'2'), LineEnd, Line(17), Line(19), Read, Out];
     held_on_both("go and stop", &[Line(b'1')], letters, [7, 7]);
 }

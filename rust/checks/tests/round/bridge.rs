@@ -162,7 +162,11 @@ impl Store for Transmit {
     }
 
     fn take(_: &Bridge) -> Call {
-        Call::Next
+        Call::Ask
+    }
+
+    fn gone(item: u16) -> Option<Call> {
+        Some(Call::Take((item & 255) as u8))
     }
 
     fn due(_: &Bridge, waiting: &[u8]) -> (usize, Option<u16>) {

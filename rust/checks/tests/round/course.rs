@@ -164,8 +164,13 @@ impl<'a, S: Store> Course<'a, S> {
     pub fn take(&mut self) -> Told<bool> {
         let before = self.state()?;
         let (gone, item) = S::due(&before, self.history.waiting());
-        let made = self.made(S::take(&before))?;
+        let mut made = self.made(S::take(&before))?;
         self.answered(made.answer, S::handed_out(item))?;
+        if let Some(call) = item.and_then(S::gone) {
+            self.as_by_history()?;
+            made = self.made(call)?;
+            self.answered(made.answer, DONE)?;
+        }
         self.history.remove(gone);
         self.as_by_history()?;
         let mark = item.map(|item| item & MARK != 0);

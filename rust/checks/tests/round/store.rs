@@ -116,9 +116,14 @@ pub trait Store: Sized + 'static {
     /// The call that asks for the next item.
     fn take(state: &State<Self>) -> Call<Self>;
 
-    /// How many cells that call removes of those that wait, and the item that it hands out.
+    /// The call that takes the item after that, if it is still there when it was asked for.
+    fn gone(_item: u16) -> Option<Call<Self>> {
+        None
+    }
+
+    /// How many cells go then of those that wait, and the item that is handed out.
     fn due(state: &State<Self>, waiting: &[Self::Cell]) -> (usize, Option<u16>);
 
-    /// What it is answered if it hands out this.
+    /// What the ask is answered if this is handed out.
     fn handed_out(item: Option<u16>) -> u64;
 }

@@ -49,10 +49,16 @@ loop-less c = omega (arith, c .before .before .before .before .before .before .l
 loop-again : tie.Need-loop-again Inv-loop μ-loop
 loop-again c =
     let s = ap length
-    (line-goes _ _ _ _ _ _ (c .before .before .before .before .before .before .loop-test .taken) (c .before .before .before .before .before .ask-line-byte .ensures)
-    (c .before .before .before .before .is-byte .ensures) _ _ (c .before .before .before .if1 .left) (c .before .before .byte-in .ensures) (c .before .take-line-byte .ensures)) in (
+    (line-goes _ _ _ _ _ _ (c .before .before .before .before .before .before .loop-test .taken)
+    (c .before .before .before .before .before .ask-line-byte .ensures)
+    (c .before .before .before .before .is-byte .ensures) _ _ (c .before .before .before .if1 .left)
+    (c .before .before .byte-in .ensures) (c .before .take-line-byte .ensures)) in (
       omega (arith, s, c .before .before .before .before .before .before .before .loop .inv .0),
-      omega (arith, c .before .before .before .before .before .before .loop-test .taken, c .before .before .before .before .before .before .before .loop .inv .1),
+      omega (
+        arith,
+        c .before .before .before .before .before .before .loop-test .taken,
+        c .before .before .before .before .before .before .before .loop .inv .1,
+      ),
     )
 
 returns-2 : tie.Need-returns-2 Inv-loop μ-loop

@@ -1,6 +1,7 @@
 //! What is drawn of the bridge.
 
 mod every_call;
+mod out;
 mod sizes;
 mod states;
 mod steps;

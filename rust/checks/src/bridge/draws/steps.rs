@@ -1,8 +1,10 @@
 //! What steps do: calls, and calls that depend on the state of the moment.
 
+use super::out::Out;
 use crate::bridge::call::{frame, Call};
 use crate::bridge::TheBridge;
 use crate::drive;
+use crate::machine::Stores;
 use model::{Bridge, ADDRESSED, IDLE, SERVICE, UNASSIGNED};
 
 /// What a step does.
@@ -20,6 +22,8 @@ pub enum What {
     Back(u16),
     /// Command 32 or 64 with our address, or an address for us where we have none.
     ToUs(u32),
+    /// Line bytes are asked for and taken.
+    Out(Out),
     /// A write of a register of the reading rule, first and whenever nothing is held; in between a line
     /// that the rule finds walls and ends in, and what reads it out.
     Ruled(u32, u32),
@@ -43,6 +47,7 @@ impl drive::What<TheBridge> for What {
             What::Back(change) => Call::Frame((state.under_way ^ change).into()),
             What::ToUs(_) if state.address == UNASSIGNED => frame(5, 128 + u32::from(done)),
             What::ToUs(command) => frame(4, command + u32::from(state.address)),
+            What::Out(_) => Call::Ask,
             What::Ruled(number, value) => match (done, state.receive.held) {
                 (0, _) => Call::Register(number, value),
                 (8.., 0) => Call::Register(number, value),
@@ -53,18 +58,26 @@ impl drive::What<TheBridge> for What {
             },
         }
     }
+
+    /// Which line byte is next stands in a store.
+    fn call_on(self, state: &Bridge, stores: Stores<TheBridge>, done: u8) -> Call {
+        match self {
+            What::Out(out) => out.call(state, stores, done),
+            _ => self.call(state, done),
+        }
+    }
 }
 
 /// How many kinds of things are done.
-pub const KINDS: usize = 80;
+pub const KINDS: usize = 87;
 
-/// What is done, and how often at most: weighted so that stores fill, frames return, status is under
-/// way and breaks come often, and that the reading rule is written while something is held and while
-/// nothing is.
+/// What is done, and how often at most: weighted so that stores fill, frames return, status is
+/// under way and breaks come often, that the reading rule is written while something is held and
+/// while nothing is, and that line bytes are taken by their own name and by others.
 pub fn what(kind: usize, number: u32) -> (What, u8) {
     let of = |calls: &[Call]| What::Make(calls[number as usize % calls.len()]);
     match kind {
-        0..=3 => (What::Make(Call::Next), 8),
+        0..=3 => (What::Out(Out::Next(number as u8)), 12),
         4..=9 => (What::Counting(number as u8), 16),
         10..=13 => (What::Character(number as usize % 2), 1),
         14..=15 => (What::Character(number as usize % 4 + 2), 1),
@@ -84,6 +97,11 @@ pub fn what(kind: usize, number: u32) -> (What, u8) {
         66..=68 => (What::Make(Call::Break), 2),
         69..=73 => (What::Walled(number as u8), 8),
         74..=75 => (What::Make(Call::Register(10, 8 | number & 4)), 1),
+        76 => (What::Out(Out::Waiting), 2),
+        77 => (What::Out(Out::Own(4 + number as usize % 2)), 2),
+        78 => (What::Make(Call::Take(number as u8)), 2),
+        79..=80 => (What::Out(Out::Late), 8),
+        81..=82 => (What::Out(Out::Alike), 16),
         _ => {
             let (register, value) = of_the_rule(number);
             (What::Ruled(register, value), 20)
