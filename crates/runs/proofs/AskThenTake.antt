@@ -1,11 +1,11 @@
 -- An ask and the take after it are one with what giving was. Assumes nothing.
 use native.Mathlib.Omega.{arith}
-use Prim.Native.Nat.{ℕ, _+_, _-_, _<_}
+use Prim.Native.Nat.{ℕ, _+_, _-_}
 use mathlib.Core.Path.{_≡_, refl, sym, ap, subst, _∙_}
 use mathlib.Core.Bool.{Bool, true, false, cond, _&&_, _||_, not, and-true, false≢true}
 use mathlib.Core.List.{List, [], _∷_}
-use lib.Dec.{eqb, leb}
-use lib.ListN.{length, getD}
+use lib.Dec.{eqb}
+use lib.ListN.{getD}
 use borrow.Author.Tests.{eqb-true, eqb-false}
 use Rattle.registers.specs.Meanings.{go, stop}
 use Rattle.store.specs.declared.Ring.{Ring}
@@ -18,8 +18,8 @@ use Rattle.state.specs.Conditions.{withRequest, settled}
 use Rattle.answers.specs.Answers.{Said, said, done, byte, refused, isByte, faultOf}
 use Rattle.state.proofs.Fits.{tx-fits}
 use Rattle.line.specs.HoldingOff.{owed, nextOut, isNext, gone, outAnswer}
-use Rattle.bridge.specs.Calls.{on, askLineByte, takeLineByte, show, create, Call, nextOf, World, Did, looked, checks, outcome, settledBy}
-use Rattle.bridge.specs.Calls.{rxAfter, txAfter, shown, notRefused, refusal, refusedOr, step}
+use Rattle.bridge.specs.Calls.{on, askLineByte, takeLineByte, show, create, Call, nextOf, World, Did, checks, outcome, settledBy}
+use Rattle.bridge.specs.Calls.{rxAfter, txAfter, notRefused, refusal, refusedOr, step}
 use Rattle.bridge.proofs.Asks.{fitted, ask-is, take-is, take-fits, named, not-named, ask-leaves, asked-next}
 use Rattle.laws.specs.Bridges.{telling}
 use Rattle.laws.specs.Observers.{taken, isAsk, restarts, clears, statusSent}
@@ -33,9 +33,8 @@ use Rattle.runs.proofs.Runs.{first-not}
 use Rattle.runs.proofs.Requests.{requests-go}
 use Rattle.runs.proofs.Refused.{out-taken, refused-stays}
 use Rattle.runs.proofs.NextByte.{next-is}
-use Rattle.runs.proofs.Steps.{after, end, ours, answer, Without, at-call}
-use Rattle.machine.specs.Machine.{Obeys, finally, course}
-use Rattle.machine.specs.Course as course
+use Rattle.runs.proofs.Steps.{after, ours, answer, Without, at-call}
+use Rattle.machine.specs.Machine.{Obeys, finally}
 
 -- ---- calls that only look
 

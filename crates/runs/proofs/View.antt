@@ -10,7 +10,7 @@ use Rattle.bridge.specs.Calls.{Call, on, create, reset, write, lineByte, lineBr
 use Rattle.bridge.specs.Calls.{show, World, Did, checks, outcome, settledBy, rxAfter, txAfter, refusedOr, step, refusal}
 use Rattle.bridge.specs.Calls as calls
 use Rattle.laws.specs.Observers.{passesOn, asksStatus, arrived, sent, added, handedOut, restarts, writes, clears}
-use Rattle.runs.proofs.Shapes.{core, frames, hands, Shape, isStill, isBegun, isBroken}
+use Rattle.runs.proofs.Shapes.{core, frames, Shape, isStill, isBegun, isBroken}
 use Rattle.laws.proofs.Refusing.{fitting, write-fitting, take-fitting, frame-fitting}
 use Rattle.runs.proofs.Refusals.{or-refused}
 use Rattle.runs.proofs.Quiet.{Shaped, none-arrives}

@@ -2,7 +2,7 @@
 use Prim.Native.Nat.{ℕ}
 use mathlib.Core.Bool.{Bool, true, false, cond, _&&_, not}
 use lib.Dec.{eqb}
-use Rattle.answers.specs.Answers.{Said, done, none, refused, isByte, byteIn}
+use Rattle.answers.specs.Answers.{Said, done, refused, isByte, byteIn}
 use Rattle.bridge.specs.Calls.{askLineByte, takeLineByte, Call, on, World, Did, misfit, step}
 use Rattle.laws.specs.Bridges.{Machine, ByteCall}
 use Rattle.laws.specs.Observers.{taken, onOne, isAsk, onTake, owes, ownCharacter}
