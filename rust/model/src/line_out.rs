@@ -34,13 +34,13 @@ impl Bridge {
         Answer::Done
     }
 
-    /// Whether "the last of go and stop we sent (at start: go) differs from what holds".
+    /// Whether go or stop is owed: the one that we sent last, at the start go, is not what holds.
     fn owes_go_or_stop(&self) -> bool {
         self.stop_sent_last != self.holding
     }
 
-    /// The byte that is next: if go or stop is owed, "that character, before all else, also with
-    /// the protocol since off or our sending forbidden", and else the oldest byte held.
+    /// The byte that is next: go or stop first of all if it is owed, even with the protocol off or
+    /// our sending forbidden; else none while our sending is forbidden; else the oldest byte held.
     fn next_on_line(&self, tx: &[u8]) -> Option<u8> {
         match (self.owes_go_or_stop(), self.forbidden) {
             (true, _) if self.holding => Some(self.registers.stop()),
