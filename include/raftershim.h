@@ -244,18 +244,20 @@ uint64_t raftershim_ask_line_byte(const uint8_t *block, uint64_t block_len, cons
                                   uint64_t tx_len);
 
 /*
- * Takes the line byte that is named: if it is the next one it is gone, and any other is refused. Our own go or stop counts as sent from then on, and a byte of the
- * transmit store leaves that store. If a go or stop is owed and the oldest byte held is the same byte, the go or stop is what goes, and
- * the byte stays. Neither store is written. Answers done.
+ * Takes the line byte that is named: if it is the next one it is gone, and any other is refused. Our own go or stop counts as sent from
+ * then on, and a byte of the transmit store leaves that store. If a go or stop is owed and the oldest byte held is the same byte, the go
+ * or stop is what goes, and the byte stays. Neither store is written. Answers done.
  * Refusal 2: the block is not a state that fits the stores. Refusal 12: nothing is next, or the byte is not the next one.
  *
  * So ask, send the byte, and take it when the port has it. If the port fails, take nothing: the byte is still there, and the next ask says
- * it again. A take right after its ask is never refused.
- * Make no other call on these buffers between the ask, the sending and the take. Such a call can make a go or stop due, or no longer due,
- * and a device clear or a reset throws away what is held. The take is then refused, though its byte is on the line already, and nothing is
- * recorded. A byte of the transmit store so goes out a second time. A stop that was sent is not followed by a go, and the meter stays
- * silent for good. A go that was sent is not followed by the stop that has become due, and bytes of the meter may be lost. And a take knows
- * a byte by its value alone: where an equal byte has become next in between, that one is gone, though it was never sent.
+ * it again. If nobody knows whether the byte went out, not taking it sends it twice at worst, and taking it may lose it. A take right
+ * after its ask is never refused.
+ * Make no other call on these buffers between the ask, the sending and the take. Such a call can make a go or stop due, no longer due or
+ * another character, it can forbid our sending, and a device clear or a reset throws away what is held. The take is then refused, though
+ * its byte is on the line already, and nothing is recorded. So a byte of the transmit store goes out a second time. A stop that was sent is
+ * not followed by a go, and the meter stays silent for good. A go that was sent is not followed by the stop that has become due, and bytes
+ * of the meter may be lost. And a take knows a byte by its value alone: where an equal byte has become next in between, that one is gone,
+ * though it was never sent.
  */
 uint64_t raftershim_take_line_byte(uint8_t *block, uint64_t block_len, const uint16_t *rx, uint64_t rx_len, const uint8_t *tx,
                                    uint64_t tx_len, uint8_t byte);

@@ -58,6 +58,7 @@ def declares(path, name):
         ".rt": rf"\b(?:fn|struct|enum|const) {word}\b",
         ".rs": rf"\b(?:fn|struct|enum|const|mod) {word}\b",
         ".c": rf"^(?:\w+ )+\**{word}\(",
+        ".h": rf"^(?:#define {word}\b|(?:\w+ )+\**{word}\()",
         ".py": rf"^(?:def|class) {word}\b",
     }
     form = forms.get(os.path.splitext(path)[1], rf"(^|[^\w'-]){word}([^\w'-]|$)")

@@ -13,7 +13,7 @@ int line_take(uint8_t *byte);
  * or after any byte that the port still has: a port with a queue loses what comes after them, one without may lose what came before.
  */
 int line_overran(void);
-/* Gives the line a byte; whether the port has taken it. If it has not, it will not send it, and is given it again later. */
+/* Gives the line a byte. Answers whether the port took the byte: if not, the port does not send it, and it is given again later. */
 int line_give(uint8_t byte);
 
 /* Takes a frame that has come from the loop; whether there was one. And sends one on. */

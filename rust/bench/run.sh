@@ -73,7 +73,7 @@ mkdir -p "$work"
 compare
 counts > "$work/counts"
 echo "Instructions on $triple, counted by $tool, of archive, model and peer behind the same block boundary. The mailbox has no peer. The"
-echo 'loop that calls them is not counted. Bytes are those handed out on the other side, for status the polls. The margin of the bridge is'
+echo 'loop that calls them is not counted. Bytes are those that went out on the other side, for status the polls. The margin of the bridge is'
 echo 'an eighth of the store, at most 1024.'
 echo
 status=0

@@ -25,6 +25,7 @@ Run by:
 - `tests/c/calls.c`: `calls`
 - `tests/run.py`: `runs`
 - `tests/run.rs`: `holds`
+- `tests/c/calls.h`: `asks`, `ASKED`
 
 ## Second sentence: nobody runs it
 
@@ -70,6 +71,7 @@ def build(room):
     room.write("crates/one/specs/Lib.antt", "-- a comment\nabbrev pub seven : ℕ\nseven = 7\n\npub record Known : Type 0 where\n  pub known : ℕ\n")
     room.write("crates/one/edits/e.edit", "file: src/lib.rt\n")
     room.write("tests/c/calls.c", "/* a comment */\nstatic void calls(void) {\n    helps();\n}\n")
+    room.write("tests/c/calls.h", "/* a comment */\n#define ASKED 7\nstatic inline int asks(void) { return helps(); }\n")
     room.write("tests/run.py", "# a comment\ndef runs():\n    helps()\n")
     room.write("tests/run.rs", "// a comment\nfn holds() {\n    helps();\n}\n")
     for path in ("README.md", "CONTRIBUTING.md", "CHANGELOG.md"):
@@ -104,7 +106,7 @@ def names(room):
     room.finds(TOOL, "README.md: it does not say what crates/two is", ("crates.txt", "one:\n", "one:\ntwo:\n"))
     room.finds(TOOL, "docs/deep/NOTE.md:1: no file docs/GONE.md", ("docs/deep/NOTE.md", "See `docs/GONE.md`.\n"))
     room.finds(TOOL, "docs/PROMISES.md:9: no eight in", (PROMISES, CONTENTS + "`crates/one/specs/Lib.antt`: `eight`\n"))
-    for line, name in ((7, "seven"), (7, "known"), (11, "first"), (15, "calls"), (16, "runs"), (17, "holds")):
+    for line, name in ((7, "seven"), (7, "known"), (11, "first"), (15, "calls"), (16, "runs"), (17, "holds"), (18, "asks"), (18, "ASKED")):
         for other in ("gone", "comment", "helps"):
             room.finds(TOOL, f"{PAGE}:{line}: no {other} in", (PAGE, f"`{name}`", f"`{other}`"))
     for path in LAWS:
@@ -150,7 +152,7 @@ def entries(room):
         room.finds(TOOL, "'First sentence: it is seven' has", (PAGE, f"{label}:\n", "And:\n"))
         room.finds(TOOL, f"nothing, or two things, after '{label}'", (PAGE, f"{label}:\n", f"{label}: nothing.\n"))
     room.finds(TOOL, "has Stated by, Proved by, and not Stated by, Proved by, Run by", (PAGE, "Run by: nothing; the proof alone.\n", ""))
-    room.finds(TOOL, f"{PAGE}:25: nothing, or two things, after 'Proved by'", (PAGE, "Proved by: nothing; it is run.", "Proved by:"))
+    room.finds(TOOL, f"{PAGE}:26: nothing, or two things, after 'Proved by'", (PAGE, "Proved by: nothing; it is run.", "Proved by:"))
     room.finds(TOOL, "has Proved by, Stated by, Run by", (PAGE, ENTRY.replace("Stated", "Xed").replace("Proved", "Stated").replace("Xed", "Proved")))
     room.finds(TOOL, f"{PAGE}:11: the item begins with no file", (PAGE, "- `crates/one/src/lib.rt`: `first`", "- the function `first`"))
     room.finds(TOOL, f"{PAGE}:11: the item begins with no file", (PAGE, "- `crates/one/src/lib.rt`: `first`", "- `first`"))

@@ -6,7 +6,7 @@ use Rattle.frame.specs.Frame.{controlOf, dataOf}
 use Rattle.answers.specs.declared.Answer.{Answer}
 use Rattle.answers.specs.declared.Answer.the-variants.{Done, Nothing, Byte, Frame, Refused, Cell, Lines}
 
--- Sizes and refusals, last: done where nothing is given, and none where there is no line byte; a line byte; a frame by its control bits and its
+-- Sizes and refusals, last: done where no more is answered, and none where no line byte is next; a line byte; a frame by its control bits and its
 -- data; a refusal by its number; and of showing the bytes of a part. On the bus of a mailbox a cell is a byte, with 256 more where its end is
 -- marked, and the lines are the bits that answer a parallel poll, with 256 more while service is requested
 pub data Said : Type 0 where
@@ -54,14 +54,14 @@ isRefusal x = ofRefusal (λ n. true) false x
 unfoldable pub faultOf : Said → ℕ
 faultOf x = ofRefusal (λ n. n) 0 x
 
--- whether a line byte is given, and which
+-- whether a line byte is said, and which
 unfoldable pub isByte : Said → Bool
 isByte x = ofByte (λ b. true) false x
 
 unfoldable pub byteIn : Said → ℕ
 byteIn x = ofByte (λ b. b) 0 x
 
--- Sizes and refusals, last: done from a call with nothing to hand out
+-- Sizes and refusals, last: done from a call that answers no more
 abbrev pub doneOrRefused : Said → Bool
 doneOrRefused done = true
 doneOrRefused (refused n) = true
@@ -72,7 +72,7 @@ doneOrRefused (part xs) = false
 doneOrRefused (cell n) = false
 doneOrRefused (lines n) = false
 
--- Sizes and refusals, last: a line byte, or none where there is none to give
+-- Sizes and refusals, last: a line byte, or none where none is next
 abbrev pub byteOrRefused : Said → Bool
 byteOrRefused (byte b) = true
 byteOrRefused none = true

@@ -4,8 +4,8 @@ ghost use Prim.Native.Nat.{_<_};
 ghost use Rattle.answers.specs.Answers.{isRefusal, faultOf, isByte, byteIn, said};
 ghost use Rattle.answers.specs.Word.{word, wordWith};
 
-// A call has nothing to hand out, has nothing to give, gives a line byte, gives a frame, is refused, or, on the bus of a mailbox, gives a cell
-// or the lines.
+// A call answers no more than done, says that no byte is next, says a line byte, gives a frame, is refused, or, on the bus of a mailbox, gives a
+// cell or the lines.
 pub enum Answer {
     Done,
     Nothing,

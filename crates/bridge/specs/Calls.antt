@@ -156,7 +156,7 @@ abbrev pub nextOf : World → Out
 nextOf w = nextOut (w .state) (w .tx)
 
 -- the table after that, in the order of its numbers: a register write has 5 to 8, which look at the registers alone, and 10, which looks at
--- the receive store; a loop frame has 3 and 4; Ask, then take, 12: nothing is next, or the byte named is not
+-- the receive store; a loop frame has 3 and 4; a take has 12, where an ask would not say this byte
 unfoldable pub checksOn : OnState → World → List Check
 checksOn (write n v) w = writeChecks (w .state .regs) n v ++ (check 10 (heldLine (w .state) n) ∷ [])
 checksOn (loopFrame f) w = check 3 (ltb 2047 f) ∷ check 4 (busy (w .state) f) ∷ []
@@ -260,6 +260,10 @@ refusedOr n d w = cond (eqb n 0) d (refusal n w)
 -- every call, in every world
 unfoldable pub step : Call → World → Did
 step c w = refusedOr (firstRefusal (checks c w)) (notRefused c w) w
+
+-- what an ask answers
+abbrev pub askAnswer : World → Said
+askAnswer w = step (on askLineByte) w .said
 
 -- ---- the promise
 

@@ -5,11 +5,11 @@ use mathlib.Core.List.{List, [], _∷_}
 use Rattle.machine.specs.Course.{Seen}
 use Rattle.machine.specs.Machine.{Machine, seen, course, finally}
 use Rattle.bridge.specs.Calls.{reset, write, lineByte, lineBreak, key, askLineByte, takeLineByte, loopFrame, Call, create, show, on, World}
-use Rattle.laws.specs.Observers.{isAsk}
+use Rattle.laws.specs.Observers.{asksLineByte}
 use Rattle.laws.specs.AsksLeftOut.{withoutAsks, seenWithoutAsks, LeftOut, AsksLeftOut}
 
 -- what holds of an ask holds of a call that is one
-pub at-ask : (P : Call → Type 0) → P (on askLineByte) → (c : Call) → isAsk c ≡ true → P c
+pub at-ask : (P : Call → Type 0) → P (on askLineByte) → (c : Call) → asksLineByte c ≡ true → P c
 at-ask P p (create m) e = absurd (false≢true e)
 at-ask P p (show side) e = absurd (false≢true e)
 at-ask P p (on reset) e = absurd (false≢true e)
@@ -25,9 +25,9 @@ module _ {Said : Type 0} (M : Machine World Call Said) (leaves : (o : M .Own) �
   -- by whether the first call is an ask
   first-out : (c : Call) (cs : List Call) (o : M .Own) → LeftOut M cs (M .after c o) → LeftOut M (c ∷ cs) o
   unfolding withoutAsks seenWithoutAsks course finally
-  first-out c cs o rest = by-kind (isAsk c) refl
+  first-out c cs o rest = by-kind (asksLineByte c) refl
     where
-      by-kind : (t : Bool) → isAsk c ≡ t → LeftOut M (c ∷ cs) o
+      by-kind : (t : Bool) → asksLineByte c ≡ t → LeftOut M (c ∷ cs) o
       by-kind true e =
           let same : M .after c o ≡ o = at-ask (λ c. M .after c o ≡ o) (leaves o) c e in
           record {

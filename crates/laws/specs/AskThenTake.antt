@@ -12,7 +12,7 @@ use Rattle.state.specs.State.{withLine, withTx}
 use Rattle.state.specs.Conditions.{withRequest}
 use Rattle.bridge.specs.Calls.{askLineByte, takeLineByte, Call, create, show, on, World}
 use Rattle.laws.specs.Bridges.{Law, Saw}
-use Rattle.laws.specs.Observers.{taken, isAsk, owes}
+use Rattle.laws.specs.Observers.{taken, asksLineByte, owes}
 use Rattle.laws.specs.Worlds.{requested}
 use Rattle.laws.specs.Requests.{asking, comes}
 use Rattle.laws.specs.NextByte.{nextByte}
@@ -27,7 +27,7 @@ AskLooks = ofCalls (λ s. s .call ≡ on askLineByte → s .after ≡ s .before)
 abbrev pub acts : Call → World → Said → Bool
 acts (create m) w a = taken a
 acts (show side) w a = false
-acts (on c) w a = taken a && not (isAsk (on c))
+acts (on c) w a = taken a && not (asksLineByte (on c))
 
 -- two asks answer alike
 abbrev pub AsksAlike : Law
@@ -38,7 +38,7 @@ pub record AsAsked (a : Said) (b : ℕ) (t : Saw) : Type 0 where
   -- of the byte asked for: it is never refused
   pub same : a ≡ byte b → t .answer ≡ done
   -- of any other byte, and where there is none: it is refused, by what the ask was refused with or else with 12, and changes nothing
-  pub misfit : taken a ≡ false → t .answer ≡ a
+  pub alike : taken a ≡ false → t .answer ≡ a
   pub other : taken a ≡ true → (a ≡ byte b → ⊥) → t .answer ≡ refused 12
   pub stays : (a ≡ byte b → ⊥) → t .after ≡ t .before
 
@@ -62,7 +62,7 @@ givenState w = cond (owes (w .state .line .stopped) w) (ownGone (w .state)) (wit
 
 -- what giving the next line byte did when it was one call: it answered the byte b in the world w, and left the world v
 pub record Gave (w : World) (b : ℕ) (v : World) : Type 0 where
-  pub byte : nextByte w ≡ byte b
+  pub next : nextByte w ≡ byte b
   pub state : v .state ≡ withRequest (givenState w) (requested w || comes (asking w) (asking v))
   pub rx : v .rx ≡ w .rx
   pub tx : v .tx ≡ w .tx

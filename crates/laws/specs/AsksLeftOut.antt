@@ -5,18 +5,18 @@ use mathlib.Core.List.{List, [], _∷_}
 use Rattle.machine.specs.Course.{Seen}
 use Rattle.machine.specs.Machine.{Machine, course, finally, AllFair}
 use Rattle.bridge.specs.Calls.{Call, World}
-use Rattle.laws.specs.Observers.{isAsk}
+use Rattle.laws.specs.Observers.{asksLineByte}
 
 -- the calls of a run without its asks
 unfoldable pub withoutAsks : List Call → List Call
 withoutAsks [] = []
-withoutAsks (c ∷ cs) = cond (isAsk c) (withoutAsks cs) (c ∷ withoutAsks cs)
+withoutAsks (c ∷ cs) = cond (asksLineByte c) (withoutAsks cs) (c ∷ withoutAsks cs)
 
 module _ {Said : Type 0} where
   -- what is seen of a run without them
   unfoldable pub seenWithoutAsks : List (Seen World Call Said) → List (Seen World Call Said)
   seenWithoutAsks [] = []
-  seenWithoutAsks (s ∷ ss) = cond (isAsk (s .call)) (seenWithoutAsks ss) (s ∷ seenWithoutAsks ss)
+  seenWithoutAsks (s ∷ ss) = cond (asksLineByte (s .call)) (seenWithoutAsks ss) (s ∷ seenWithoutAsks ss)
 
   -- the run goes as it goes without its asks
   pub record LeftOut (M : Machine World Call Said) (cs : List Call) (o : M .Own) : Type 0 where

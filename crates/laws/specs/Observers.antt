@@ -67,8 +67,8 @@ abbrev pub onOne : {X : Type 0} → OnState → X → X → Call → X
 onOne d seen nothing = onState (λ c. cond (is d c) seen nothing) nothing
 
 -- the next line byte is asked for
-abbrev pub isAsk : Call → Bool
-isAsk c = onOne askLineByte true false c
+abbrev pub asksLineByte : Call → Bool
+asksLineByte c = onOne askLineByte true false c
 
 -- ---- frames, by the role before the call
 

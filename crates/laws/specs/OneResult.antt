@@ -24,7 +24,7 @@ pub record SameTold (t₁ t₂ : Told) (rx₁ rx₂ tx₁ tx₂ : List ℕ) : Ty
   pub room : t₁ .room ≡ t₂ .room
 
 pub record OneResult : Type 0 where
-  -- of create and of the calls on a state that tell no room
+  -- of create and of the calls on a state that tell no room, but an ask
   pub calls : (c : Call) (w : World) (o₁ o₂ : Outcome) (rx₁ rx₂ tx₁ tx₂ : List ℕ) →
       Promised c w (did o₁ rx₁ tx₁) → Promised c w (did o₂ rx₂ tx₂) → Same o₁ o₂ rx₁ rx₂ tx₁ tx₂
   -- of a line byte and a loop frame, which tell one

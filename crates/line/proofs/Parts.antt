@@ -20,7 +20,8 @@ use Rattle.state.specs.declared.Out.the-variants.{Own, Held, Nothing}
 use Rattle.answers.specs.declared.Answer.the-variants as answer
 use Rattle.state.specs.State.{withRegisters, withLine, withRx, withTx, withNotes, withCounts}
 use Rattle.state.specs.Counts.{counted}
-use Rattle.line.specs.HoldingOff.{isGoOrStop, flowed, storedWith, lostState, lineState, lineBytes, Taken, resumed, setAfresh, afterWrite, owed, nextOut, isNext, gone, outAnswer}
+use Rattle.line.specs.HoldingOff.{isGoOrStop, flowed, storedWith, lostState, lineState, lineBytes, Taken, resumed, setAfresh, afterWrite}
+use Rattle.line.specs.HoldingOff.{owed, nextOut, isNext, gone, outAnswer}
 
 -- ---- a line byte
 
@@ -137,7 +138,8 @@ module _ (s : State) (tx : List ℕ) where
 -- ---- a line byte that is gone
 
 module _ (s : State) (o : Out) where
-  pub gone-own : (b : ℕ) → o ≡ Own b → withLine s (record { holding = s .line .holding; forbidden = s .line .forbidden; stopped = s .line .holding }) ≡ gone s o
+  pub gone-own : (b : ℕ) → o ≡ Own b →
+      withLine s (record { holding = s .line .holding; forbidden = s .line .forbidden; stopped = s .line .holding }) ≡ gone s o
   unfolding gone
   gone-own b e = rw e
 

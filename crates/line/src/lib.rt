@@ -61,7 +61,7 @@ fn lost(s: State) -> State
     t
 }
 
-// A line byte taken: go and stop are never stored, any other byte is stored or lost. The room told is what the store answered.
+// A byte that comes in from the line: go and stop are never stored, any other byte is stored or lost. The room told is what the store answered.
 pub fn taken(s: State, rx: &mut [u16], b: u8) -> Took
     requires { ⌜ RxFits s (now rx) ⌝ }
     ensures { λ r. ⌜ Taken s (now (rx .entry)) b (now (rx .exit)) r ⌝ }

@@ -1,7 +1,8 @@
--- What holds of every C call of the bridge, and of every run of C calls: the laws of the C functions of any product, said of this one.
+-- What holds of every C call of the bridge, and of every run of C calls: the laws of the C functions of any product, said of this one, and
+-- what its asks leave.
+use mathlib.Core.Path.{_≡_}
 use Rattle.boundary.specs.Numbers as numbers
 use Rattle.boundary.specs.CLaws as boundary
-use mathlib.Core.Path.{_≡_}
 use Rattle.bridge.specs.Calls.{askLineByte, on}
 use Rattle.laws.specs.AsksLeftOut.{AsksLeftOut}
 use Rattle.boundary.specs.CRuns.{cTelling}

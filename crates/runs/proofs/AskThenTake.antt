@@ -21,13 +21,12 @@ use Rattle.line.specs.HoldingOff.{owed, nextOut, isNext, gone, outAnswer}
 use Rattle.bridge.specs.Calls.{on, askLineByte, takeLineByte, show, create, Call, nextOf, World, Did, checks, outcome, settledBy}
 use Rattle.bridge.specs.Calls.{rxAfter, txAfter, notRefused, refusal, refusedOr, step}
 use Rattle.bridge.proofs.Asks.{fitted, ask-is, take-is, take-fits, named, not-named, ask-leaves, asked-next}
-use Rattle.laws.specs.Bridges.{telling}
-use Rattle.laws.specs.Observers.{taken, isAsk, restarts, clears, statusSent}
-use Rattle.laws.specs.AsksLeftOut.{AsksLeftOut}
+use Rattle.laws.specs.Observers.{taken, asksLineByte, restarts, clears, statusSent}
 use Rattle.laws.proofs.AsksLeftOut.{at-ask, left-out}
 use Rattle.laws.specs.Worlds.{requested}
 use Rattle.laws.specs.Requests.{asking, comes}
 use Rattle.laws.specs.AskThenTake.{AskLooks, acts, AsksAlike, AsAsked, TakesAsAsked, oneFewer, ownGone, givenState, Gave, GoneAsGiven, AskThenTake}
+use Rattle.runs.specs.Obeyed.{oursTelling, OursLeavesAsksOut}
 use Rattle.runs.proofs.Shapes.{Fits}
 use Rattle.runs.proofs.Runs.{first-not}
 use Rattle.runs.proofs.Requests.{requests-go}
@@ -39,8 +38,8 @@ use Rattle.machine.specs.Machine.{Obeys, finally}
 -- ---- calls that only look
 
 -- a run goes as it goes without its asks, the room told included
-pub asks-left-out : AsksLeftOut (telling step)
-asks-left-out = left-out (telling step) ask-leaves
+pub asks-left-out : OursLeavesAsksOut
+asks-left-out = left-out oursTelling ask-leaves
 
 pub ask-looks : Obeys ours AskLooks
 ask-looks c w B = at-call (λ c. after c w ≡ w) (on askLineByte) (ask-leaves w) c
@@ -49,9 +48,9 @@ look-leaves : (c : Call) (w : World) → acts c w (answer c w) ≡ false → aft
 unfolding step refusedOr checks notRefused
 look-leaves (create m) w e = refused-stays (create m) w tt e
 look-leaves (show side) w e = refl
-look-leaves (on c) w e = by-kind (isAsk (on c)) refl
+look-leaves (on c) w e = by-kind (asksLineByte (on c)) refl
   where
-    by-kind : (t : Bool) → isAsk (on c) ≡ t → after (on c) w ≡ w
+    by-kind : (t : Bool) → asksLineByte (on c) ≡ t → after (on c) w ≡ w
     by-kind true q = at-ask (λ c. after c w ≡ w) (ask-leaves w) (on c) q
     by-kind false q = refused-stays (on c) w tt (sym (and-true (taken (answer (on c) w))) ∙ (λ i. taken (answer (on c) w) && not (sym q i)) ∙ e)
 
@@ -80,35 +79,35 @@ asks-alike c cs d w B j k =
 -- ---- what take accepts is what ask says
 
 module _ (b : ℕ) (w : World) where
-  abbrev Taken : Said → Did → Type 0
-  Taken a d = AsAsked a b (record { call = on (takeLineByte b); before = w; answer = d .said; after = d .world })
+  abbrev Asked : Said → Did → Type 0
+  Asked a d = AsAsked a b (record { call = on (takeLineByte b); before = w; answer = d .said; after = d .world })
 
   as-asked : (t u : Bool) → isNext (nextOf w) b ≡ u →
-      Taken (cond t (said (outAnswer (nextOf w))) (refused 2)) (cond t (cond u (notRefused (on (takeLineByte b)) w) (refusal 12 w)) (refusal 2 w))
+      Asked (cond t (said (outAnswer (nextOf w))) (refused 2)) (cond t (cond u (notRefused (on (takeLineByte b)) w) (refusal 12 w)) (refusal 2 w))
   unfolding notRefused outcome said isByte
   as-asked true true e =
       let n : said (outAnswer (nextOf w)) ≡ byte b = named (nextOf w) b e in
       record {
         same = λ _. refl;
-        misfit = λ q. absurd (false≢true (sym q ∙ ap taken n));
+        alike = λ q. absurd (false≢true (sym q ∙ ap taken n));
         other = λ _ h. absurd (h n);
         stays = λ h. absurd (h n);
       }
   as-asked true false e =
       record {
         same = λ q. absurd (not-named (nextOf w) b e q);
-        misfit = λ q. absurd (false≢true (sym q ∙ out-taken (nextOf w)));
+        alike = λ q. absurd (false≢true (sym q ∙ out-taken (nextOf w)));
         other = λ _ _. refl;
         stays = λ _. refl;
       }
   as-asked false u e =
-      record { same = λ q. absurd (false≢true (ap isByte q)); misfit = λ _. refl; other = λ q _. absurd (false≢true q); stays = λ _. refl }
+      record { same = λ q. absurd (false≢true (ap isByte q)); alike = λ _. refl; other = λ q _. absurd (false≢true q); stays = λ _. refl }
 
   -- in one world
-  taken-as-asked : Taken (answer (on askLineByte) w) (step (on (takeLineByte b)) w)
+  taken-as-asked : Asked (answer (on askLineByte) w) (step (on (takeLineByte b)) w)
   taken-as-asked =
-      subst (λ (x : Did). Taken (x .said) (step (on (takeLineByte b)) w)) (sym (ask-is w))
-      (subst (Taken (cond (fitted w) (said (outAnswer (nextOf w))) (refused 2))) (sym (take-is b w)) (as-asked (fitted w) (isNext (nextOf w) b) refl))
+      subst (λ (x : Did). Asked (x .said) (step (on (takeLineByte b)) w)) (sym (ask-is w))
+      (subst (Asked (cond (fitted w) (said (outAnswer (nextOf w))) (refused 2))) (sym (take-is b w)) (as-asked (fitted w) (isNext (nextOf w) b) refl))
 
 abbrev AsAskedAt : ℕ → Said → Call → World → Type 0
 AsAskedAt b a d v = AsAsked a b (record { call = d; before = v; answer = answer d v; after = after d v })
@@ -162,7 +161,7 @@ module _ (w : World) (F : Fits w) (b : ℕ) where
     unfolding notRefused outcome settledBy settled rxAfter txAfter
     gave =
         record {
-          byte = sym (next-is w F) ∙ named (nextOf w) b n;
+          next = sym (next-is w F) ∙ named (nextOf w) b n;
           state =
               ap (λ (d : Did). d .world .state) left
               ∙ (λ i. withRequest (gone-given n i) (sym left i .world .state .notes .request))

@@ -1,8 +1,9 @@
--- Our bridge, and that it obeys every law.
+-- Our bridge, that it obeys every law, and what is said of two runs of it.
 use Rattle.machine.specs.Machine.{ObeysAll}
 use Rattle.bridge.specs.Calls.{step}
 use Rattle.laws.specs.Bridges.{Machine, TellingMachine, telling, bridge}
 use Rattle.laws.specs.Laws.{laws, rooms}
+use Rattle.laws.specs.AsksLeftOut.{AsksLeftOut}
 
 -- the bridge whose calls do what their contracts promise
 abbrev pub ours : Machine
@@ -17,3 +18,7 @@ oursTelling = telling step
 
 abbrev pub OursObeysRooms : Type 0
 OursObeysRooms = ObeysAll oursTelling rooms
+
+-- its runs go as they go without their asks
+abbrev pub OursLeavesAsksOut : Type 0
+OursLeavesAsksOut = AsksLeftOut oursTelling

@@ -18,11 +18,11 @@ use Rattle.state.specs.Sizes.{TxFits}
 use Rattle.state.specs.Conditions.{settled}
 use Rattle.state.proofs.Fits.{tx-fits}
 use Rattle.line.specs.HoldingOff.{owed, nextOut, isNext, gone, outAnswer}
-use Rattle.bridge.specs.Calls.{on, askLineByte, takeLineByte, nextOf, World, Did, outcome, settledBy, notRefused, step}
+use Rattle.bridge.specs.Calls.{on, askLineByte, takeLineByte, nextOf, World, Did, outcome, settledBy, notRefused, step, askAnswer}
 use Rattle.bridge.proofs.Asks.{ask-fits, take-fits, ask-leaves, asked-next}
 use Rattle.laws.specs.Fitting.{Fits}
 use Rattle.laws.proofs.Fitting.{keeps-fit}
-use Rattle.transcript.specs.Transcript.{askAnswer, takesNext, takeAnswer, nextTaken, lineOut, asks}
+use Rattle.transcript.specs.Transcript.{thenTakes, takeAnswer, nextTaken, lineOut, asks}
 use Rattle.transcript.specs.UntilNone.{lineWorld, Enough}
 
 -- how much there is to take: the bytes held, and the go or stop that is owed
@@ -66,7 +66,7 @@ is-byte (cell n) e = absurd (false≢true e)
 is-byte (lines n) e = absurd (false≢true e)
 
 -- a byte that was asked for is taken
-next-taken : (w : World) → isByte (askAnswer w) ≡ true → takesNext w ≡ notRefused (on (takeLineByte (byteIn (askAnswer w)))) w
+next-taken : (w : World) → isByte (askAnswer w) ≡ true → thenTakes w ≡ notRefused (on (takeLineByte (byteIn (askAnswer w)))) w
 next-taken w h =
     let x = asked-next (byteIn (askAnswer w)) w (is-byte (askAnswer w) h) in
     ap (step (on (takeLineByte (byteIn (askAnswer w))))) (ask-leaves w) ∙ take-fits (byteIn (askAnswer w)) w (x .0) (x .1)
@@ -133,4 +133,4 @@ asks-enough w e h =
     let f : TxFits (w .state) (w .tx) = tx-fits (w .state) (w .rx) (w .tx) e in
     let last : askAnswer (lineWorld asks w) ≡ none =
     until-none asks w e (omega (arith, f .ring .cap, f .ring .within .len, at-most-one (owed (w .state .line)))) in
-    record { answer = last; taken = λ n h. take-done (lineWorld n w) h; same = λ n k. no-more asks n w k (ap isByte last) }
+    record { answer = last; takesDone = λ n h. take-done (lineWorld n w) h; same = λ n k. no-more asks n w k (ap isByte last) }

@@ -12,11 +12,11 @@ use Rattle.state.specs.declared.Outcome.{Outcome}
 use Rattle.answers.specs.declared.Answer.{Answer}
 use Rattle.answers.specs.Answers.{said, faultOf, isByte, byteIn}
 use Rattle.bridge.specs.declared.Told.{Told}
-use Rattle.bridge.specs.Calls.{on, write, lineByte, askLineByte, takeLineByte, loopFrame, World, world, Did, did, told, looked, step}
+use Rattle.bridge.specs.Calls.{on, write, lineByte, askLineByte, takeLineByte, loopFrame, World, world, Did, did, told, looked, step, askAnswer}
 use Rattle.transcript.specs.declared.Set.{Set}
 use Rattle.transcript.specs.Text.{decimal, answerText, bytesText, overwritten, Wrote}
 use Rattle.transcript.specs.Input.{high}
-use Rattle.transcript.specs.Transcript.{setRegisters, bytesIn, framesText, framesWorld, Offers, askAnswer, nextTaken, lineOut}
+use Rattle.transcript.specs.Transcript.{setRegisters, lineBytesIn, framesText, framesWorld, Offers, nextTaken, lineOut}
 use Rattle.transcript.proofs.Writing.{overwritten-then, overwritten-none}
 
 none-left : (n : ℕ) → n ≤ 0 → n ≡ 0
@@ -61,19 +61,19 @@ module _ (x : List ℕ) (rx tx : List ℕ) where
 
 -- ---- line bytes in
 
-take-step : (x : List ℕ) (n i : ℕ) (w : World) → 0 < n → bytesIn n x i w ≡ bytesIn (n - 1) x (i + 1) (step (on (lineByte (getD x i 0))) w .world)
-unfolding bytesIn
-take-step x n i w h = ap (λ (k : ℕ). bytesIn k x i w) (one-left n h)
+line-in-step : (x : List ℕ) (n i : ℕ) (w : World) → 0 < n → lineBytesIn n x i w ≡ lineBytesIn (n - 1) x (i + 1) (step (on (lineByte (getD x i 0))) w .world)
+unfolding lineBytesIn
+line-in-step x n i w h = ap (λ (k : ℕ). lineBytesIn k x i w) (one-left n h)
 
-pub take-again : (x rx rx′ tx : List ℕ) (t : State) (i n : ℕ) (o : Told) {total : World} → 0 < n →
+pub line-in-again : (x rx rx′ tx : List ℕ) (t : State) (i n : ℕ) (o : Told) {total : World} → 0 < n →
     told o rx′ tx ≡ step (on (lineByte (getD x i 0))) (world t rx tx) →
-    bytesIn n x i (world t rx tx) ≡ total → bytesIn (n - 1) x (i + 1) (world (o .outcome .state) rx′ tx) ≡ total
-take-again x rx rx′ tx t i n o h e inv =
-    ap (λ (d : Did). bytesIn (n - 1) x (i + 1) (d .world)) e ∙ sym (take-step x n i (world t rx tx) h) ∙ inv
+    lineBytesIn n x i (world t rx tx) ≡ total → lineBytesIn (n - 1) x (i + 1) (world (o .outcome .state) rx′ tx) ≡ total
+line-in-again x rx rx′ tx t i n o h e inv =
+    ap (λ (d : Did). lineBytesIn (n - 1) x (i + 1) (d .world)) e ∙ sym (line-in-step x n i (world t rx tx) h) ∙ inv
 
-pub take-ends : (x : List ℕ) (w : World) (i n : ℕ) {total : World} → n ≤ 0 → bytesIn n x i w ≡ total → w ≡ total
-unfolding bytesIn
-take-ends x w i n h inv = ap (λ (k : ℕ). bytesIn k x i w) (sym (none-left n h)) ∙ inv
+pub line-in-ends : (x : List ℕ) (w : World) (i n : ℕ) {total : World} → n ≤ 0 → lineBytesIn n x i w ≡ total → w ≡ total
+unfolding lineBytesIn
+line-in-ends x w i n h inv = ap (λ (k : ℕ). lineBytesIn k x i w) (sym (none-left n h)) ∙ inv
 
 -- ---- frames
 

@@ -15,7 +15,7 @@ use Rattle.laws.proofs.Fitting.{keeps-fit, stores-stay}
 use Rattle.transcript.specs.declared.Set.{Set}
 use Rattle.transcript.specs.Input.{high, sectionsOf}
 use Rattle.answers.specs.Answers.{faultOf}
-use Rattle.transcript.specs.Transcript.{setRegisters, bytesIn, framesWorld, store}
+use Rattle.transcript.specs.Transcript.{setRegisters, lineBytesIn, framesWorld, store}
 use Rattle.transcript.specs.UntilNone.{runWorld, UntilNone}
 use Rattle.transcript.proofs.Asks.{asks-enough}
 
@@ -52,10 +52,10 @@ set-right (suc n) x i w r =
     same-stores _ (kept .0) (kept .1) (set-right n x (i + 2) (step c w .world) (step-right c w r)))
     (λ _. r)
 
-take-right : (n : ℕ) (x : List ℕ) (i : ℕ) (w : World) → Right w → Right (bytesIn n x i w)
-unfolding bytesIn
-take-right zero x i w r = r
-take-right (suc n) x i w r = take-right n x (i + 1) (step (on (lineByte (getD x i 0))) w .world) (step-right (on (lineByte (getD x i 0))) w r)
+line-in-right : (n : ℕ) (x : List ℕ) (i : ℕ) (w : World) → Right w → Right (lineBytesIn n x i w)
+unfolding lineBytesIn
+line-in-right zero x i w r = r
+line-in-right (suc n) x i w r = line-in-right n x (i + 1) (step (on (lineByte (getD x i 0))) w .world) (step-right (on (lineByte (getD x i 0))) w r)
 
 frames-right : (n : ℕ) (x : List ℕ) (i : ℕ) (w : World) → Right w → Right (framesWorld n x i w)
 unfolding framesWorld
@@ -63,7 +63,7 @@ frames-right zero x i w r = r
 frames-right (suc n) x i w r = frames-right n x (i + 2) (step (on (loopFrame (high x i))) w .world) (step-right (on (loopFrame (high x i))) w r)
 
 run-right : (x : List ℕ) → Right (runWorld x)
-run-right x = frames-right _ x _ _ (take-right _ x _ _ (set-right (sectionsOf x .regs) x 2 (world (startState 8 64 64) store store) start-right))
+run-right x = frames-right _ x _ _ (line-in-right _ x _ _ (set-right (sectionsOf x .regs) x 2 (world (startState 8 64 64) store store) start-right))
 
 pub asks-until-none : UntilNone
 asks-until-none x = let r : Right (runWorld x) = run-right x in asks-enough (runWorld x) (r .fits) (r .size)

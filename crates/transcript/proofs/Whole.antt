@@ -15,7 +15,7 @@ use Rattle.transcript.specs.declared.Sections.{Sections}
 use Rattle.transcript.specs.declared.Set.{Set}
 use Rattle.transcript.specs.Text.{decimal, newline, firstLine, lineWord, refusedText, bytesText, Wrote, Within}
 use Rattle.transcript.specs.Input.{high, secondAt, thirdAt, endAt, counted, malformed, byCount, endOf, thirdOf, secondOf, sectionsOf, Whole}
-use Rattle.transcript.specs.Transcript.{setRegisters, bytesIn, Offers, lineOut, asks, lineText, restText, setText, runText, store, printed}
+use Rattle.transcript.specs.Transcript.{setRegisters, lineBytesIn, Offers, lineOut, asks, lineText, restText, setText, runText, store, printed}
 use Rattle.transcript.proofs.Writing.{wrote-then}
 
 -- ---- the sections of well-formed input
@@ -60,7 +60,7 @@ last-line {out} {out₁} {out₂} {out₃} {out₄} {to} {k} {j} {i} {r} w n h c
 -- ---- behind the first line
 
 pub rest-lines : {out out₁ out₂ : List ℕ} {to k r : ℕ} (x : List ℕ) (p : Sections) (w : World) (t u : State) (rx tx tx′ : List ℕ) → to + 1100 ≤ length out →
-    world t rx tx ≡ bytesIn (p .bytes) x (4 + 2 * p .regs) w → Offers (p .frames) x (6 + 2 * p .regs + p .bytes) (world t rx tx) out to u tx′ out₁ k →
+    world t rx tx ≡ lineBytesIn (p .bytes) x (4 + 2 * p .regs) w → Offers (p .frames) x (6 + 2 * p .regs + p .bytes) (world t rx tx) out to u tx′ out₁ k →
     Wrote out₁ k (lineText (world u rx tx′)) out₂ r → Wrote out to (restText x p w) out₂ r
 unfolding restText
 rest-lines x p w t u rx tx tx′ h e o l = rw (← e) (wrote-then (omega arith) (o .wrote) (rw (o .world) at l))

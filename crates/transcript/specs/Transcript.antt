@@ -8,7 +8,7 @@ use lib.Dec.{eqb}
 use Rattle.state.specs.declared.State.{State}
 use Rattle.answers.specs.Answers.{Said, faultOf, isByte, byteIn}
 use Rattle.state.specs.Sizes.{startState}
-use Rattle.bridge.specs.Calls.{on, write, lineByte, askLineByte, takeLineByte, loopFrame, World, world, Did, step}
+use Rattle.bridge.specs.Calls.{on, write, lineByte, askLineByte, takeLineByte, loopFrame, World, world, Did, step, askAnswer}
 use Rattle.transcript.specs.declared.Sections.{Sections}
 use Rattle.transcript.specs.declared.Set.{Set}
 use Rattle.transcript.specs.Input.{high, sectionsOf}
@@ -23,9 +23,9 @@ setRegisters (suc n) x i w =
     (record { state = w .state; fault = faultOf (step (on (write (getD x i 0) (getD x (i + 1) 0))) w .said) })
 
 -- the program, then: n line bytes from place i come in
-unfoldable pub bytesIn : ℕ → List ℕ → ℕ → World → World
-bytesIn zero x i w = w
-bytesIn (suc n) x i w = bytesIn n x (i + 1) (step (on (lineByte (getD x i 0))) w .world)
+unfoldable pub lineBytesIn : ℕ → List ℕ → ℕ → World → World
+lineBytesIn zero x i w = w
+lineBytesIn (suc n) x i w = lineBytesIn n x (i + 1) (step (on (lineByte (getD x i 0))) w .world)
 
 -- the program, then: what n frames that are offered from place i print, and the world after them
 unfoldable pub framesText : ℕ → List ℕ → ℕ → World → List ℕ
@@ -42,18 +42,15 @@ pub record Offers (n : ℕ) (x : List ℕ) (i : ℕ) (w : World) (out : List ℕ
   pub wrote : Wrote out at (framesText n x i w) out′ r
   pub short : r ≤ at + 12 * n
 
--- the program, then: what an ask answers, and what a take of the byte that it answers does, with its answer and the world after it
-abbrev pub askAnswer : World → Said
-askAnswer w = step (on askLineByte) w .said
-
-abbrev pub takesNext : World → Did
-takesNext w = step (on (takeLineByte (byteIn (askAnswer w)))) (step (on askLineByte) w .world)
+-- the program, then: what a take of the byte that an ask answers does after it, with its answer and the world that it leaves
+abbrev pub thenTakes : World → Did
+thenTakes w = step (on (takeLineByte (byteIn (askAnswer w)))) (step (on askLineByte) w .world)
 
 abbrev pub takeAnswer : World → Said
-takeAnswer w = takesNext w .said
+takeAnswer w = thenTakes w .said
 
 abbrev pub nextTaken : World → World
-nextTaken w = takesNext w .world
+nextTaken w = thenTakes w .world
 
 -- the line bytes that are asked for and taken until there is none, in n asks at most
 unfoldable pub lineOut : ℕ → World → List ℕ
@@ -68,15 +65,15 @@ unfoldable pub lineText : World → List ℕ
 lineText w = lineWord ++ (decimal (length (lineOut asks w)) ++ (bytesText (lineOut asks w) ++ newline))
 
 -- the world when the line bytes have come in, and when the frames are offered too
-abbrev pub bytesInWorld : List ℕ → Sections → World → World
-bytesInWorld x p w = bytesIn (p .bytes) x (4 + 2 * p .regs) w
+abbrev pub afterLineBytes : List ℕ → Sections → World → World
+afterLineBytes x p w = lineBytesIn (p .bytes) x (4 + 2 * p .regs) w
 
 abbrev pub lastWorld : List ℕ → Sections → World → World
-lastWorld x p w = framesWorld (p .frames) x (6 + 2 * p .regs + p .bytes) (bytesInWorld x p w)
+lastWorld x p w = framesWorld (p .frames) x (6 + 2 * p .regs + p .bytes) (afterLineBytes x p w)
 
 -- what is printed behind the first line when the registers are set
 unfoldable pub restText : List ℕ → Sections → World → List ℕ
-restText x p w = framesText (p .frames) x (6 + 2 * p .regs + p .bytes) (bytesInWorld x p w) ++ lineText (lastWorld x p w)
+restText x p w = framesText (p .frames) x (6 + 2 * p .regs + p .bytes) (afterLineBytes x p w) ++ lineText (lastWorld x p w)
 
 -- the program, registers: where one is refused its number is printed and nothing more
 unfoldable pub setText : List ℕ → Sections → Set → List ℕ → List ℕ → List ℕ

@@ -4,9 +4,9 @@ use mathlib.Core.Path.{_≡_}
 use mathlib.Core.Bool.{true, cond}
 use mathlib.Core.List.{List}
 use Rattle.answers.specs.Answers.{done, none, isByte}
-use Rattle.bridge.specs.Calls.{World, world}
+use Rattle.bridge.specs.Calls.{World, world, askAnswer}
 use Rattle.transcript.specs.Input.{sectionsOf}
-use Rattle.transcript.specs.Transcript.{askAnswer, takeAnswer, nextTaken, lineOut, asks, lastWorld, registersSet, store}
+use Rattle.transcript.specs.Transcript.{takeAnswer, nextTaken, lineOut, asks, lastWorld, registersSet, store}
 
 -- the world after the bytes of `lineOut`
 unfoldable pub lineWorld : ℕ → World → World
@@ -21,7 +21,7 @@ runWorld x = lastWorld x (sectionsOf x) (world (registersSet x (sectionsOf x) st
 pub record Enough (w : World) : Type 0 where
   pub answer : askAnswer (lineWorld asks w) ≡ none
   -- each byte that is printed is taken, and no take is refused
-  pub taken : (n : ℕ) → isByte (askAnswer (lineWorld n w)) ≡ true → takeAnswer (lineWorld n w) ≡ done
+  pub takesDone : (n : ℕ) → isByte (askAnswer (lineWorld n w)) ≡ true → takeAnswer (lineWorld n w) ≡ done
   pub same : (n : ℕ) → asks ≤ n → lineOut n w ≡ lineOut asks w
 
 -- for every input

@@ -44,7 +44,7 @@ fn put_last(s: State, rx: &[u16], tx: &[u8], out: &mut [u8], to: usize) -> usize
     text::put(out, i, 10)
 }
 
-// Takes the line bytes, offers the frames and asks for line bytes.
+// Takes the line bytes in, offers the frames, and asks for line bytes and takes them.
 fn put_rest(
     x: &[u8],
     p: Sections,
@@ -59,7 +59,7 @@ fn put_rest(
     ensures { λ r. ⌜ Wrote (now (out .entry)) to (restText (now (x .entry)) p (world s (now (rx .entry)) (now (tx .entry)))) (now (out .exit)) r ⌝ }
 {
     let first = 4 + 2 * p.regs;
-    let t = passing::bytes_in(s, rx, tx, x, first, p.bytes);
+    let t = passing::line_bytes_in(s, rx, tx, x, first, p.bytes);
     let second = 6 + 2 * p.regs + p.bytes;
     let w = passing::offer_frames(t, rx, tx, x, second, p.frames, out, to);
     put_last(w.state, rx, tx, out, w.at)

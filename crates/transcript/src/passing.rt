@@ -4,7 +4,7 @@ ghost use Prim.Native.Nat.{_+_, _*_, _≤_, _<_};
 ghost use lib.ListN.{length};
 ghost use Rattle.bridge.specs.Calls.{world};
 ghost use Rattle.transcript.specs.Text.{bytesText, Wrote};
-ghost use Rattle.transcript.specs.Transcript.{setRegisters, Offers, bytesIn, lineOut};
+ghost use Rattle.transcript.specs.Transcript.{setRegisters, Offers, lineBytesIn, lineOut};
 use crate::Offered;
 use crate::Set;
 use state::State;
@@ -42,9 +42,9 @@ pub fn set_registers(s: State, rx: &[u16], tx: &[u8], x: &[u8], i: usize, n: usi
 }
 
 // Takes in n line bytes from place i of the input.
-pub fn bytes_in(s: State, rx: &mut [u16], tx: &[u8], x: &[u8], i: usize, n: usize) -> State
+pub fn line_bytes_in(s: State, rx: &mut [u16], tx: &[u8], x: &[u8], i: usize, n: usize) -> State
     requires { ⌜ (i + n ≤ length (now x)) × (i + n < 65536) ⌝ }
-    ensures { λ r. ⌜ world r (now (rx .exit)) (now (tx .entry)) ≡ bytesIn n (now (x .entry)) i (world s (now (rx .entry)) (now (tx .entry))) ⌝ }
+    ensures { λ r. ⌜ world r (now (rx .exit)) (now (tx .entry)) ≡ lineBytesIn n (now (x .entry)) i (world s (now (rx .entry)) (now (tx .entry))) ⌝ }
 {
     let mut t = s;
     let mut at = i;

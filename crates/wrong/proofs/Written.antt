@@ -29,8 +29,8 @@ abbrev pub leaves : OnState → Said → World → Turn
 leaves c a w = tells c a (roomOf c (w .state)) w
 
 -- a line byte comes in, and this is left
-abbrev pub takes : ℕ → World → Turn
-takes b w = leaves (lineByte b) done w
+abbrev pub comesIn : ℕ → World → Turn
+comesIn b w = leaves (lineByte b) done w
 
 -- a bridge does what it does
 abbrev pub does : (Call → World → Did) → Call → World → Turn

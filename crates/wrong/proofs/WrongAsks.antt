@@ -7,7 +7,8 @@ use mathlib.Core.List.{List, [], _∷_, _++_}
 use Rattle.answers.specs.Answers.{done, none, byte}
 use Rattle.state.specs.declared.State.{State}
 use Rattle.bridge.specs.Calls.{lineByte, askLineByte, takeLineByte, Call, on, World}
-use Rattle.state.specs.State.{withRx}
+use Rattle.registers.specs.Writing.{written}
+use Rattle.state.specs.State.{withRegisters, withRx}
 use Rattle.laws.specs.Bridges.{Saw, bridge}
 use Rattle.laws.specs.AsksLeftOut.{withoutAsks, seenWithoutAsks, AsksLeftOut}
 use Rattle.laws.specs.LineBytes.{LineKept}
@@ -21,8 +22,9 @@ use Rattle.wrong.specs.Seeing.{having}
 use Rattle.wrong.specs.SmallWorlds.{misfitting}
 use Rattle.wrong.specs.Trials.{begunWith, oneForTheLine, goneFromLine, stopIsDue}
 use Rattle.wrong.specs.WrongLine.{stuttering, neverRecordsSent}
-use Rattle.wrong.specs.WrongAsks.{askRemoves, countsAnAsk, refusesForNone, takesAnyByte, takesOfNothing, takesHeldWhenDue, takesDataForOwn}
-use Rattle.wrong.specs.WrongAsks.{refusesTheNext, twelveBeforeTwo, refusedTakeRemoves, goesByItsAsk}
+use Rattle.wrong.specs.WrongStores.{wiping}
+use Rattle.wrong.specs.WrongAsks.{askRemoves, countsAnAsk, asksOfMisfit, refusesForNone, takesAnyByte, takesOfNothing, takesHeldWhenDue}
+use Rattle.wrong.specs.WrongAsks.{takesDataForOwn, refusesTheNext, twelveBeforeTwo, refusedTakeRemoves, takeBeginsNone, goesByItsAsk}
 use Rattle.wrong.specs.Broken.{Breaks, BreaksAs}
 use Rattle.wrong.proofs.Computing.{computes}
 use Rattle.wrong.proofs.Written.{Turn, Does, leaves}
@@ -70,6 +72,11 @@ counts-an-ask-asked-again law =
 pub refuses-for-none-falls : Breaks refusesForNone NextAsked
 unfolding computes
 refuses-for-none-falls law = answers-differ _ _ refl (rw (holds (begunWith 65) 1 0 refl) at (law (on askLineByte) (goneFromLine 65) tt refl .fit refl))
+
+-- an ask says none, where it should be refused
+pub asks-of-misfit-falls : Breaks asksOfMisfit NextAsked
+unfolding computes
+asks-of-misfit-falls law = answers-differ _ _ refl (law (on askLineByte) misfitting tt refl .misfit false≢true)
 
 -- "A" is neither handed out nor held
 pub ask-removes-loses : Breaks askRemoves LineKept
@@ -194,6 +201,21 @@ ask-removes-then-refuses law =
     answers-differ _ _ refl
     (in-between askRemoves TakesAsAsked (oneForTheLine 65) removesA [] (on (takeLineByte 65)) ask-removes-runs refl law 65 refl refl refl .same refl)
 
+-- "B" is refused, and "A" is gone
+pub refused-take-removes-asked : Breaks refusedTakeRemoves TakesAsAsked
+unfolding computes
+refused-take-removes-asked law =
+    numbers-differ _ _ refl
+    (rw (holds (begunWith 65) 0 1 refl) at (ap heldBytes
+    (in-between refusedTakeRemoves TakesAsAsked (oneForTheLine 65) saysA [] (on (takeLineByte 66))
+    (rw (holds (begunWith 65) 0 1 refl), tt) refl law 66 refl refl refl
+    .stays a-not-b)))
+
+-- the ask is refused with 2, and the take with 12
+pub twelve-before-two-asked : Breaks twelveBeforeTwo TakesAsAsked
+unfolding computes
+twelve-before-two-asked law = answers-differ _ _ refl (law (on askLineByte) [] (on (takeLineByte 0)) misfitting tt tt tt 0 refl refl refl .alike refl)
+
 -- ---- an ask and its take are what giving was
 
 -- "A" is still held
@@ -238,6 +260,36 @@ pub never-records-sent-falls-taken : Breaks neverRecordsSent GoneAsGiven
 unfolding computes
 never-records-sent-falls-taken law =
     false≢true (ap (λ (s : State). s .line .stopped) (law (on (takeLineByte 19)) (stopIsDue (oneForTheLine 65)) tt 19 refl refl .state))
+
+-- "B" is taken, and "A" was next
+pub takes-any-byte-not-given : Breaks takesAnyByte GoneAsGiven
+unfolding computes
+takes-any-byte-not-given law = not-b (law (on (takeLineByte 66)) (oneForTheLine 65) tt 66 refl taken-b .next)
+  where
+    taken-b : takesAnyByte (on (takeLineByte 66)) (oneForTheLine 65) .said ≡ done
+    taken-b = rw (holds (begunWith 65) 0 1 refl)
+
+-- the place of "A" is written
+pub wiping-falls-taken : Breaks wiping GoneAsGiven
+unfolding computes
+wiping-falls-taken law =
+    lists-differ _ _ refl (rw (holds (begunWith 65) 0 1 refl) at (law (on (takeLineByte 65)) (oneForTheLine 65) tt 65 refl taken-a .tx))
+  where
+    taken-a : wiping (on (takeLineByte 65)) (oneForTheLine 65) .said ≡ done
+    taken-a = rw (holds (begunWith 65) 0 1 refl)
+
+-- the store comes to be empty, which is enabled, and no request begins
+pub take-begins-none-falls : Breaks takeBeginsNone GoneAsGiven
+unfolding computes
+take-begins-none-falls law =
+    false≢true (rw (holds (begunWith 65) 0 1 refl, no-round 3 1 refl, holds (begunWith 65) 1 0 refl) at
+    (ap (λ (s : State). s .notes .request) (law (on (takeLineByte 65)) enabled tt 65 refl taken-a .state)))
+  where
+    enabled : World
+    enabled = having (λ s. withRegisters s (written (s .regs) 1 1)) (oneForTheLine 65)
+
+    taken-a : takeBeginsNone (on (takeLineByte 65)) enabled .said ≡ done
+    taken-a = rw (holds (begunWith 65) 0 1 refl)
 
 -- ---- asks in between change nothing
 

@@ -16,7 +16,7 @@ use Rattle.wrong.specs.Trials.{fullOf, oneToFour, cameIn, talkerCameIn, 
 use Rattle.wrong.specs.WrongHolding.{beginsLate, endsAtMargin}
 use Rattle.wrong.specs.Broken.{Breaks}
 use Rattle.wrong.proofs.Computing.{computes}
-use Rattle.wrong.proofs.Written.{Turn, takes, does, Does, leaves}
+use Rattle.wrong.proofs.Written.{Turn, comesIn, does, Does, leaves}
 use Rattle.wrong.proofs.Trying.{in-run}
 
 -- ---- when holding off begins and ends
@@ -38,8 +38,8 @@ ends-at-margin-falls law =
 -- the fourth byte begins holding off, and the fifth is lost
 fiveCome : List Turn
 fiveCome =
-    takes 51 (cameIn 3 false false)
-    ∷ takes 52 (cameIn 4 true false)
+    comesIn 51 (cameIn 3 false false)
+    ∷ comesIn 52 (cameIn 4 true false)
     ∷ does beginsLate (on (lineByte 53)) (cameIn 4 true false)
     ∷ []
 
@@ -53,10 +53,10 @@ begins-late-loses law =
 -- one byte arrives in the first spell; a send ends it with one free; the next byte begins the second, and one more is lost
 twoSpells : List Turn
 twoSpells =
-    takes 51 (talkerCameIn 3 true)
-    ∷ takes 52 (talkerCameIn 4 true)
+    comesIn 51 (talkerCameIn 3 true)
+    ∷ comesIn 52 (talkerCameIn 4 true)
     ∷ leaves (loopFrame sendData) (frame 0 49) (oneGone 4 3 false)
-    ∷ takes 49 (oneGone 5 4 true)
+    ∷ comesIn 49 (oneGone 5 4 true)
     ∷ does endsAtMargin (on (lineByte 50)) (oneGone 5 4 true)
     ∷ []
 

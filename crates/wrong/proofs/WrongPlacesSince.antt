@@ -18,7 +18,7 @@ use Rattle.wrong.specs.Trials.{oneToFour, cameIn, talkerCameIn, oneGone,
 use Rattle.wrong.specs.WrongStores.{roundLate, roundMasked, roundToSecond, comparesOnce, oldestLate, readsAcross, clearsInPlace, wiping}
 use Rattle.wrong.specs.Broken.{Breaks}
 use Rattle.wrong.proofs.Computing.{computes}
-use Rattle.wrong.proofs.Written.{Turn, takes, Does, leaves}
+use Rattle.wrong.proofs.Written.{Turn, comesIn, Does, leaves}
 use Rattle.wrong.proofs.Trying.{in-since}
 
 -- ---- the receive store
@@ -29,12 +29,12 @@ cleared = leaves (loopFrame clearAll) (frame 4 20) (talkerCameIn 0 false)
 
 fifthCame : List Turn
 fifthCame =
-    takes 49 (talkerCameIn 1 false)
-    ∷ takes 50 (talkerCameIn 2 false)
-    ∷ takes 51 (talkerCameIn 3 true)
-    ∷ takes 52 (talkerCameIn 4 true)
+    comesIn 49 (talkerCameIn 1 false)
+    ∷ comesIn 50 (talkerCameIn 2 false)
+    ∷ comesIn 51 (talkerCameIn 3 true)
+    ∷ comesIn 52 (talkerCameIn 4 true)
     ∷ leaves (loopFrame sendData) (frame 0 49) (oneGone 4 3 true)
-    ∷ takes 53 (oneGone 5 4 true)
+    ∷ comesIn 53 (oneGone 5 4 true)
     ∷ []
 
 round-late-runs : Does roundLate (talkerCameIn 0 false) (cleared ∷ fifthCame)
@@ -52,7 +52,7 @@ abbrev clearedInPlace : Turn
 clearedInPlace = leaves (loopFrame clearAll) (frame 4 20) (having (λ s. withRx s (ring 4 2 0)) (cameIn 2 false false))
 
 oneMore : List Turn
-oneMore = takes 60 (world (withRx (cameIn 3 false false .state) (ring 4 2 1)) (49 ∷ 50 ∷ 60 ∷ 52 ∷ []) (0 ∷ 0 ∷ 0 ∷ [])) ∷ []
+oneMore = comesIn 60 (world (withRx (cameIn 3 false false .state) (ring 4 2 1)) (49 ∷ 50 ∷ 60 ∷ 52 ∷ []) (0 ∷ 0 ∷ 0 ∷ [])) ∷ []
 
 clears-in-place-runs : Does clearsInPlace (cameIn 2 false false) (clearedInPlace ∷ oneMore)
 unfolding computes oneMore

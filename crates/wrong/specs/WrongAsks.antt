@@ -2,19 +2,17 @@
 use Prim.Native.Nat.{ℕ}
 use mathlib.Core.Bool.{Bool, true, false, cond, _&&_, not}
 use lib.Dec.{eqb}
-use Rattle.answers.specs.Answers.{Said, done, refused, isByte, byteIn}
-use Rattle.bridge.specs.Calls.{askLineByte, takeLineByte, Call, on, World, Did, misfit, step}
+use Rattle.answers.specs.Answers.{Said, done, none, refused, isByte, byteIn}
+use Rattle.state.specs.Conditions.{withRequest}
+use Rattle.bridge.specs.Calls.{askLineByte, takeLineByte, Call, on, World, Did, misfit, step, askAnswer}
 use Rattle.laws.specs.Bridges.{Machine, ByteCall}
-use Rattle.laws.specs.Observers.{taken, onOne, isAsk, onTake, owes, ownCharacter}
+use Rattle.laws.specs.Observers.{taken, onOne, asksLineByte, onTake, owes, ownCharacter}
 use Rattle.wrong.specs.Changing.{leaving}
 use Rattle.wrong.specs.Seeing.{afterSight, insteadAt, only, inState, withStopped, asIfNoneOwed}
 
 -- ---- asks
 
--- the answer to an ask, and what a take of it does
-abbrev pub askAnswer : World → Said
-askAnswer w = step (on askLineByte) w .said
-
+-- what a take of the answer to an ask does
 abbrev pub takesAsked : World → Did
 takesAsked w = step (on (takeLineByte (byteIn (askAnswer w)))) w
 
@@ -24,11 +22,15 @@ askRemoves = leaving (λ c w v. onOne askLineByte (takesAsked w .world) v c)
 
 -- counts an ask as handed out: its own go or stop is recorded as sent when it is asked for
 abbrev pub countsAnAsk : Call → World → Did
-countsAnAsk = afterSight (λ c w a. isAsk c) (λ before after. withStopped after (before .line .holding))
+countsAnAsk = afterSight (λ c w a. asksLineByte c) (λ before after. withStopped after (before .line .holding))
+
+-- answers an ask by none where the state does not fit
+abbrev pub asksOfMisfit : Call → World → Did
+asksOfMisfit = insteadAt (λ c w a. asksLineByte c && misfit w .given) (λ c w. only none w)
 
 -- refuses an ask where nothing is next
 abbrev pub refusesForNone : Call → World → Did
-refusesForNone = insteadAt (λ c w a. isAsk c && (taken a && not (isByte a))) (λ c w. only (refused 12) w)
+refusesForNone = insteadAt (λ c w a. asksLineByte c && (taken a && not (isByte a))) (λ c w. only (refused 12) w)
 
 -- ---- takes
 
@@ -62,6 +64,10 @@ twelveBeforeTwo = insteadAt (λ c w a. onTake (λ b. misfit w .given) false c) (
 abbrev pub refusedTakeRemoves : Call → World → Did
 refusedTakeRemoves = insteadAt (λ c w a. onTake (λ b. not (taken a)) false c) (λ c w. only (step c w .said) (takesAsked w .world))
 
+-- a take begins no request
+abbrev pub takeBeginsNone : Call → World → Did
+takeBeginsNone = afterSight (λ c w a. onTake (λ b. true) false c) (λ before after. withRequest after (before .notes .request))
+
 -- ---- it keeps more than a world: its answer to the last ask
 
 pub record Remembered : Type 0 where
@@ -82,7 +88,7 @@ goesByItsAsk =
       Own = Remembered;
       stands = λ o. o .world;
       answer = λ c o. takesWhatItSaid c o .said;
-      after = λ c o. record { world = takesWhatItSaid c o .world; saidLast = cond (isAsk c) (askAnswer (o .world)) (o .saidLast) };
+      after = λ c o. record { world = takesWhatItSaid c o .world; saidLast = cond (asksLineByte c) (askAnswer (o .world)) (o .saidLast) };
       Fine = λ o. Unit {0};
       Fair = ByteCall;
     }

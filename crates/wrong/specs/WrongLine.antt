@@ -14,7 +14,7 @@ use Rattle.laws.specs.Holding.{writesR11}
 use Rattle.wrong.specs.Seeing.{Sight, afterSight, insteadAt, always, having, inState, withForbidden, withStopped, asIfNoneOwed}
 use Rattle.wrong.specs.Changing.{answering}
 
--- a line byte is taken and it still holds it
+-- still holds a line byte that is taken
 abbrev pub stuttering : Call → World → Did
 stuttering = afterSight (λ c w a. onTake (λ b. true) false c) (λ before after. withTx after (before .tx))
 
@@ -49,7 +49,7 @@ ofNext c = onOne askLineByte true (onTake (λ b. true) false c) c
 abbrev pub owesOwn : Sight
 owesOwn c w a = ofNext c && owes (w .state .line .stopped) w
 
--- the same slip in another way: knows that it owes go or stop, and says none while the protocol is off
+-- the slip of `switchOffDropsGo` in another way: knows that it owes go or stop, and says none while the protocol is off
 abbrev pub withholdsGoWhenOff : Call → World → Did
 withholdsGoWhenOff = answering (λ c w a. onOne askLineByte (cond (not (protocol w) && owes (w .state .line .stopped) w) none a) a c)
 

@@ -86,7 +86,7 @@ pub fn data_frame(answer: u64) -> Option<u32> {
     (frame < 4 << 8).then_some(frame as u32)
 }
 
-/// The answer of a call that has nothing to hand out and tells no room.
+/// The answer of a call that answers no more than done and tells no room.
 pub const DONE: u64 = 0;
 
 /// Whether an answer is a byte for the line or the bus.

@@ -7,7 +7,7 @@
 
 use crate::{block, Answer, Bridge, Ring, WithRoom};
 
-/// Kind: done, and nothing to hand out.
+/// Kind: done, and no more is answered.
 pub const DONE: u64 = 0;
 /// Kind: no line byte is next.
 pub const NONE: u64 = 1;

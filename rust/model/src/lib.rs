@@ -22,7 +22,7 @@ use reading::{cell, marked, reading, Reading};
 /// What a call answers.
 #[derive(Clone, Copy, Debug, PartialEq, Eq)]
 pub enum Answer {
-    /// Done, and nothing to hand out.
+    /// Done, and no more is answered.
     Done,
     /// No line byte is next.
     NoByte,
@@ -34,8 +34,8 @@ pub enum Answer {
     Refused(u8),
 }
 
-/// What a call answers that tells how much room is left: the taking of a line byte that of the
-/// receive store, the taking of a loop frame that of the transmit store, whether or not a byte was
+/// What a call answers that tells how much room is left: a byte that comes in from the line tells
+/// that of the receive store, a loop frame that of the transmit store, whether or not a byte was
 /// stored.
 #[derive(Clone, Copy, Debug, PartialEq, Eq)]
 pub struct WithRoom {

@@ -24,7 +24,7 @@ use crate::{BusByte, BusLines, Frame, MailByte, Refusal};
 #[derive(Clone, Copy, Debug, PartialEq, Eq, Hash)]
 #[non_exhaustive]
 pub enum Answer {
-    /// The call is done and has nothing to hand out.
+    /// The call is done, and answers no more.
     Done,
     /// No line byte is next.
     None,

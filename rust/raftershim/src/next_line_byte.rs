@@ -9,6 +9,8 @@ use crate::{Bridge, Refusal};
 ///
 /// Send [`byte`](NextLineByte::byte) to the line, and [`take`](NextLineByte::take) it when the port
 /// has it. If the port fails, drop this: nothing has changed, and the next ask says the byte again.
+/// If nobody knows whether the byte went out, dropping this sends it twice at worst, and taking it
+/// may lose it.
 ///
 /// ```
 /// use raftershim::{Address, Bridge, Frame, Stores};
@@ -54,8 +56,9 @@ use crate::{Bridge, Refusal};
 ///
 /// Another call could make a stop due, or throw away what is held. The byte would then be on the
 /// line, and its take refused: it would go out twice, or no go would ever follow a stop, and the
-/// meter would stay silent for good. So this borrows the bridge until it is taken or dropped, and
-/// no other call compiles before that. Here a break comes after the take:
+/// meter would stay silent for good. So this borrows the bridge for as long as it can still be
+/// taken, and no other call compiles between an ask and its take. Send the byte of this very ask: a
+/// byte that was kept from an earlier one may no longer be next. Here a break comes after the take:
 ///
 /// ```
 /// # use raftershim::{Bridge, Refusal};
@@ -77,6 +80,20 @@ use crate::{Bridge, Refusal};
 /// if let Some(next) = bridge.ask_line_byte()? {
 ///     port.push(next.byte());
 ///     bridge.line_break()?;
+///     next.take()?;
+/// }
+/// # Ok(())
+/// # }
+/// ```
+///
+/// Nor does a second take:
+///
+/// ```compile_fail,E0382
+/// # use raftershim::{Bridge, Refusal};
+/// # fn turn(bridge: &mut Bridge<[u16; 4], [u8; 3]>, port: &mut Vec<u8>) -> Result<(), Refusal> {
+/// if let Some(next) = bridge.ask_line_byte()? {
+///     port.push(next.byte());
+///     next.take()?;
 ///     next.take()?;
 /// }
 /// # Ok(())

@@ -34,5 +34,5 @@ put-rest-spec =
     (λ c. search needs)
     (λ c.
     let p = c .before .before .before .before .before .before .before .before .before .before .before .before .before .before .before .before .before .before in
-    rest-lines _ _ _ _ _ _ _ _ (p .before .before .before .before .before .before .before .before .pre .1) (p .bytes-in .ensures)
+    rest-lines _ _ _ _ _ _ _ _ (p .before .before .before .before .before .before .before .before .pre .1) (p .line-bytes-in .ensures)
     (c .before .before .before .before .before .before .before .before .before .before .offer-frames .ensures) (c .before .before .put-last .ensures)))

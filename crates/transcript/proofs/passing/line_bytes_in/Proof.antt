@@ -4,14 +4,14 @@ use native.Mathlib.Omega.{arith}
 use mathlib.Core.Path.{_≡_, refl}
 use lib.ListN.{length}
 use Rattle.bridge.specs.Calls.{world}
-use Rattle.transcript.specs.Transcript.{bytesIn}
-use Rattle.transcript.proofs.Turns.{take-again, take-ends}
-use Rattle.transcript.proofs.passing.bytes_in.Statement.{statement}
-use Rattle.transcript.proofs.passing.bytes_in.Tie as tie
+use Rattle.transcript.specs.Transcript.{lineBytesIn}
+use Rattle.transcript.proofs.Turns.{line-in-again, line-in-ends}
+use Rattle.transcript.proofs.passing.line_bytes_in.Statement.{statement}
+use Rattle.transcript.proofs.passing.line_bytes_in.Tie as tie
 
 abbrev Inv-loop : tie.InvT-loop
 Inv-loop rx₀ tx x i n t₀ at₀ left₀ rx t at left =
-    (bytesIn left x at (world t rx tx) ≡ bytesIn n x i (world t₀ rx₀ tx)) × (((at + left ≤ length x) × (at + left < 65536)) × (length rx ≡ length rx₀))
+    (lineBytesIn left x at (world t rx tx) ≡ lineBytesIn n x i (world t₀ rx₀ tx)) × (((at + left ≤ length x) × (at + left < 65536)) × (length rx ≡ length rx₀))
 
 abbrev μ-loop : tie.MeasureT-loop
 μ-loop rx₀ tx x i n t₀ at₀ left₀ rx t at left = left
@@ -37,7 +37,7 @@ loop-less c = omega arith
 
 loop-again : tie.Need-loop-again Inv-loop μ-loop
 loop-again c = (
-  take-again _ _ _ _ _ _ _ _ (c .before .before .before .before .before .before .loop-test .taken) (c .before .before .before .line-byte .ensures)
+  line-in-again _ _ _ _ _ _ _ _ (c .before .before .before .before .before .before .loop-test .taken) (c .before .before .before .line-byte .ensures)
       (c .before .before .before .before .before .before .before .loop .inv .0),
   ((omega arith, omega arith), search needs),
 )
@@ -46,10 +46,10 @@ same-length : tie.Need-same-length Inv-loop μ-loop
 same-length c = c .before .loop .inv .1 .1
 
 returns : tie.Need-returns Inv-loop μ-loop
-returns c = take-ends _ _ _ _ (c .loop-test .left) (c .before .loop .inv .0)
+returns c = line-in-ends _ _ _ _ (c .loop-test .left) (c .before .loop .inv .0)
 
-pub bytes-in-spec : {M : Type 1} → statement M
-bytes-in-spec =
+pub line-bytes-in-spec : {M : Type 1} → statement M
+line-bytes-in-spec =
     tie.close
     (tie.spec
     Inv-loop
