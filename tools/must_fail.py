@@ -9,7 +9,8 @@ An edit has the form of those in crates/NAME/must-fail, which rt ci tries from n
 each edit then checks again only what rests on the line it changes, so that an edit takes seconds.
 The log of an edit is target/must-fail/NAME/LABEL/.log, where tools/must_fail_logs.py reads it, and beside it what text it is of.
 With --write, and if every edit that was tried is refused with a log that shows a fact, the file of what was seen refused is written;
-tools/seen.py says what stands in it. The share that is tried though an entry holds is chosen by the hash of the tree.
+tools/seen.py says what stands in it. The share that is tried though an entry holds is chosen by the hash of the tree: a twelfth of what this
+toolchain refused, and a sixth of what only another one did.
 """
 import glob
 import os
@@ -29,6 +30,7 @@ ROOT = os.getcwd()
 WORK = os.path.join(ROOT, "target", "edits")
 JOBS = min(os.cpu_count() or 1, 4)
 SHARES = 12
+SHARES_ELSEWHERE = 6
 
 
 def replaced(text, old, new):
@@ -158,22 +160,25 @@ def tree_hash():
     return int(asked.strip() or b"0", 16)
 
 
-def share(edits, tree):
-    """The share of the edits that a hash chooses, never none: neighbours, so that few crates are checked in full for it."""
-    keys, shares = sorted(edits), min(SHARES, max(len(edits), 1))
+def share(edits, tree, shares):
+    """One of so many shares of the edits, which a hash chooses, never none: neighbours, so that few crates are checked in full for it."""
+    keys, shares = sorted(edits), min(shares, max(len(edits), 1))
     number = tree % shares
     return set(keys[number * len(keys) // shares : (number + 1) * len(keys) // shares])
 
 
-def chosen(edits, held, words):
-    """The edits to try: what the words name, all, or those that no entry holds of and a share of the others."""
+def chosen(edits, held, others, words):
+    """The edits to try: what the words name, all, or those that no entry holds of and shares of the rest, by which toolchain refused them."""
     names = [word for word in words if not word.startswith("--")]
     for name in names:
         if not any(name in (crate, f"{crate}/{label}") for crate, label in edits):
             sys.exit(f"no crate with edits and no edit: {name}")
     if names:
         return {key for key in edits if key[0] in names or "/".join(key) in names}
-    return set(edits) if "--all" in words else (edits.keys() - held) | share(edits, tree_hash())
+    if "--all" in words:
+        return set(edits)
+    tree = tree_hash()
+    return (edits.keys() - held) | share(held - others, tree, SHARES) | share(others, tree, SHARES_ELSEWHERE)
 
 
 def write_seen(entries, held, edits, texts):
@@ -184,7 +189,7 @@ def write_seen(entries, held, edits, texts):
         text = must_fail_logs.log_of(crate, label)
         faults += must_fail_logs.shows_nothing(f"{crate}/{label}", text)
         broken = must_fail_logs.broken(crate, text) & must_fail_logs.public_functions(crate)
-        kept[crate, label] = (texts.rests(crate), seen.of_file(edits[crate, label]), broken)
+        kept[crate, label] = (texts.rests(crate), seen.of_file(edits[crate, label]), texts.toolchain, broken)
     if not faults:
         seen.write(kept)
     return faults
@@ -212,14 +217,16 @@ def main():
     entries, right = seen.read()
     faults = wrong_entries(entries, right, edits) if "--write" not in sys.argv else []
     held = seen.holding(entries, edits, texts)
-    tried = {key: edits[key] for key in chosen(edits, held, sys.argv[1:])}
+    others = seen.elsewhere(entries, held, texts)
+    tried = {key: edits[key] for key in chosen(edits, held, others, sys.argv[1:])}
     refused = try_all(tried, texts)
     bad = len(tried) - len(refused)
     faults += same_labels(edits)
     if "--write" in sys.argv and not bad:
         faults += write_seen(entries, held, tried, texts)
     print("".join(f"{fault}\n" for fault in faults), end="")
-    print(f"{len(tried)} edits tried, {len(refused)} refused, {bad} not; {len(held - tried.keys())} stand by {seen.PATH}; {time.monotonic() - began:.0f} s")
+    stand = f"{len(held - tried.keys())} stand by {seen.PATH}, {len(others - tried.keys())} of them by another toolchain"
+    print(f"{len(tried)} edits tried, {len(refused)} refused, {bad} not; {stand}; {time.monotonic() - began:.0f} s")
     return 1 if bad or faults else 0
 
 

@@ -110,7 +110,7 @@ def judged():
                 print(f"{edit}: {first_error(text)[:300]}")
         elif entry[:2] == (texts.rests(crate), seen.of_file(edit)):
             stand += 1
-            breaks[edit] = set(entry[2])
+            breaks[edit] = set(entry[3])
         else:
             bad.append(f"{edit}: neither a log of this text nor an entry in {seen.PATH}")
     return breaks, bad, stand

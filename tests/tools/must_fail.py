@@ -81,10 +81,24 @@ def standing(room):
             raise Missed(f"after a change of {change[0]} not {' or '.join(said)}:\n{printed}")
         room.write(change[0], kept)
         room.count += 1
-    room.passes(TRY, "6 edits tried", **STUB, STUB_VERSION="of another toolchain")
-    shares = "import must_fail; e = {('c', str(n)): '' for n in range(50)}; s = [must_fail.share(e, n) for n in range(must_fail.SHARES)]"
-    test = f"import sys; sys.path.insert(0, 'tools'); {shares}; sys.exit(set().union(*s) != set(e) or max(map(len, s)) > 5)"
-    room.passes(["python3", "-c", test])
+    toolchains(room)
+
+
+def toolchains(room):
+    """Entries of another toolchain: they hold of the text, a larger share of them is tried, and one that is tried is of the toolchain that did."""
+    kept, other = room.text(SEEN), {**STUB, "STUB_VERSION": "of another toolchain"}
+    room.passes(TRY, "5 stand by tools/seen-refused.txt, 0 of them by another toolchain", **STUB)
+    room.passes(TRY, "1 edits tried, 1 refused, 0 not; 5 stand by tools/seen-refused.txt, 5 of them by another toolchain", **other)
+    room.passes(TRY + ["high", "--write"], "3 stand by tools/seen-refused.txt, 3 of them by another toolchain", **other)
+    room.passes(TRY + ["high"], "3 stand by tools/seen-refused.txt, 0 of them by another toolchain", **STUB)
+    room.passes(TRY + ["low"], "3 stand by tools/seen-refused.txt, 3 of them by another toolchain", **STUB)
+    room.write(SEEN, kept)
+    edits = "import sys; sys.path.insert(0, 'tools'); import must_fail; e = {('c', str(n)): '' for n in range(48)}"
+    for tests in (
+        "s = [must_fail.share(e, n, 12) for n in range(12)]; sys.exit(set().union(*s) != set(e) or max(map(len, s)) > 4)",
+        "must_fail.tree_hash = lambda: 7; n = [len(must_fail.chosen(e, set(e), o, [])) for o in (set(), set(e))]; sys.exit(n != [4, 8])",
+    ):
+        room.passes(["python3", "-c", f"{edits}; {tests}"])
 
 
 def entries(room):
