@@ -20,11 +20,12 @@ use Rattle.refuting.proofs.StandsIn.{holds, no-round}
 use Rattle.refuting.specs.SmallRings.{ring}
 use Rattle.wrong.specs.Seeing.{having}
 use Rattle.wrong.specs.SmallWorlds.{misfitting}
-use Rattle.wrong.specs.Trials.{begunWith, oneForTheLine, goneFromLine, stopIsDue}
+use Rattle.wrong.specs.Trials.{oneToFour, begunWith, oneForTheLine, goneFromLine, stopIsDue}
 use Rattle.wrong.specs.WrongLine.{stuttering, neverRecordsSent}
 use Rattle.wrong.specs.WrongStores.{wiping}
 use Rattle.wrong.specs.WrongAsks.{askRemoves, countsAnAsk, asksOfMisfit, refusesForNone, takesAnyByte, takesOfNothing, takesHeldWhenDue}
-use Rattle.wrong.specs.WrongAsks.{takesDataForOwn, refusesTheNext, twelveBeforeTwo, refusedTakeRemoves, takeBeginsNone, goesByItsAsk}
+use Rattle.wrong.specs.WrongAsks.{takesDataForOwn, refusesTheNext, twelveBeforeTwo, refusedTakeRemoves, takeBeginsNone, takeBreaks}
+use Rattle.wrong.specs.WrongAsks.{goesByItsAsk}
 use Rattle.wrong.specs.Broken.{Breaks, BreaksAs}
 use Rattle.wrong.proofs.Computing.{computes}
 use Rattle.wrong.proofs.Written.{Turn, Does, leaves}
@@ -277,6 +278,12 @@ wiping-falls-taken law =
   where
     taken-a : wiping (on (takeLineByte 65)) (oneForTheLine 65) .said ≡ done
     taken-a = rw (holds (begunWith 65) 0 1 refl)
+
+-- stop is taken, and the newest byte from the line is marked
+pub take-breaks-falls : Breaks takeBreaks GoneAsGiven
+unfolding computes
+take-breaks-falls law =
+    lists-differ _ _ refl (rw (holds oneToFour 0 3 refl, no-round 4 2 refl) at (law (on (takeLineByte 19)) (stopIsDue (oneForTheLine 65)) tt 19 refl refl .rx))
 
 -- the store comes to be empty, which is enabled, and no request begins
 pub take-begins-none-falls : Breaks takeBeginsNone GoneAsGiven

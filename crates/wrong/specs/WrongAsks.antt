@@ -4,7 +4,8 @@ use mathlib.Core.Bool.{Bool, true, false, cond, _&&_, not}
 use lib.Dec.{eqb}
 use Rattle.answers.specs.Answers.{Said, done, none, refused, isByte, byteIn}
 use Rattle.state.specs.Conditions.{withRequest}
-use Rattle.bridge.specs.Calls.{askLineByte, takeLineByte, Call, on, World, Did, misfit, step, askAnswer}
+use Rattle.line.specs.Breaks.{breakCells}
+use Rattle.bridge.specs.Calls.{askLineByte, takeLineByte, Call, on, World, world, Did, misfit, step, askAnswer}
 use Rattle.laws.specs.Bridges.{Machine, ByteCall}
 use Rattle.laws.specs.Observers.{taken, onOne, asksLineByte, onTake, owes, ownCharacter}
 use Rattle.wrong.specs.Changing.{leaving}
@@ -67,6 +68,10 @@ refusedTakeRemoves = insteadAt (λ c w a. onTake (λ b. not (taken a)) false c) 
 -- a take begins no request
 abbrev pub takeBeginsNone : Call → World → Did
 takeBeginsNone = afterSight (λ c w a. onTake (λ b. true) false c) (λ before after. withRequest after (before .notes .request))
+
+-- a take marks the newest byte from the line, as a break does
+abbrev pub takeBreaks : Call → World → Did
+takeBreaks = leaving (λ c w v. world (v .state) (onTake (λ b. breakCells (w .state) (w .rx)) (v .rx) c) (v .tx))
 
 -- ---- it keeps more than a world: its answer to the last ask
 
