@@ -25,7 +25,7 @@ const OUT: [Call; 3] = [Ask, Take(17), Take(19)];
 
 /// A limit where all states are too many for every day.
 fn nearest() -> usize {
-    first_states(600_000, 20_000_000)
+    first_states(720_000, 24_000_000)
 }
 
 /// Goes through every order of these calls and all returns, the archive beside the model.

@@ -13,7 +13,7 @@ use Call::{Break, Line, Register, Reset, ShowReceive, Take};
 
 /// A limit where all states are too many for every day.
 fn nearest() -> usize {
-    first_states(400_000, 20_000_000)
+    first_states(440_000, 22_000_000)
 }
 
 /// Goes through them with these two, a correct return and a damaged one.

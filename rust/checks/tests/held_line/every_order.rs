@@ -13,7 +13,7 @@ use Call::{Ask, Break, Line, Register, Reset, Take};
 
 /// A limit where all states are too many for every day.
 fn nearest() -> usize {
-    first_states(800_000, 20_000_000)
+    first_states(880_000, 22_000_000)
 }
 
 /// Goes through them with these two, a correct return and a damaged one.
