@@ -1,11 +1,13 @@
-// What a call answers, what an answer tells, and its number.
+//! What a call answers, what an answer tells, and its number.
+#![tactic(auto)]
+
 ghost use Rattle.std.specs.Prelude.{◌≡◌, ◌<◌};
 ghost use Rattle.answers.specs.Answers.{isRefusal, faultOf, is_byte, byteIn, said};
 ghost use Rattle.answers.specs.Word.{word, word_with};
 
 // A call answers no more than done, says that no byte is next, says a line byte, gives a frame, is refused, or, on the bus of a mailbox, gives a
 // cell or the lines.
-#[derive(Drop)]
+#[derive(Clone, Copy)]
 pub enum Answer {
     Done,
     Nothing,

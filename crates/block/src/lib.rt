@@ -1,4 +1,6 @@
-// The packed state block: every field of a state at a fixed place of a lent block of bytes, low byte first.
+//! The packed state block: every field of a state at a fixed place of a lent block of bytes, low byte first.
+#![tactic(auto)]
+
 ghost use Rattle.std.specs.Prelude.{◌≡◌, length};
 ghost use Rattle.block.specs.Packed.{block_len, packed};
 ghost use Rattle.block.specs.States.{no_state, meaning};

@@ -1,4 +1,6 @@
-// What the C functions of every product share.
+//! What the C functions of every product share.
+#![tactic(auto)]
+
 ghost use Rattle.std.specs.Prelude.{◌≡◌, ◌<◌};
 ghost use Rattle.boundary.specs.CCalls.{place_word};
 

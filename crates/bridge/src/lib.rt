@@ -1,5 +1,7 @@
-// The bridge: a software HP-IL/RS-232 interface. The state goes in by value and comes back; both stores are lent at every call, the
-// receive store as cells, each a byte and the mark of a break that follows it.
+//! The bridge: a software HP-IL/RS-232 interface. The state goes in by value and comes back; both stores are lent at every call, the
+//! receive store as cells, each a byte and the mark of a break that follows it.
+#![tactic(auto)]
+
 ghost use Rattle.std.specs.Prelude.{◌≡◌};
 ghost use Rattle.answers.specs.Answers.{said};
 ghost use Rattle.state.specs.Conditions.{settled_outcome};
@@ -11,7 +13,7 @@ use answers::Answer;
 use state::{Outcome, State};
 
 // What a call gives that tells a room: its outcome, and the room of a store after it.
-#[derive(Drop)]
+#[derive(Clone, Copy)]
 pub struct Told {
     pub outcome: Outcome,
     pub room: u16,

@@ -1,4 +1,6 @@
-// A device on the HP-IB bus: its role, the serial poll and how it is set to answer a parallel poll. What it hands over is not known here.
+//! A device on the HP-IB bus: its role, the serial poll and how it is set to answer a parallel poll. What it hands over is not known here.
+#![tactic(auto)]
+
 ghost use Rattle.std.specs.Prelude.{◌≡◌, ◌<◌};
 ghost use Rattle.bus.specs.Bus.{start_bus, response_after, serial_after, commanded, interface_cleared, clears, fetch_of, poll_bits, fit_test};
 
@@ -7,7 +9,7 @@ use role::{Order, Role};
 
 // role: the bus address, talker or not, listener or not. serial: in serial poll mode. read: the status byte was handed over since the last
 // command. configuring: the next secondary command sets the response. polled: a parallel poll is answered, on this line of the eight.
-#[derive(Drop)]
+#[derive(Clone, Copy)]
 pub struct Bus {
     pub role: Role,
     pub serial: bool,
@@ -18,7 +20,7 @@ pub struct Bus {
 }
 
 // What the bus is given when it asks for a byte.
-#[derive(Drop)]
+#[derive(Clone, Copy)]
 pub enum Fetch {
     Silent,
     Status,

@@ -1,4 +1,6 @@
-// A store of 16-bit cells on a lent slice: what touches a cell. The ring, its places and its room are the store's.
+//! A store of 16-bit cells on a lent slice: what touches a cell. The ring, its places and its room are the store's.
+#![tactic(auto)]
+
 ghost use Rattle.std.specs.Prelude.{◌≡◌, ◌<◌, get_or};
 ghost use Rattle.store.specs.Ring.{Fit, held};
 ghost use Rattle.store.specs.Promises.{Put, Shown};

@@ -1,4 +1,6 @@
-// The mailbox as C functions: a lent block that holds the state, two lent stores of cells, and numbers. Each answers one number of 64 bits.
+//! The mailbox as C functions: a lent block that holds the state, two lent stores of cells, and numbers. Each answers one number of 64 bits.
+#![tactic(auto)]
+
 ghost use Rattle.std.specs.Prelude.{◌≡◌, false, not, length, eqb};
 ghost use Rattle.answers.specs.Answers.{said, isRefusal};
 ghost use Rattle.answers.specs.Word.{word};

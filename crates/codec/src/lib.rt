@@ -1,4 +1,6 @@
-// What every block of bytes is read and written by: numbers low byte first, rings, flags of 1 or 0, and two parts copied over a block.
+//! What every block of bytes is read and written by: numbers low byte first, rings, flags of 1 or 0, and two parts copied over a block.
+#![tactic(auto)]
+
 ghost use Rattle.std.specs.Prelude.{◌≡◌, ◌++◌, ◌+◌, ◌<◌, length};
 ghost use Rattle.codec.specs.Codec.{two, four};
 ghost use Rattle.codec.specs.Parts.{ring_at, three_right};

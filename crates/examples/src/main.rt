@@ -1,5 +1,7 @@
-// Plays a script of calls over the proved bridge: each line of it is printed, and behind it what the call answers. The script is the
-// file stdin: the paper's examples that are run, and the slips that we have seen.
+//! Plays a script of calls over the proved bridge: each line of it is printed, and behind it what the call answers. The script is the
+//! file stdin: the paper's examples that are run, and the slips that we have seen.
+#![tactic(auto)]
+
 ghost use Rattle.std.specs.Prelude.{◌≤◌, ◌<◌, length};
 
 use answers::Answer;

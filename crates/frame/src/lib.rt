@@ -1,4 +1,6 @@
-// An HP-IL frame is 11 bits, three control bits above eight data bits: its parts, by shifts and masks.
+//! An HP-IL frame is 11 bits, three control bits above eight data bits: its parts, by shifts and masks.
+#![tactic(auto)]
+
 ghost use Rattle.std.specs.Prelude.{◌≡◌};
 ghost use Rattle.frame.specs.Frame.{control_of, data_of, made, is_data, is_end, has_service, with_service, same_apart};
 

@@ -1,1 +1,2 @@
-// No function: this crate has the laws that hold of every call.
+//! No function: this crate has the laws that hold of every call.
+#![tactic(auto)]

@@ -1,4 +1,6 @@
-// The line side: bytes and breaks in, holding off, and bytes out.
+//! The line side: bytes and breaks in, holding off, and bytes out.
+#![tactic(auto)]
+
 ghost use Rattle.std.specs.Prelude.{◌≡◌, ◌≤◌};
 ghost use Rattle.store.specs.Ring.{Within, room};
 ghost use Rattle.state.specs.Sizes.{RxFits, TxFits};
@@ -11,7 +13,7 @@ use state::{Out, State};
 use store::Ring;
 
 // The state after a line byte, and the room that is left in the receive store.
-#[derive(Drop)]
+#[derive(Clone, Copy)]
 pub struct Took {
     pub state: State,
     pub room: usize,

@@ -1,4 +1,6 @@
-// Frames taken from the loop, and what we send on it.
+//! Frames taken from the loop, and what we send on it.
+#![tactic(auto)]
+
 ghost use Rattle.std.specs.Prelude.{◌≡◌, length};
 ghost use Rattle.store.specs.Ring.{Within};
 ghost use Rattle.state.specs.Sizes.{RxFits, TxFits};

@@ -1,4 +1,6 @@
-// The mailbox: a software HP-IL/HP-IB interface. The state goes in by value and comes back; both stores of cells are lent at every call.
+//! The mailbox: a software HP-IL/HP-IB interface. The state goes in by value and comes back; both stores of cells are lent at every call.
+#![tactic(auto)]
+
 ghost use Rattle.std.specs.Prelude.{◌≡◌, ◌<◌};
 ghost use Rattle.store.specs.Ring.{Fit};
 ghost use Rattle.mailbox.specs.BusSide as bus-side;

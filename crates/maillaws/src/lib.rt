@@ -1,1 +1,2 @@
-// No function: this crate has the laws that hold of every call of a mailbox.
+//! No function: this crate has the laws that hold of every call of a mailbox.
+#![tactic(auto)]

@@ -1,4 +1,6 @@
-// Frames that a mailbox takes from the loop, and what it sends there.
+//! Frames that a mailbox takes from the loop, and what it sends there.
+#![tactic(auto)]
+
 ghost use Rattle.std.specs.Prelude.{◌≡◌, ◌<◌};
 ghost use Rattle.store.specs.Ring.{Within, Fit};
 ghost use Rattle.talker.specs.Returning.{return_of};

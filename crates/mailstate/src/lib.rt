@@ -1,4 +1,6 @@
-// The state of a mailbox by value, its start, and whether it fits two lent stores of cells.
+//! The state of a mailbox by value, its start, and whether it fits two lent stores of cells.
+#![tactic(auto)]
+
 ghost use Rattle.std.specs.Prelude.{◌≡◌};
 ghost use Rattle.mailstate.specs.Sizes.{sizes_obeyed, start_state, fits};
 
@@ -9,7 +11,7 @@ use talker::Talker;
 use way::Way;
 
 // Not ready for data: whether a listener says so, whether it holds a frame back meanwhile, and which.
-#[derive(Drop)]
+#[derive(Clone, Copy)]
 pub struct Hold {
     pub enabled: bool,
     pub held: bool,
@@ -18,7 +20,7 @@ pub struct Hold {
 
 // tobus: what the loop leaves for the bus. toloop: what the bus leaves for the loop. source: where the frames of an active talker come
 // from, 0 for the way to the loop, and n from 1 to 10 for the device ID after its n first bytes.
-#[derive(Drop)]
+#[derive(Clone, Copy)]
 pub struct State {
     pub tobus: Way,
     pub toloop: Way,
@@ -30,7 +32,7 @@ pub struct State {
 }
 
 // The state after a call, and its answer.
-#[derive(Drop)]
+#[derive(Clone, Copy)]
 pub struct Outcome {
     pub state: State,
     pub answer: Answer,

@@ -1,1 +1,2 @@
-// No function: this crate has mailboxes that are wrong, and the laws that they break.
+//! No function: this crate has mailboxes that are wrong, and the laws that they break.
+#![tactic(auto)]

@@ -1,9 +1,11 @@
-// The status byte of one side of a mailbox, which is latched: what is told when something comes into an empty way, and until when.
+//! The status byte of one side of a mailbox, which is latched: what is told when something comes into an empty way, and until when.
+#![tactic(auto)]
+
 ghost use Rattle.std.specs.Prelude.{◌≡◌};
 ghost use Rattle.news.specs.News.{no_news, come, sent_status, returned, news_byte};
 
 // request: service is requested. available: something came that no status byte has told. again: it came since a status byte was sent.
-#[derive(Drop)]
+#[derive(Clone, Copy)]
 pub struct News {
     pub request: bool,
     pub available: bool,

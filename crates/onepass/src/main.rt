@@ -1,3 +1,5 @@
+#![tactic(auto)]
+
 // Reads an input, hands it to `transcript::run`, and prints what that answers. Well-formed input has at most 326 bytes, so that what
 // does not fit the buffer is malformed however it goes on.
 fn main() {

@@ -1,9 +1,11 @@
-// Parallel polls: how a device is set to answer one, and its answer, on the loop and on the bus alike.
+//! Parallel polls: how a device is set to answer one, and its answer, on the loop and on the bus alike.
+#![tactic(auto)]
+
 ghost use Rattle.std.specs.Prelude.{◌≡◌, ◌<◌, ◌^◌};
 ghost use Rattle.polls.specs.Polls.{no_response, loop_response, bus_response, answers, answer_bits, joined, fit_test};
 
 // on: it answers at all. line: on which of the eight, 0 to 7. sense: it answers while service is requested, or while it is not.
-#[derive(Drop)]
+#[derive(Clone, Copy)]
 pub struct Response {
     pub on: bool,
     pub line: u8,

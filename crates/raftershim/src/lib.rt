@@ -1,5 +1,7 @@
-// The bridge as C functions: a lent block that holds the state, a lent store of cells and one of bytes, and numbers. Each answers one number of
-// 64 bits.
+//! The bridge as C functions: a lent block that holds the state, a lent store of cells and one of bytes, and numbers. Each answers one number of
+//! 64 bits.
+#![tactic(auto)]
+
 ghost use Rattle.std.specs.Prelude.{◌≡◌, false, length};
 ghost use Rattle.answers.specs.Answers.{said, isRefusal};
 ghost use Rattle.block.specs.Packed.{block_len};

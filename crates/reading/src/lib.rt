@@ -1,11 +1,13 @@
-// The reading rule (line to loop): what the oldest bytes held decide, and the breaks among them.
+//! The reading rule (line to loop): what the oldest bytes held decide, and the breaks among them.
+#![tactic(auto)]
+
 ghost use Rattle.std.specs.Prelude.{◌≡◌};
 ghost use Rattle.reading.specs.Received.{item_of, marked_cell, received};
 ghost use Rattle.reading.specs.Steps.{decision};
 ghost use Rattle.reading.specs.Firsts.{firsts};
 
 // The rule of the moment: R10 bit 3, C00, C01.
-#[derive(Drop)]
+#[derive(Clone, Copy)]
 pub struct Rule {
     pub on: bool,
     pub c00: u8,
@@ -13,14 +15,14 @@ pub struct Rule {
 }
 
 // A byte held, and whether a break follows it.
-#[derive(Drop)]
+#[derive(Clone, Copy)]
 pub struct Item {
     pub byte: u8,
     pub broken: bool,
 }
 
 // What the oldest bytes decide: Removed takes two bytes and sends nothing, End three, Data one, Wait none.
-#[derive(Drop)]
+#[derive(Clone, Copy)]
 pub enum Decision {
     Removed,
     End,

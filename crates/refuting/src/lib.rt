@@ -1,1 +1,2 @@
-// No function: this crate has what the refutations of wrong machines share, whatever the machine.
+//! No function: this crate has what the refutations of wrong machines share, whatever the machine.
+#![tactic(auto)]

@@ -1,4 +1,6 @@
-// The registers that the bridge carries, kept apart from the rest of its state: their table, and writing one by number.
+//! The registers that the bridge carries, kept apart from the rest of its state: their table, and writing one by number.
+#![tactic(auto)]
+
 ghost use Rattle.std.specs.Prelude.{◌≡◌, ◌%◌, cond};
 ghost use Rattle.answers.specs.Refusals.{first_refusal};
 ghost use Rattle.registers.specs.Table.{carried_of, start_registers};
@@ -9,7 +11,7 @@ ghost use Rattle.registers.specs.RegistersFit.{registers_fit};
 pub mod meanings;
 
 // r00 to r11 are control registers of four bits, c00 to c05 characters.
-#[derive(Drop)]
+#[derive(Clone, Copy)]
 pub struct Registers {
     pub r00: u8,
     pub r01: u8,

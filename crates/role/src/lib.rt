@@ -1,4 +1,6 @@
-// What commands and ready frames do to a device's role on the loop; stores and registers are not known here.
+//! What commands and ready frames do to a device's role on the loop; stores and registers are not known here.
+#![tactic(auto)]
+
 ghost use Rattle.std.specs.Prelude.{◌≡◌};
 ghost use Rattle.role.specs.Role.{start_role, with_phase};
 ghost use Rattle.role.specs.Orders.{own_address, listen_order, talk_order, other_order, order_of, is_clear};
@@ -9,7 +11,7 @@ ghost use Rattle.role.specs.RoleFit.{fit_test};
 pub mod remote;
 
 // address: 0 to 30 as assigned, 31 while unassigned. phase, of the talker: 0 idle, 1 addressed, 2 active with data, 3 active with status.
-#[derive(Drop)]
+#[derive(Clone, Copy)]
 pub struct Role {
     pub address: u8,
     pub phase: u8,
@@ -17,7 +19,7 @@ pub struct Role {
 }
 
 // What a command asks of a device.
-#[derive(Drop)]
+#[derive(Clone, Copy)]
 pub enum Order {
     Unlisten,
     Listen,
@@ -33,7 +35,7 @@ pub enum Order {
 }
 
 // What a ready frame asks of a device.
-#[derive(Drop)]
+#[derive(Clone, Copy)]
 pub enum Ready {
     Pass,
     Address,

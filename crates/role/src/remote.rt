@@ -5,7 +5,7 @@ ghost use Rattle.role.specs.Remote.{start_remote, obeyed_remote};
 use crate::Order;
 
 // Whether a listen address makes remote, and whether the device is remote.
-#[derive(Drop)]
+#[derive(Clone, Copy)]
 pub struct Remote {
     pub enabled: bool,
     pub remote: bool,

@@ -1,1 +1,2 @@
-// No function: this crate has the statements on whole runs of calls, and their proofs.
+//! No function: this crate has the statements on whole runs of calls, and their proofs.
+#![tactic(auto)]

@@ -1,4 +1,6 @@
-// One send from a store of cells by the reading rule. It knows of the store only what the store promises.
+//! One send from a store of cells by the reading rule. It knows of the store only what the store promises.
+#![tactic(auto)]
+
 ghost use Rattle.std.specs.Prelude.{◌≡◌, ◌≤◌, get_or};
 ghost use Rattle.store.specs.Ring.{Fit, held};
 ghost use Rattle.reading.specs.Received.{item_of, received_in};
@@ -9,14 +11,14 @@ use reading::{Decision, Item, Rule};
 use store::Ring;
 
 // The frame of a send, its service bit off, or none.
-#[derive(Drop)]
+#[derive(Clone, Copy)]
 pub enum Given {
     Nothing,
     One(u16),
 }
 
 // What a send gives, and the ring after it.
-#[derive(Drop)]
+#[derive(Clone, Copy)]
 pub struct Sending {
     pub given: Given,
     pub ring: Ring,

@@ -1,4 +1,6 @@
-// The state of the bridge by value, whether it fits its stores, and its service requests.
+//! The state of the bridge by value, whether it fits its stores, and its service requests.
+#![tactic(auto)]
+
 use answers::Answer;
 use registers::Registers;
 use role::remote::Remote;
@@ -10,7 +12,7 @@ pub mod fitting;
 pub mod requests;
 
 // Whether we hold the line off, whether the other end forbids our sending, and whether stop was the last of go and stop that we sent.
-#[derive(Drop)]
+#[derive(Clone, Copy)]
 pub struct Line {
     pub holding: bool,
     pub forbidden: bool,
@@ -18,7 +20,7 @@ pub struct Line {
 }
 
 // What happened and is to be told, what happened again since a status byte was sent, and whether service is requested.
-#[derive(Drop)]
+#[derive(Clone, Copy)]
 pub struct Notes {
     pub seen: Events,
     pub again: Events,
@@ -26,7 +28,7 @@ pub struct Notes {
 }
 
 // Bytes stored in the receive store, bytes lost, and data frames sent from it.
-#[derive(Drop)]
+#[derive(Clone, Copy)]
 pub struct Counts {
     pub stored: u32,
     pub lost: u32,
@@ -34,7 +36,7 @@ pub struct Counts {
 }
 
 // The state goes into every call by value and comes back with the answer; the caller keeps it. The rings record the stores' lengths.
-#[derive(Drop)]
+#[derive(Clone, Copy)]
 pub struct State {
     pub margin: usize,
     pub rx: Ring,
@@ -48,7 +50,7 @@ pub struct State {
 }
 
 // The next line byte: our own go or stop, one held in the transmit store, or none.
-#[derive(Drop)]
+#[derive(Clone, Copy)]
 pub enum Out {
     Own(u8),
     Held(u8),
@@ -56,7 +58,7 @@ pub enum Out {
 }
 
 // What a call answers, and the state after it.
-#[derive(Drop)]
+#[derive(Clone, Copy)]
 pub struct Outcome {
     pub state: State,
     pub answer: Answer,

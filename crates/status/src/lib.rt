@@ -1,9 +1,11 @@
-// The status byte, and the conditions that begin a service request.
+//! The status byte, and the conditions that begin a service request.
+#![tactic(auto)]
+
 ghost use Rattle.std.specs.Prelude.{◌≡◌, cond, ◌≤◌};
 ghost use Rattle.status.specs.Status.{status_byte, both, begins, acknowledged};
 
 // The seven conditions that can ask for service: which of them hold, or which are enabled.
-#[derive(Drop)]
+#[derive(Clone, Copy)]
 pub struct Conditions {
     pub txempty: bool,
     pub txnotfull: bool,
@@ -15,7 +17,7 @@ pub struct Conditions {
 }
 
 // The three things that happen and are told until a status byte has told them.
-#[derive(Drop)]
+#[derive(Clone, Copy)]
 pub struct Events {
     pub brk: bool,
     pub overrun: bool,

@@ -1,10 +1,12 @@
-// A store: a ring of bytes on a lent slice. The bookkeeping is a struct by value, which knows the slice's length.
+//! A store: a ring of bytes on a lent slice. The bookkeeping is a struct by value, which knows the slice's length.
+#![tactic(auto)]
+
 ghost use Rattle.std.specs.Prelude.{◌≡◌, ◌+◌, ◌≤◌, ◌<◌, get_or};
 ghost use Rattle.store.specs.Ring.{Within, Fit, fit_test, wrap, held, empty_ring, room};
 ghost use Rattle.store.specs.Promises.{Offering, Put, Dropped, Spanned, Shown};
 
 // The capacity, the place of the oldest byte, and how many bytes are held.
-#[derive(Drop)]
+#[derive(Clone, Copy)]
 pub struct Ring {
     pub cap: usize,
     pub oldest: usize,
@@ -12,7 +14,7 @@ pub struct Ring {
 }
 
 // The answer to a byte offered: whether it was stored, the ring after it, and the room that is left.
-#[derive(Drop)]
+#[derive(Clone, Copy)]
 pub struct Offered {
     pub stored: bool,
     pub ring: Ring,
@@ -20,7 +22,7 @@ pub struct Offered {
 }
 
 // The places from start up to, and without, end.
-#[derive(Drop)]
+#[derive(Clone, Copy)]
 pub struct Stretch {
     pub start: usize,
     pub end: usize,

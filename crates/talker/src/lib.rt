@@ -1,4 +1,6 @@
-// A device's talker: its role on the loop and the frame that it has under way. Stores, registers and what is sent are not known here.
+//! A device's talker: its role on the loop and the frame that it has under way. Stores, registers and what is sent are not known here.
+#![tactic(auto)]
+
 ghost use Rattle.std.specs.Prelude.{◌≡◌};
 ghost use Rattle.talker.specs.Talker.{start_talker};
 ghost use Rattle.talker.specs.Obeying.{obeyed_talker};
@@ -10,21 +12,21 @@ ghost use Rattle.talker.specs.TalkerFit.{fit_test};
 use role::{Order, Role};
 
 // The frame under way, which calls keep without its service bit, and whether sending ends after it.
-#[derive(Drop)]
+#[derive(Clone, Copy)]
 pub struct Under {
     pub frame: u16,
     pub finishing: bool,
 }
 
 // The role, and the frame under way of an active talker.
-#[derive(Drop)]
+#[derive(Clone, Copy)]
 pub struct Talker {
     pub role: Role,
     pub under: Under,
 }
 
 // What a data frame is that comes back to an active talker: damage, the status byte, the last frame of all, or one that more may follow.
-#[derive(Drop)]
+#[derive(Clone, Copy)]
 pub enum Return {
     Damaged,
     StatusBack,

@@ -1,4 +1,6 @@
-// The work of the program `onepass`, on slices: from its input to what it prints.
+//! The work of the program `onepass`, on slices: from its input to what it prints.
+#![tactic(auto)]
+
 ghost use Rattle.std.specs.Prelude.{◌≡◌, ◌+◌, ◌≤◌, length};
 ghost use Rattle.bridge.specs.Calls.{world};
 ghost use Rattle.transcript.specs.Text.{Wrote, Within};
@@ -12,7 +14,7 @@ mod passing;
 mod text;
 
 // Whether the input is well formed, and how many items each section has.
-#[derive(Drop)]
+#[derive(Clone, Copy)]
 pub struct Sections {
     pub ok: bool,
     pub regs: usize,
@@ -21,14 +23,14 @@ pub struct Sections {
 }
 
 // The state after the frames, and the place behind what they printed.
-#[derive(Drop)]
+#[derive(Clone, Copy)]
 pub struct Offered {
     pub state: State,
     pub at: usize,
 }
 
 // The state after the register pairs, or before the one that is refused, and the number of that refusal, 0 where there is none.
-#[derive(Drop)]
+#[derive(Clone, Copy)]
 pub struct Set {
     pub state: State,
     pub fault: u8,

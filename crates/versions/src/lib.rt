@@ -1,1 +1,2 @@
-// No function: this crate says that no block is a state of two products.
+//! No function: this crate says that no block is a state of two products.
+#![tactic(auto)]

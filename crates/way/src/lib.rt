@@ -1,4 +1,6 @@
-// One way of a mailbox: the cells that were left and not yet fetched, and what the side that fetches them is told of it.
+//! One way of a mailbox: the cells that were left and not yet fetched, and what the side that fetches them is told of it.
+#![tactic(auto)]
+
 ghost use Rattle.std.specs.Prelude.{◌≡◌, ◌≤◌};
 ghost use Rattle.store.specs.Ring.{Within, Fit};
 ghost use Rattle.way.specs.Way.{empty_way, fetched, told, fit_test, Left};
@@ -7,7 +9,7 @@ use news::News;
 use store::Ring;
 
 // The ring on the way's store, and the status byte of the side that fetches.
-#[derive(Drop)]
+#[derive(Clone, Copy)]
 pub struct Way {
     pub ring: Ring,
     pub news: News,
