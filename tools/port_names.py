@@ -9,7 +9,6 @@ all data stay as they are, and so does a name in a file that imports it from a l
 """
 import collections
 import glob
-import os
 import re
 import sys
 
@@ -23,7 +22,7 @@ CLAUSE = re.compile(r"\b(?:requires|ensures)\s*(?:\w+\s*)?\{")
 
 def of_function(name):
     """Whether a file is one of a function's own proof."""
-    return os.path.basename(name) in ("Proof.antt", "Answers.antt", "Invariants.antt")
+    return re.search(r"/proofs/.+/(Proof|Answers|Invariants)\.antt$", name) is not None
 
 
 def files():

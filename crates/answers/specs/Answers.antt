@@ -23,15 +23,15 @@ pub record Answered : Type 0 where
   pub room : ℕ
 
 -- what is seen of a refusal's number, and of any other answer
-abbrev pub ofRefusal : {X : Type 0} → (ℕ → X) → X → Said → X
-ofRefusal see other (refused n) = see n
-ofRefusal see other done = other
-ofRefusal see other none = other
-ofRefusal see other (byte b) = other
-ofRefusal see other (frame k d) = other
-ofRefusal see other (part xs) = other
-ofRefusal see other (cell n) = other
-ofRefusal see other (lines n) = other
+abbrev pub of_refusal : {X : Type 0} → (ℕ → X) → X → Said → X
+of_refusal see other (refused n) = see n
+of_refusal see other done = other
+of_refusal see other none = other
+of_refusal see other (byte b) = other
+of_refusal see other (frame k d) = other
+of_refusal see other (part xs) = other
+of_refusal see other (cell n) = other
+of_refusal see other (lines n) = other
 
 -- what is seen of a line byte, and of any other answer
 abbrev pub of_byte : {X : Type 0} → (ℕ → X) → X → Said → X
@@ -45,85 +45,85 @@ of_byte see other (cell n) = other
 of_byte see other (lines n) = other
 
 -- the call was refused
-abbrev pub isRefusal : Said → Bool
-isRefusal x = ofRefusal (λ n. true) false x
+abbrev pub is_refusal : Said → Bool
+is_refusal x = of_refusal (λ n. true) false x
 
 -- the number of a refusal, 0 for any other answer
-unfoldable pub faultOf : Said → ℕ
-faultOf x = ofRefusal (λ n. n) 0 x
+unfoldable pub fault_of : Said → ℕ
+fault_of x = of_refusal (λ n. n) 0 x
 
 -- whether a line byte is said, and which
 unfoldable pub is_byte : Said → Bool
 is_byte x = of_byte (λ b. true) false x
 
-unfoldable pub byteIn : Said → ℕ
-byteIn x = of_byte (λ b. b) 0 x
+unfoldable pub byte_in : Said → ℕ
+byte_in x = of_byte (λ b. b) 0 x
 
 -- Sizes and refusals, last: done from a call that answers no more
-abbrev pub doneOrRefused : Said → Bool
-doneOrRefused done = true
-doneOrRefused (refused n) = true
-doneOrRefused none = false
-doneOrRefused (byte b) = false
-doneOrRefused (frame k d) = false
-doneOrRefused (part xs) = false
-doneOrRefused (cell n) = false
-doneOrRefused (lines n) = false
+abbrev pub done_or_refused : Said → Bool
+done_or_refused done = true
+done_or_refused (refused n) = true
+done_or_refused none = false
+done_or_refused (byte b) = false
+done_or_refused (frame k d) = false
+done_or_refused (part xs) = false
+done_or_refused (cell n) = false
+done_or_refused (lines n) = false
 
 -- Sizes and refusals, last: a line byte, or none where none is next
-abbrev pub byteOrRefused : Said → Bool
-byteOrRefused (byte b) = true
-byteOrRefused none = true
-byteOrRefused (refused n) = true
-byteOrRefused done = false
-byteOrRefused (frame k d) = false
-byteOrRefused (part xs) = false
-byteOrRefused (cell n) = false
-byteOrRefused (lines n) = false
+abbrev pub byte_or_refused : Said → Bool
+byte_or_refused (byte b) = true
+byte_or_refused none = true
+byte_or_refused (refused n) = true
+byte_or_refused done = false
+byte_or_refused (frame k d) = false
+byte_or_refused (part xs) = false
+byte_or_refused (cell n) = false
+byte_or_refused (lines n) = false
 
 -- Frames, first: one frame out for each that is taken
-abbrev pub frameOrRefused : Said → Bool
-frameOrRefused (frame k d) = true
-frameOrRefused (refused n) = true
-frameOrRefused done = false
-frameOrRefused none = false
-frameOrRefused (byte b) = false
-frameOrRefused (part xs) = false
-frameOrRefused (cell n) = false
-frameOrRefused (lines n) = false
+abbrev pub frame_or_refused : Said → Bool
+frame_or_refused (frame k d) = true
+frame_or_refused (refused n) = true
+frame_or_refused done = false
+frame_or_refused none = false
+frame_or_refused (byte b) = false
+frame_or_refused (part xs) = false
+frame_or_refused (cell n) = false
+frame_or_refused (lines n) = false
 
 -- a cell, or none where there is none to give
-abbrev pub cellOrRefused : Said → Bool
-cellOrRefused (cell n) = true
-cellOrRefused none = true
-cellOrRefused (refused n) = true
-cellOrRefused done = false
-cellOrRefused (byte b) = false
-cellOrRefused (frame k d) = false
-cellOrRefused (part xs) = false
-cellOrRefused (lines n) = false
+abbrev pub cell_or_refused : Said → Bool
+cell_or_refused (cell n) = true
+cell_or_refused none = true
+cell_or_refused (refused n) = true
+cell_or_refused done = false
+cell_or_refused (byte b) = false
+cell_or_refused (frame k d) = false
+cell_or_refused (part xs) = false
+cell_or_refused (lines n) = false
 
 -- the lines
-abbrev pub linesOrRefused : Said → Bool
-linesOrRefused (lines n) = true
-linesOrRefused (refused n) = true
-linesOrRefused done = false
-linesOrRefused none = false
-linesOrRefused (byte b) = false
-linesOrRefused (frame k d) = false
-linesOrRefused (part xs) = false
-linesOrRefused (cell n) = false
+abbrev pub lines_or_refused : Said → Bool
+lines_or_refused (lines n) = true
+lines_or_refused (refused n) = true
+lines_or_refused done = false
+lines_or_refused none = false
+lines_or_refused (byte b) = false
+lines_or_refused (frame k d) = false
+lines_or_refused (part xs) = false
+lines_or_refused (cell n) = false
 
 -- Sizes and refusals, showing: no number, a part
-abbrev pub isPart : Said → Bool
-isPart (part xs) = true
-isPart done = false
-isPart none = false
-isPart (byte b) = false
-isPart (frame k d) = false
-isPart (refused n) = false
-isPart (cell n) = false
-isPart (lines n) = false
+abbrev pub is_part : Said → Bool
+is_part (part xs) = true
+is_part done = false
+is_part none = false
+is_part (byte b) = false
+is_part (frame k d) = false
+is_part (refused n) = false
+is_part (cell n) = false
+is_part (lines n) = false
 
 -- the paper's number and values for each case of the answer; showing has no such answer, it returns the part itself
 unfoldable pub said : Answer → Said

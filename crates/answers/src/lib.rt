@@ -2,7 +2,7 @@
 #![tactic(auto)]
 
 ghost use Rattle.std.specs.Prelude.{◌≡◌, ◌<◌};
-ghost use Rattle.answers.specs.Answers.{isRefusal, faultOf, is_byte, byteIn, said};
+ghost use Rattle.answers.specs.Answers.{is_refusal, fault_of, is_byte, byte_in, said};
 ghost use Rattle.answers.specs.Word.{word, word_with};
 
 // A call answers no more than done, says that no byte is next, says a line byte, gives a frame, is refused, or, on the bus of a mailbox, gives a
@@ -20,7 +20,7 @@ pub enum Answer {
 
 // Whether an answer is a refusal.
 pub fn is_refusal(a: Answer) -> bool
-    ensures { result ≡ isRefusal (said a) }
+    ensures { result ≡ is_refusal (said a) }
 {
     if let Answer::Refused(_) = a {
         true
@@ -31,7 +31,7 @@ pub fn is_refusal(a: Answer) -> bool
 
 // The number of a refusal, 0 for any other answer.
 pub fn fault_of(a: Answer) -> u8
-    ensures { result ≡ faultOf (said a) }
+    ensures { result ≡ fault_of (said a) }
 {
     if let Answer::Refused(n) = a { n } else { 0 }
 }
@@ -45,7 +45,7 @@ pub fn is_byte(a: Answer) -> bool
 
 // The line byte of an answer.
 pub fn byte_in(a: Answer) -> u8
-    ensures { result ≡ byteIn (said a) }
+    ensures { result ≡ byte_in (said a) }
 {
     if let Answer::Byte(b) = a { b } else { 0 }
 }

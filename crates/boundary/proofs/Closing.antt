@@ -7,7 +7,7 @@ use mathlib.Core.List.{List}
 use lib.ListN.{length, take, drop, length-take, length-drop}
 use lib.Dec.{eqb}
 use borrow.Author.Tests.{eq-eqb, ne_eqb}
-use Rattle.answers.specs.Answers.{Said, refused, part, isRefusal}
+use Rattle.answers.specs.Answers.{Said, refused, part, is_refusal}
 use Rattle.answers.specs.Refusals.{first_refusal}
 use Rattle.answers.specs.Word.{word, word_with, kind_of, value_of}
 use Rattle.store.specs.declared.Ring.{Ring}
@@ -50,7 +50,7 @@ module _ (P : Product) (F : Formed P) where
     Did d = d ≡ P.step (P.on c) (P.world (held s xs ys))
 
     -- what is not refused had a block that is a state
-    had_state : (d : P.Did) → Did d → isRefusal (P.said_in d) ≡ false → is_state P.layout b ≡ true
+    had_state : (d : P.Did) → Did d → is_refusal (P.said_in d) ≡ false → is_state P.layout b ≡ true
     had_state d e h = pick (is_state P.layout b) refl
       where
         pick : (t : Bool) → is_state P.layout b ≡ t → is_state P.layout b ≡ true
@@ -58,10 +58,10 @@ module _ (P : Product) (F : Formed P) where
         pick false q =
             let none : s ≡ P.no_state = m ∙ sym (means_none P.layout P.no_state b false (sym q) refl) in
             let misfits : fits_held P (held s xs ys) ≡ false = ap (λ (y : P.State). P.fits y (length xs) (length ys)) none ∙ F.misfits (length xs) (length ys) in
-            absurd (true≢false (sym (ap isRefusal (ap P.said_in e ∙ misfit_said c (held s xs ys) misfits)) ∙ h))
+            absurd (true≢false (sym (ap is_refusal (ap P.said_in e ∙ misfit_said c (held s xs ys) misfits)) ∙ h))
 
     -- and so a block of the right length
-    pub may_write : (d : P.Did) → Did d → isRefusal (P.said_in d) ≡ false → length b ≡ P.layout.len
+    pub may_write : (d : P.Did) → Did d → is_refusal (P.said_in d) ≡ false → length b ≡ P.layout.len
     may_write d e h = state_length P.layout b (had_state d e h)
 
     -- the C function answered and left what the call did, and told its room
@@ -85,9 +85,9 @@ module _ (P : Product) (F : Formed P) where
     looked d e q r t z =
         let o : P.apart (P.left_in d) ≡ held s xs ys = ap P.apart q ∙ F.back (held s xs ys) in
         (λ i. c_did r b (sym o i).first (sym o i).second)
-        ∙ written d e r b (t, by_cond (λ (x : List ℕ). b ≡ x) (isRefusal (P.said_in d)) _ _ (λ z. refl) (unchanged o)) z
+        ∙ written d e r b (t, by_cond (λ (x : List ℕ). b ≡ x) (is_refusal (P.said_in d)) _ _ (λ z. refl) (unchanged o)) z
       where
-        unchanged : P.apart (P.left_in d) ≡ held s xs ys → isRefusal (P.said_in d) ≡ false → b ≡ packed P.layout (P.apart (P.left_in d)).state
+        unchanged : P.apart (P.left_in d) ≡ held s xs ys → is_refusal (P.said_in d) ≡ false → b ≡ packed P.layout (P.apart (P.left_in d)).state
         unchanged o z =
             let f : is_state P.layout b ≡ true = had_state d e z in
             sym (state_packed P.layout b f)
@@ -106,7 +106,7 @@ module _ (P : Product) (F : Formed P) where
         c_did r b' xs ys ≡ c_step P (P.create m) (lent b xs ys)
     unfolding c_step c_by created_for closed
     create_written s d l e ex ey r b' t =
-        (λ i. c_did (t.0 i) (t.1 i) xs ys) ∙ kept (isRefusal (P.said_in d)) refl ∙ sym (cond_true _ _ _ (eq-eqb (length b) P.layout.len l)) ∙
+        (λ i. c_did (t.0 i) (t.1 i) xs ys) ∙ kept (is_refusal (P.said_in d)) refl ∙ sym (cond_true _ _ _ (eq-eqb (length b) P.layout.len l)) ∙
         (λ i. c_by P (sym (F.created m) i) (P.create m) (lent b xs ys))
       where
         -- what the same create gives where the block stands
@@ -125,14 +125,14 @@ module _ (P : Product) (F : Formed P) where
         now : P.State
         now = (P.apart (P.left_in d)).state
 
-        kept : (t : Bool) → isRefusal (P.said_in d) ≡ t → c_did (word (P.said_in d)) (block_after P b (P.said_in d) now) xs ys ≡ closed P (lent b xs ys) (word given) given left
+        kept : (t : Bool) → is_refusal (P.said_in d) ≡ t → c_did (word (P.said_in d)) (block_after P b (P.said_in d) now) xs ys ≡ closed P (lent b xs ys) (word given) given left
         kept true z =
-            let n : isRefusal given ≡ true = ap isRefusal (sym same) ∙ z in
+            let n : is_refusal given ≡ true = ap is_refusal (sym same) ∙ z in
             let o : left ≡ held_in P (lent b xs ys) = ap P.apart ((F.refuses (P.create m) (opened P (lent b xs ys))).leaves n) ∙ F.back (held_in P (lent b xs ys)) in
             (λ i. c_did (word (same i)) (cond (z i) b (packed P.layout now)) xs ys)
             ∙ (λ i. c_did (word given) (cond (sym n i) b (packed P.layout left.state)) (sym o i).first (sym o i).second)
         kept false z =
-            let q : P.apart (P.left_in d) ≡ left = ap (λ (x : P.Did). P.apart (P.left_in x)) e ∙ ap P.apart (alike.made (ap (λ (x : P.Did). isRefusal (P.said_in x)) (sym e) ∙ z)) in
+            let q : P.apart (P.left_in d) ≡ left = ap (λ (x : P.Did). P.apart (P.left_in x)) e ∙ ap P.apart (alike.made (ap (λ (x : P.Did). is_refusal (P.said_in x)) (sym e) ∙ z)) in
             (λ i. c_did (word (P.said_in d)) (block_after P b (P.said_in d) now) (sym ex i) (sym ey i))
             ∙ (λ i. closed P (lent b xs ys) (word (same i)) (same i) (q i))
 

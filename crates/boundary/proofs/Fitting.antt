@@ -8,7 +8,7 @@ use lib.ListN.{length}
 use lib.Dec.{eqb}
 use borrow.Author.Tests.{eqb-true}
 use Rattle.branches.proofs.Branches.{and_left, by_cond}
-use Rattle.answers.specs.Answers.{Said, done, refused, isRefusal}
+use Rattle.answers.specs.Answers.{Said, done, refused, is_refusal}
 use Rattle.answers.specs.Word.{word, word_with, kind_of, value_of}
 use Rattle.codec.specs.Blocks.{is_state, fitting_block}
 use Rattle.codec.proofs.Same.{state_length}
@@ -85,7 +85,7 @@ module _ (P : Product) (F : Formed P) (K : Kept P) where
           subst (λ (x : CDid). SameLengths l x.lent) (sym q)
           (record {
             block =
-                by_cond (λ (b : List ℕ). length b ≡ length l.block) (isRefusal (said P c (opened P l))) _ _
+                by_cond (λ (b : List ℕ). length b ≡ length l.block) (is_refusal (said P c (opened P l))) _ _
                 (λ t. refl)
                 (λ t. packed_length P.layout (P.apart (after P c (opened P l))).state ∙ sym e);
             first = s.first;

@@ -8,7 +8,7 @@ use lib.ListN.{length, take, drop}
 use lib.Dec.{eqb}
 use borrow.Author.Tests.{eqb-false, eqb-true, eq-eqb}
 use Rattle.branches.proofs.Branches.{by_cond, cond_true, cond_false}
-use Rattle.answers.specs.Answers.{Said, refused, part, isRefusal}
+use Rattle.answers.specs.Answers.{Said, refused, part, is_refusal}
 use Rattle.answers.specs.Word.{word, word_with}
 use Rattle.codec.specs.Blocks.{packed}
 use Rattle.codec.proofs.Laws.{packed_length, packed_means, meaning_fits}
@@ -69,23 +69,23 @@ module _ (P : Product) (F : Formed P) where
   fits_in l = meaning_fits P.layout P.no_state (λ s. P.fits s (length l.first) (length l.second)) (F.misfits (length l.first) (length l.second)) l.block
 
   -- a refusal is a number alone
-  pub refusal_keeps : (c : P.Call) (w : P.World) → isRefusal (said P c w) ≡ true → after P c w ≡ w
+  pub refusal_keeps : (c : P.Call) (w : P.World) → is_refusal (said P c w) ≡ true → after P c w ≡ w
   refusal_keeps c w = (F.refuses c w).leaves
 
   -- a refusal leaves state and stores, and so the block
-  closed_keeps : (l : Lent) (n : ℕ) (d : Said) (h : Held P.State) → h ≡ held_in P l → isRefusal d ≡ true → (closed P l n d h).lent ≡ l
+  closed_keeps : (l : Lent) (n : ℕ) (d : Said) (h : Held P.State) → h ≡ held_in P l → is_refusal d ≡ true → (closed P l n d h).lent ≡ l
   unfolding closed
   closed_keeps l n d h k e = rw (e, k)
 
-  pub kept_held : (c : P.Call) (l : Lent) → isRefusal (said P c (opened P l)) ≡ true → P.apart (after P c (opened P l)) ≡ held_in P l
+  pub kept_held : (c : P.Call) (l : Lent) → is_refusal (said P c (opened P l)) ≡ true → P.apart (after P c (opened P l)) ≡ held_in P l
   kept_held c l e = ap P.apart (refusal_keeps c (opened P l) e) ∙ F.back (held_in P l)
 
   pub misfit_refused : MisfitRefused P
   unfolding closed
   misfit_refused c l e =
       let d : said P (P.on c) (opened P l) ≡ refused 2 = misfit_said P F c (held_in P l) (fits_in l ∙ e) in
-      let z : room P (P.on c) (opened P l) ≡ 0 = F.alone (P.on c) (opened P l) (ap isRefusal d) in
-      on_step c l ∙ (λ i. closed P l (word_with (d i) (z i)) (d i) (kept_held (P.on c) l (ap isRefusal d) i))
+      let z : room P (P.on c) (opened P l) ≡ 0 = F.alone (P.on c) (opened P l) (ap is_refusal d) in
+      on_step c l ∙ (λ i. closed P l (word_with (d i) (z i)) (d i) (kept_held (P.on c) l (ap is_refusal d) i))
       ∙ (λ i. record { word = no_room_alone (refused 2) i; lent = l })
 
   pub wrong_block_refused : WrongBlockRefused P
@@ -93,10 +93,10 @@ module _ (P : Product) (F : Formed P) where
   wrong_block_refused m l e = create_step m l ∙ cond_false _ _ _ e
 
   -- the same of a C call where the product's call refuses
-  pub step_refusal_keeps : (c : P.Call) (l : Lent) → isRefusal (said P c (opened P l)) ≡ true → (c_step P c l).lent ≡ l
+  pub step_refusal_keeps : (c : P.Call) (l : Lent) → is_refusal (said P c (opened P l)) ≡ true → (c_step P c l).lent ≡ l
   unfolding created_for
   step_refusal_keeps c l =
-      by_call (λ x. isRefusal (said P x (opened P l)) ≡ true → (c_step P x l).lent ≡ l)
+      by_call (λ x. is_refusal (said P x (opened P l)) ≡ true → (c_step P x l).lent ≡ l)
       (λ m e. ap (λ (r : CDid). r.lent) (create_step m l)
       ∙ by_cond (λ (r : CDid). r.lent ≡ l) (eqb (length l.block) P.layout.len) _ _ (λ q. closed_keeps l _ _ _ (kept_held (P.create m) l e) e) (λ q. refl))
       (λ side e. ap (λ (r : CDid). r.lent) (show_step side l))
@@ -147,13 +147,13 @@ module _ (P : Product) (F : Formed P) where
     opened_packed : opened P (packed_world P w) ≡ w
     opened_packed = ap P.world held_packed ∙ F.there w
 
-    closed_packed : (n : ℕ) (d : Said) (v : P.World) → (isRefusal d ≡ true → v ≡ w) →
+    closed_packed : (n : ℕ) (d : Said) (v : P.World) → (is_refusal d ≡ true → v ≡ w) →
         closed P (packed_world P w) n d (P.apart v) ≡ record { word = n; lent = packed_world P v }
     unfolding closed
-    closed_packed n d v k = pick (isRefusal d) refl
+    closed_packed n d v k = pick (is_refusal d) refl
       where
-        pick : (t : Bool) → isRefusal d ≡ t →
-            c_did n (cond (isRefusal d) (packed P.layout (P.apart w).state) (packed P.layout (P.apart v).state)) (P.apart v).first (P.apart v).second ≡
+        pick : (t : Bool) → is_refusal d ≡ t →
+            c_did n (cond (is_refusal d) (packed P.layout (P.apart w).state) (packed P.layout (P.apart v).state)) (P.apart v).first (P.apart v).second ≡
             record { word = n; lent = packed_world P v }
         pick true e = rw (e, k e)
         pick false e = rw e

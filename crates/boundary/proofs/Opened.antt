@@ -5,7 +5,7 @@ use mathlib.Core.Bool.{Bool, true, false, cond}
 use mathlib.Core.List.{List, [], ◌∷◌}
 use lib.ListN.{length}
 use Rattle.branches.proofs.Branches.{by_cond}
-use Rattle.answers.specs.Answers.{Said, isRefusal}
+use Rattle.answers.specs.Answers.{Said, is_refusal}
 use Rattle.answers.specs.Word.{word, word_with}
 use Rattle.machine.specs.Machine.{finally}
 use Rattle.store.specs.Bytes.{Bytes}
@@ -41,13 +41,13 @@ module _ (P : Product) (F : Formed P) (K : Kept P) where
   -- ---- one call
 
   -- what a call that is closed leaves
-  module _ (l : Lent) (n : ℕ) (d : Said) (w : P.World) (k : isRefusal d ≡ true → w ≡ opened P l) (r : P.layout.Ranged (P.apart w).state) where
+  module _ (l : Lent) (n : ℕ) (d : Said) (w : P.World) (k : is_refusal d ≡ true → w ≡ opened P l) (r : P.layout.Ranged (P.apart w).state) where
     pub closed_world : opened P (closed P l n d (P.apart w)).lent ≡ w
     unfolding closed
-    closed_world = pick (isRefusal d) refl
+    closed_world = pick (is_refusal d) refl
       where
-        pick : (t : Bool) → isRefusal d ≡ t →
-            P.world (held (state_in P (cond (isRefusal d) l.block (packed P.layout (P.apart w).state))) (P.apart w).first (P.apart w).second) ≡ w
+        pick : (t : Bool) → is_refusal d ≡ t →
+            P.world (held (state_in P (cond (is_refusal d) l.block (packed P.layout (P.apart w).state))) (P.apart w).first (P.apart w).second) ≡ w
         pick true e =
             let o : P.apart w ≡ held_in P l = ap P.apart (k e) ∙ F.back (held_in P l) in
             rw e ((λ i. P.world (held (state_in P l.block) (o i).first (o i).second)) ∙ sym (k e))
@@ -57,7 +57,7 @@ module _ (P : Product) (F : Formed P) (K : Kept P) where
         (length (closed P l n d (P.apart w)).lent.block ≡ P.layout.len) × Bytes (closed P l n d (P.apart w)).lent.block
     unfolding closed
     closed_block e h =
-        by_cond (λ (b : List ℕ). (length b ≡ P.layout.len) × Bytes b) (isRefusal d) _ _
+        by_cond (λ (b : List ℕ). (length b ≡ P.layout.len) × Bytes b) (is_refusal d) _ _
         (λ q. (e, h))
         (λ q. (packed_length P.layout (P.apart w).state, packed_bytes P.layout (P.apart w).state r))
 

@@ -9,7 +9,7 @@ use lib.Dec.{eqb}
 use borrow.Author.Tests.{eqb-true}
 use Rattle.answers.specs.Refusals.{check, first_refusal}
 use Rattle.answers.specs.Refusing.{Refuses}
-use Rattle.answers.specs.Answers.{Said, refused, part, isRefusal}
+use Rattle.answers.specs.Answers.{Said, refused, part, is_refusal}
 use Rattle.answers.specs.Word.{word, word_with}
 use Rattle.boundary.specs.Product.{Product, Held, Kind, creating, showing, calling, checks, shown, said}
 use Rattle.boundary.specs.CCalls.{Lent, CDid, refused_by, held_in, opened, c_step}
@@ -22,7 +22,7 @@ use Rattle.boundary.specs.Kept.{Kept}
 use Rattle.boundary.proofs.Laws.{by_call, fits_in, show_step, misfit_refused, wrong_block_refused}
 use Rattle.boundary.proofs.Words.{refusal_told, no_room_alone}
 use Rattle.boundary.proofs.Opened.{call_means}
-use Rattle.boundary.proofs.Answers.{create-answer, show-answer, on-answer, other-misfits, answers_told, refusal_keeps_all}
+use Rattle.boundary.proofs.Answers.{create_answer, show_answer, on_answer, other_misfits, answers_told, refusal_keeps_all}
 
 -- a call that is refused by the first of its checks
 refuses : (a : Said) (k : Lent) (n : ℕ) (l : Lent) → (n ≡ 0 → ⊥) → a ≡ refused n → k ≡ l → Refuses a k n l
@@ -72,7 +72,7 @@ module _ (P : Product) (F : Formed P) where
     create_right m =
         let r : c_step P (P.create m) l ≡ refused_by 1 l = wrong_block_refused P F m l e in
         by_first (P.create m) 1 ((λ i. first_refusal (c_checks P (F.created m i) l)) ∙ given (P.obeyed m (length l.first) (length l.second))) (λ z. omega arith)
-        (create-answer P F m l ∙ ap (λ (x : CDid). answer_of P.given x.word) r ∙ refusal_told P.given 1 (omega arith))
+        (create_answer P F m l ∙ ap (λ (x : CDid). answer_of P.given x.word) r ∙ refusal_told P.given 1 (omega arith))
         (ap (λ (x : CDid). x.lent) r)
       where
         given : (t : Bool) → first_refusal (check 1 (not t || not (eqb (length l.block) P.layout.len)) ∷ []) ≡ 1
@@ -82,21 +82,21 @@ module _ (P : Product) (F : Formed P) where
     show_right : (side : P.Side) → Right (P.show side)
     unfolding c_checks part_of
     show_right side =
-        let a = show-answer P F side l in
+        let a = show_answer P F side l in
         let n : first_refusal (c_checks P (P.kind (P.show side)) l) ≡ 0 = λ i. first_refusal (c_checks P (F.showed side i) l) in
         record {
           when = λ m q. let z = sym a ∙ q in n ∙ (cc);
           given = λ z. absurd (z n);
-          accepts = λ z. ap isRefusal a;
+          accepts = λ z. ap is_refusal a;
           leaves = λ q. ap (λ (r : CDid). r.lent) (show_step P F side l);
         }
 
     on_right : (c : P.OnState) → Right (P.on c)
     unfolding c_checks
     on_right c =
-        let r : c_step P (P.on c) l ≡ refused_by 2 l = misfit_refused P F c l (other-misfits P F l e) in
-        by_first (P.on c) 2 ((λ i. first_refusal (c_checks P (F.called c i) l)) ∙ rw (other-misfits P F l e)) (λ z. omega arith)
-        (on-answer P F c l ∙ ap (λ (x : CDid). answer_of P.given x.word) r ∙ refusal_told P.given 2 (omega arith))
+        let r : c_step P (P.on c) l ≡ refused_by 2 l = misfit_refused P F c l (other_misfits P F l e) in
+        by_first (P.on c) 2 ((λ i. first_refusal (c_checks P (F.called c i) l)) ∙ rw (other_misfits P F l e)) (λ z. omega arith)
+        (on_answer P F c l ∙ ap (λ (x : CDid). answer_of P.given x.word) r ∙ refusal_told P.given 2 (omega arith))
         (ap (λ (x : CDid). x.lent) r)
 
   pub refused_exactly_in_c : Kept P → RefusedExactlyInC P
@@ -112,7 +112,7 @@ module _ (P : Product) (F : Formed P) where
           record {
             when = λ m q. sym n ∙ r.when m (sym a ∙ q);
             given = λ z. a ∙ r.given (λ q. z (sym n ∙ q)) ∙ ap refused n;
-            accepts = λ z. ap isRefusal a ∙ r.accepts (n ∙ z);
+            accepts = λ z. ap is_refusal a ∙ r.accepts (n ∙ z);
             leaves = refusal_keeps_all P F K c l h;
           }
 
@@ -126,7 +126,7 @@ module _ (P : Product) (F : Formed P) where
       (λ m e. (λ i. word_by P (F.created m i) (P.create m) w) ∙ ap word e)
       (λ side e. let z : part (shown P side (P.apart w)) ≡ refused n = sym (F.shows side w) ∙ e in cc)
       (λ x e. (λ i. word_by P (F.called x i) (P.on x) w)
-      ∙ (λ i. word_with (e i) (F.alone (P.on x) w (ap isRefusal e) i)) ∙ no_room_alone (refused n))
+      ∙ (λ i. word_with (e i) (F.alone (P.on x) w (ap is_refusal e) i)) ∙ no_room_alone (refused n))
       c
 
   -- with a block of another length
@@ -136,12 +136,12 @@ module _ (P : Product) (F : Formed P) where
       by_call P F (λ x. c_answer P x l ≡ refused n → c_step P x l ≡ refused_by n l)
       (λ m q.
       let r : c_step P (P.create m) l ≡ refused_by 1 l = wrong_block_refused P F m l e in
-      let t : refused 1 ≡ refused n = sym (create-answer P F m l ∙ ap (λ (x : CDid). answer_of P.given x.word) r ∙ refusal_told P.given 1 (omega arith)) ∙ q in
+      let t : refused 1 ≡ refused n = sym (create_answer P F m l ∙ ap (λ (x : CDid). answer_of P.given x.word) r ∙ refusal_told P.given 1 (omega arith)) ∙ q in
       r ∙ (λ i. record { word = word (t i); lent = l }))
-      (λ side q. let z = sym (show-answer P F side l) ∙ q in cc)
+      (λ side q. let z = sym (show_answer P F side l) ∙ q in cc)
       (λ x q.
-      let r : c_step P (P.on x) l ≡ refused_by 2 l = misfit_refused P F x l (other-misfits P F l e) in
-      let t : refused 2 ≡ refused n = sym (on-answer P F x l ∙ ap (λ (y : CDid). answer_of P.given y.word) r ∙ refusal_told P.given 2 (omega arith)) ∙ q in
+      let r : c_step P (P.on x) l ≡ refused_by 2 l = misfit_refused P F x l (other_misfits P F l e) in
+      let t : refused 2 ≡ refused n = sym (on_answer P F x l ∙ ap (λ (y : CDid). answer_of P.given y.word) r ∙ refusal_told P.given 2 (omega arith)) ∙ q in
       r ∙ (λ i. record { word = word (t i); lent = l }))
       c
 
@@ -154,5 +154,5 @@ module _ (P : Product) (F : Formed P) where
           let w : Whole P l = record { size = eqb-true (length l.block) P.layout.len q; lendable = h } in
           let a : said P c (opened P l) ≡ refused n = sym (answers_told P F K c l w) ∙ e in
           let number : (c_step P c l).word ≡ word (refused n) = (call_means P F K c l w).word ∙ refused_word c (opened P l) n a in
-          let left : (c_step P c l).lent ≡ l = refusal_keeps_all P F K c l h (ap isRefusal e) in
+          let left : (c_step P c l).lent ≡ l = refusal_keeps_all P F K c l h (ap is_refusal e) in
           λ i. record { word = number i; lent = left i }

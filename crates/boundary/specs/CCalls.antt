@@ -1,7 +1,7 @@
 -- What the C functions of a product do: numbers and buffers, the state in a lent block of one length, and refusal 2 for a block that is no
 -- fitting state; showing alone gets no refusal.
 use Rattle.std.specs.Prelude.{ℕ, ◌+◌, ◌*◌, ◌≡◌, Bool, cond, List, length, eqb}
-use Rattle.answers.specs.Answers.{Said, refused, part, isRefusal}
+use Rattle.answers.specs.Answers.{Said, refused, part, is_refusal}
 use Rattle.answers.specs.Word.{word, word_with}
 use Rattle.codec.specs.Blocks.{packed, meaning, fitting_block}
 use Rattle.boundary.specs.Product.{Product, Held, held, Kind, creating, showing, calling, shown, said, room, after}
@@ -52,7 +52,7 @@ module _ (P : Product) where
 
   -- the block after a call: a refusal leaves it as it was
   abbrev pub block_after : List ℕ → Said → P.State → List ℕ
-  block_after b d s = cond (isRefusal d) b (packed P.layout s)
+  block_after b d s = cond (is_refusal d) b (packed P.layout s)
 
   -- what a call did, for a caller that lent these buffers: the number of its answer, and what it left
   unfoldable pub closed : Lent → ℕ → Said → Held P.State → CDid

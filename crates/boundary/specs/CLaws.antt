@@ -2,7 +2,7 @@
 use Rattle.std.specs.Prelude.{ℕ, ◌/◌, ◌%◌, ◌≡◌, true, false, List, length, take, drop, eqb}
 use Rattle.machine.specs.Machine.{narrowed, AllFair, finally, Law, Obeys, ObeysAll}
 use Rattle.machine.specs.Opening.{Opens}
-use Rattle.answers.specs.Answers.{Answered, refused, isRefusal}
+use Rattle.answers.specs.Answers.{Answered, refused, is_refusal}
 use Rattle.boundary.specs.Product.{Product, Held, telling_of, machine_of, shown, said, room, after}
 use Rattle.boundary.specs.CCalls.{Lent, c_did, refused_by, store_of, opened, fitting, shown_word, c_step, CPromised}
 use Rattle.boundary.specs.Numbers.{c_answer, c_room}
@@ -43,7 +43,7 @@ module _ (P : Product) where
   -- Sizes and refusals, below the table: the number alone, and state, stores and block stay; of every C call whose number tells a refusal,
   -- whatever the block is and how long it is
   abbrev pub RefusalKeepsAll : Type 0
-  RefusalKeepsAll = (c : P.Call) (l : Lent) → Lendable P l → isRefusal (c_answer P c l) ≡ true → (c_step P c l).lent ≡ l
+  RefusalKeepsAll = (c : P.Call) (l : Lent) → Lendable P l → is_refusal (c_answer P c l) ≡ true → (c_step P c l).lent ≡ l
 
   -- the same with the whole number, and so without any room
   abbrev pub RefusalAlone : Type 0

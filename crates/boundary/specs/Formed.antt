@@ -1,6 +1,6 @@
 -- What a product has to be for its C functions to be what they promise: worlds and calls come apart, and every call refuses by its checks alone.
 use Rattle.std.specs.Prelude.{ℕ, ◌≡◌, true, false, List}
-use Rattle.answers.specs.Answers.{part, isRefusal}
+use Rattle.answers.specs.Answers.{part, is_refusal}
 use Rattle.answers.specs.Word.{value_of}
 use Rattle.answers.specs.Refusals.{first_refusal}
 use Rattle.answers.specs.Refusing.{Refuses}
@@ -10,7 +10,7 @@ use Rattle.boundary.specs.Product.{Product, Held, held, creating, showing, calli
 -- a create in two worlds with the same stores answers the same, and makes the same where it is done
 pub record MadeAlike (P : Product) (m : ℕ) (w v : P.World) : Type 0 where
   pub answer : said P (P.create m) w ≡ said P (P.create m) v
-  pub made : isRefusal (said P (P.create m) w) ≡ false → after P (P.create m) w ≡ after P (P.create m) v
+  pub made : is_refusal (said P (P.create m) w) ≡ false → after P (P.create m) w ≡ after P (P.create m) v
 
 pub record Formed (P : Product) : Type 0 where
   -- a world is its state and its stores, and there are calls of three kinds
@@ -31,7 +31,7 @@ pub record Formed (P : Product) : Type 0 where
   pub looks : (side : P.Side) (w : P.World) → after P (P.show side) w ≡ w
   pub creates : (m : ℕ) (s t : P.State) (xs ys : List ℕ) → MadeAlike P m (P.world (held s xs ys)) (P.world (held t xs ys))
   -- a refusal is its number alone, without any room; showing and create tell none at all
-  pub alone : (c : P.Call) (w : P.World) → isRefusal (said P c w) ≡ true → room P c w ≡ 0
+  pub alone : (c : P.Call) (w : P.World) → is_refusal (said P c w) ≡ true → room P c w ≡ 0
   pub shows_alone : (side : P.Side) (w : P.World) → room P (P.show side) w ≡ 0
   pub creates_alone : (m : ℕ) (w : P.World) → room P (P.create m) w ≡ 0
   -- the answer that kind 2 makes of a value has that value

@@ -7,7 +7,7 @@ use lib.ListN.{length}
 use borrow.Author.Tests.{eq-eqb, eqb-true}
 use Rattle.state.specs.declared.Out.{Out}
 use Rattle.state.specs.declared.Out.TheVariants.{Own, Held, Nothing}
-use Rattle.answers.specs.Answers.{said, byte, refused, is_byte, byteIn}
+use Rattle.answers.specs.Answers.{said, byte, refused, is_byte, byte_in}
 use Rattle.state.specs.Sizes.{fits}
 use Rattle.line.specs.HoldingOff.{is_next, out_answer}
 use Rattle.bridge.specs.Calls.{on, ask_line_byte, take_line_byte, next_of, World, Did, looked, checks_on, checks, outcome, settled_by, rx_after, tx_after}
@@ -55,9 +55,9 @@ named (Held x) b e = ap byte (eqb-true x b e)
 named Nothing b e = absurd (false≢true e)
 
 pub not_named : (o : Out) (b : ℕ) → is_next o b ≡ false → said (out_answer o) ≡ byte b → ⊥
-unfolding is_next out_answer said is_byte byteIn
-not_named (Own x) b e q = false≢true (sym e ∙ eq-eqb x b (ap byteIn q))
-not_named (Held x) b e q = false≢true (sym e ∙ eq-eqb x b (ap byteIn q))
+unfolding is_next out_answer said is_byte byte_in
+not_named (Own x) b e q = false≢true (sym e ∙ eq-eqb x b (ap byte_in q))
+not_named (Held x) b e q = false≢true (sym e ∙ eq-eqb x b (ap byte_in q))
 not_named Nothing b e q = false≢true (ap is_byte q)
 
 -- ---- what an ask leaves, and what it finds

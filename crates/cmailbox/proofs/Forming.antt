@@ -7,7 +7,7 @@ use mathlib.Core.List.{List}
 use lib.ListN.{length}
 use Rattle.answers.specs.Refusals.{Check, first_refusal}
 use Rattle.answers.specs.Refusing.{Refuses}
-use Rattle.answers.specs.Answers.{isRefusal}
+use Rattle.answers.specs.Answers.{is_refusal}
 use Rattle.answers.specs.Word.{value_of}
 use Rattle.boundary.specs.Product as product
 use Rattle.boundary.specs.Formed.{Formed}
@@ -39,11 +39,11 @@ module _ (a : ℕ) (s t : State) (xs ys : List ℕ) where
       pick true e = rw e
       pick false e = rw e
 
-  same_made : isRefusal (from s).said ≡ false → (from s).world ≡ (from t).world
+  same_made : is_refusal (from s).said ≡ false → (from s).world ≡ (from t).world
   unfolding step refused_or checks not_refused
   same_made = pick (sizes_obeyed a (length xs) (length ys)) refl
     where
-      pick : (u : Bool) → sizes_obeyed a (length xs) (length ys) ≡ u → isRefusal (from s).said ≡ false → (from s).world ≡ (from t).world
+      pick : (u : Bool) → sizes_obeyed a (length xs) (length ys) ≡ u → is_refusal (from s).said ≡ false → (from s).world ≡ (from t).world
       pick true e h = rw e
       pick false e h = absurd (false≢true (sym (rw e at h)))
 

@@ -2,7 +2,7 @@
 #![tactic(auto)]
 
 ghost use Rattle.std.specs.Prelude.{◌≡◌, false, not, length, eqb};
-ghost use Rattle.answers.specs.Answers.{said, isRefusal};
+ghost use Rattle.answers.specs.Answers.{said, is_refusal};
 ghost use Rattle.answers.specs.Word.{word};
 ghost use Rattle.boundary.specs.CCalls.{lent, c_did, block_after, place_of};
 ghost use Rattle.mailblock.specs.Packed.{block_len};
@@ -14,7 +14,7 @@ use mailstate::{Outcome, State};
 
 // Writes the state over the block, unless the call was refused, and gives the answer's number.
 fn finished(block: &mut [u8], o: Outcome) -> u64
-    requires { isRefusal (said o.answer) ≡ false → length block.old ≡ block_len }
+    requires { is_refusal (said o.answer) ≡ false → length block.old ≡ block_len }
     ensures { (result ≡ word (said o.answer)) × (block.new ≡ block_after mailboxes block.old (said o.answer) o.state) }
 {
     let a = o.answer;

@@ -11,7 +11,7 @@ use Rattle.state.specs.declared.State.{State}
 use Rattle.state.specs.declared.Outcome.{Outcome}
 use Rattle.state.specs.declared.Out.{Out}
 use Rattle.state.specs.declared.Out.TheVariants as out
-use Rattle.answers.specs.Answers.{Said, frame, refused, said, isRefusal, byteOrRefused, frameOrRefused}
+use Rattle.answers.specs.Answers.{Said, frame, refused, said, is_refusal, byte_or_refused, frame_or_refused}
 use Rattle.line.specs.HoldingOff.{next_out, out_answer}
 use Rattle.loopside.specs.Sends.{ended, send_state, send_from, send_status}
 use Rattle.loopside.specs.Frames.{frame_taken}
@@ -30,8 +30,8 @@ use Rattle.laws.proofs.Ways.{is_obeyed, is_assigned, is_send_asked, is_told, is_
 -- an answer that is a frame: it is one that a loop frame can have, and no refusal
 record Framed (x : Said) : Type 0 where
   frame : is_frame x ≡ true
-  answer : frameOrRefused x ≡ true
-  pub taken : isRefusal x ≡ false
+  answer : frame_or_refused x ≡ true
+  pub taken : is_refusal x ≡ false
 
 framed : (k d : ℕ) → Framed (frame k d)
 framed k d = record { frame = refl; answer = refl; taken = refl }
@@ -58,24 +58,24 @@ way_framed s rx f o (is_finishing r a x y z) = framed _ _
 way_framed s rx f o (is_ready r a x y z) = framed _ _
 way_framed s rx f o (is_identified r) = framed _ _
 
-frame-framed : (s : State) (rx : List ℕ) (f : ℕ) → Framed (said (frame_taken s rx f).answer)
-frame-framed s rx f = way_framed s rx f (frame_taken s rx f) (way s rx f)
+frame_framed : (s : State) (rx : List ℕ) (f : ℕ) → Framed (said (frame_taken s rx f).answer)
+frame_framed s rx f = way_framed s rx f (frame_taken s rx f) (way s rx f)
 
-pub frame-answered : (s : State) (rx : List ℕ) (f : ℕ) → is_frame (said (frame_taken s rx f).answer) ≡ true
-frame-answered s rx f = (frame-framed s rx f).frame
+pub frame_answered : (s : State) (rx : List ℕ) (f : ℕ) → is_frame (said (frame_taken s rx f).answer) ≡ true
+frame_answered s rx f = (frame_framed s rx f).frame
 
-pub frame-not-refused : (s : State) (rx : List ℕ) (f : ℕ) → isRefusal (said (frame_taken s rx f).answer) ≡ false
-frame-not-refused s rx f = (frame-framed s rx f).taken
+pub frame_not_refused : (s : State) (rx : List ℕ) (f : ℕ) → is_refusal (said (frame_taken s rx f).answer) ≡ false
+frame_not_refused s rx f = (frame_framed s rx f).taken
 
 -- ---- every call that is accepted
 
-out-said : (o : Out) → byteOrRefused (said (out_answer o)) ≡ true
+out_said : (o : Out) → byte_or_refused (said (out_answer o)) ≡ true
 unfolding out_answer said
-out-said (out.Own b) = refl
-out-said (out.Held b) = refl
-out-said out.Nothing = refl
+out_said (out.Own b) = refl
+out_said (out.Held b) = refl
+out_said out.Nothing = refl
 
-out_taken : (o : Out) → isRefusal (said (out_answer o)) ≡ false
+out_taken : (o : Out) → is_refusal (said (out_answer o)) ≡ false
 unfolding out_answer said
 out_taken (out.Own b) = refl
 out_taken (out.Held b) = refl
@@ -84,7 +84,7 @@ out_taken out.Nothing = refl
 -- what a call answers when it is not refused is no refusal
 pub record Accepted (c : Call) (x : Said) : Type 0 where
   pub answer : can_answer c x ≡ true
-  pub taken : isRefusal x ≡ false
+  pub taken : is_refusal x ≡ false
 
 pub accepted : (c : Call) (w : World) → Accepted c (not_refused c w).said
 unfolding not_refused outcome said
@@ -98,9 +98,9 @@ accepted (on key) w = record { answer = refl; taken = refl }
 accepted (on (take_line_byte b)) w = record { answer = refl; taken = refl }
 accepted (on ask_line_byte) w =
     let o = next_out w.state w.tx in
-    record { answer = out-said o; taken = out_taken o }
+    record { answer = out_said o; taken = out_taken o }
 accepted (on (loop_frame f)) w =
-    let h = frame-framed w.state w.rx f in
+    let h = frame_framed w.state w.rx f in
     record { answer = h.answer; taken = h.taken }
 
 -- every call can answer a refusal but showing, which has no checks
@@ -125,19 +125,19 @@ pub refuses : (c : Call) (w : World) → Refuses (step c w).said (step c w).worl
 refuses c w =
     by_refusal (λ d. Refuses d.said d.world (first_refusal (checks c w)) w) c w
     (λ e. record {
-      when = λ m h. absurd (false≢true (sym taken ∙ ap isRefusal h));
+      when = λ m h. absurd (false≢true (sym taken ∙ ap is_refusal h));
       given = λ h. absurd (h e);
       accepts = λ h. taken;
       leaves = λ h. absurd (false≢true (sym taken ∙ h));
     })
     (λ h. record { when = λ m q. cc; given = λ q. refl; accepts = λ q. absurd (h q); leaves = λ q. refl })
   where
-    taken : isRefusal (not_refused c w).said ≡ false
+    taken : is_refusal (not_refused c w).said ≡ false
     taken = (accepted c w).taken
 
 pub refused_exactly : Obeys (bridge step) RefusedExactly
 refused_exactly c w _ = refuses c w
 
 -- a refused call leaves all as it was, in every world
-pub refusal-leaves : (c : Call) (w : World) → isRefusal (step c w).said ≡ true → (step c w).world ≡ w
-refusal-leaves c w = (refuses c w).leaves
+pub refusal_leaves : (c : Call) (w : World) → is_refusal (step c w).said ≡ true → (step c w).world ≡ w
+refusal_leaves c w = (refuses c w).leaves

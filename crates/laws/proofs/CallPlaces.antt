@@ -44,7 +44,7 @@ use Rattle.laws.specs.StorePlaces.{written_to, Places}
 use Rattle.laws.proofs.Refusing.{by_refusal, fitting, frame_fitting}
 use Rattle.places.proofs.GoingOn.{places_go_on}
 use Rattle.places.proofs.OneStore.{placed_still, placed_same, placed_emptied, placed_added, placed_marked}
-use Rattle.laws.proofs.Answers.{frame-not-refused}
+use Rattle.laws.proofs.Answers.{frame_not_refused}
 use Rattle.laws.proofs.FramePlaces.{Kind, clears, stores, other, frame_kind}
 
 -- both stores, which are emptied or not and in which a and b are written
@@ -223,7 +223,7 @@ done_places (on (take_line_byte b)) w h =
 done_places (on (loop_frame n)) w h =
     let x = frame_fitting n w h in
     let t : State = (frame_taken w.state w.rx n).state in
-    rw (frame-not-refused w.state w.rx n, ← stores_same w x.0 n)
+    rw (frame_not_refused w.state w.rx n, ← stores_same w x.0 n)
     (none w (by_kind w x.0 n t x.1.1 (frame_kind w.rx w.state (rx_fits w.state w.rx w.tx x.0).ring n)))
 
 both_placed : (c : Call) (w : World) → PlacesOf c w (step c w)

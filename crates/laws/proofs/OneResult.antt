@@ -5,7 +5,7 @@ use mathlib.Core.Bool.{Bool, true, false, false≢true}
 use mathlib.Core.List.{List}
 use lib.ListN.{length}
 use Rattle.answers.specs.Answers.{part, said}
-use Rattle.answers.proofs.Answers.{said-one}
+use Rattle.answers.proofs.Answers.{said_one}
 use Rattle.state.specs.declared.Outcome.{Outcome}
 use Rattle.state.specs.Sizes.{sizes_obeyed, start_state}
 use Rattle.bridge.specs.Calls.{create, Did, did, told, checks, not_refused, refused_or, step, Promised, unmade}
@@ -17,7 +17,7 @@ same : (o₁ o₂ : Outcome) (r₁ r₂ : ℕ) (rx₁ rx₂ tx₁ tx₂ : List �
     told (record { outcome = o₁; room = r₁ }) rx₁ tx₁ ≡ told (record { outcome = o₂; room = r₂ }) rx₂ tx₂ → Same o₁ o₂ rx₁ rx₂ tx₁ tx₂
 same o₁ o₂ r₁ r₂ rx₁ rx₂ tx₁ tx₂ e =
     record {
-      reply = said-one o₁.answer o₂.answer (ap (λ (d : Did). d.said) e);
+      reply = said_one o₁.answer o₂.answer (ap (λ (d : Did). d.said) e);
       state = ap (λ (d : Did). d.world.state) e;
       rx = ap (λ (d : Did). d.world.rx) e;
       tx = ap (λ (d : Did). d.world.tx) e;
@@ -29,7 +29,7 @@ one_result =
       calls = λ c w o₁ o₂ rx₁ rx₂ tx₁ tx₂ p q. same o₁ o₂ 0 0 rx₁ rx₂ tx₁ tx₂ (p ∙ sym q);
       tells = λ c w t₁ t₂ rx₁ rx₂ tx₁ tx₂ p q.
           record { outcome = same _ _ _ _ rx₁ rx₂ tx₁ tx₂ (p ∙ sym q); room = ap (λ (d : Did). d.room) (p ∙ sym q) };
-      asked = λ w a₁ a₂ p q. said-one a₁ a₂ (ap (λ (d : Did). d.said) (p ∙ sym q));
+      asked = λ w a₁ a₂ p q. said_one a₁ a₂ (ap (λ (d : Did). d.said) (p ∙ sym q));
       shown = λ side w x₁ x₂ p q. let e : part x₁ ≡ part x₂ = ap (λ (d : Did). d.said) (p ∙ sym q) in cc;
     }
 

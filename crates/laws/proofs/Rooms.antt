@@ -4,7 +4,7 @@ use mathlib.Core.Path.{◌≡◌, refl, sym, ◌∙◌}
 use mathlib.Core.Bool.{true, cond, not, false≢true}
 use mathlib.Core.List.{List}
 use Rattle.machine.specs.Machine.{Obeys}
-use Rattle.answers.specs.Answers.{isRefusal}
+use Rattle.answers.specs.Answers.{is_refusal}
 use Rattle.answers.specs.Refusals.{first_refusal}
 use Rattle.store.specs.declared.Ring.{Ring}
 use Rattle.store.specs.Ring.{Fit, held, room}
@@ -46,7 +46,7 @@ module _ (w : World) where
 
 pub room_told : Obeys (telling step) RoomTold
 room_told c w _ =
-    by_refusal (λ (d : Did). d.room ≡ cond (not (isRefusal d.said)) (room_there d.world c) 0) c w
+    by_refusal (λ (d : Did). d.room ≡ cond (not (is_refusal d.said)) (room_there d.world c) 0) c w
     (λ h. told_there w c h ∙ sym (rw (accepted c w).taken)) (λ _. refl)
 
 -- a call that is taken tells the room of the state that it leaves

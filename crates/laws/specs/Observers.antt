@@ -7,7 +7,7 @@ use Rattle.role.specs.Role.{addressed, active_data, is_active}
 use Rattle.store.specs.Ring.{full}
 use Rattle.reading.specs.Received.{Received, a_byte, a_break}
 use Rattle.state.specs.declared.State.{State}
-use Rattle.answers.specs.Answers.{Said, done, none, byte, frame, refused, part, cell, lines, isRefusal}
+use Rattle.answers.specs.Answers.{Said, done, none, byte, frame, refused, part, cell, lines, is_refusal}
 use Rattle.loopside.specs.Frames.{device_clear}
 use Rattle.laws.specs.Worlds.{holds_some}
 use Rattle.bridge.specs.Calls.{OnState, reset, line_break, ask_line_byte, Call, create, show, on, on_state, of_frame, of_line_byte, of_take, of_write, is, World}
@@ -16,7 +16,7 @@ use Rattle.bridge.specs.Calls.{OnState, reset, line_break, ask_line_byte, Call, 
 
 -- the call was not refused
 abbrev pub taken : Said → Bool
-taken a = not (isRefusal a)
+taken a = not (is_refusal a)
 
 -- the answer is a frame
 abbrev pub is_frame : Said → Bool

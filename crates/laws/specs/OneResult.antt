@@ -4,7 +4,7 @@ use Rattle.std.specs.Prelude.{ℕ, ◌≡◌, true, false, List}
 use Rattle.state.specs.declared.State.{State}
 use Rattle.state.specs.declared.Outcome.{Outcome}
 use Rattle.answers.specs.declared.Answer.{Answer}
-use Rattle.answers.specs.Answers.{said, isRefusal}
+use Rattle.answers.specs.Answers.{said, is_refusal}
 use Rattle.bridge.specs.declared.Told.{Told}
 use Rattle.bridge.specs.Calls.{Store, ask_line_byte, Call, create, show, on, World, Did, world, did, told, looked, handed, step, Promised, unmade}
 
@@ -37,8 +37,8 @@ pub record OneResult : Type 0 where
 pub record CreatedAnywhere (m : ℕ) (rx tx : List ℕ) (s : State) (d : Did) : Type 0 where
   pub answer : (step (create m) (world s rx tx)).said ≡ d.said
   pub room : (step (create m) (world s rx tx)).room ≡ d.room
-  pub made : isRefusal d.said ≡ false → (step (create m) (world s rx tx)).world ≡ d.world
-  pub kept : isRefusal d.said ≡ true → (step (create m) (world s rx tx)).world ≡ world s rx tx
+  pub made : is_refusal d.said ≡ false → (step (create m) (world s rx tx)).world ≡ d.world
+  pub kept : is_refusal d.said ≡ true → (step (create m) (world s rx tx)).world ≡ world s rx tx
 
 abbrev pub CreateTakesNoState : Type 0
 CreateTakesNoState = (m : ℕ) (rx tx : List ℕ) (s : State) (d : Did) → Promised (create m) (unmade m rx tx) d → CreatedAnywhere m rx tx s d

@@ -13,7 +13,7 @@ use Rattle.frame.specs.Frame.{control_of, data_of}
 use Rattle.frame.proofs.Laws.{service_small, data_small}
 use Rattle.answers.specs.Refusals.{first_refusal}
 use Rattle.answers.specs.Refusing.{Refuses}
-use Rattle.answers.specs.Answers.{Said, frame, refused, said, isRefusal}
+use Rattle.answers.specs.Answers.{Said, frame, refused, said, is_refusal}
 use Rattle.answers.specs.declared.Answer.{Answer}
 use Rattle.answers.specs.declared.Answer.TheVariants as answer
 use Rattle.store.specs.Ring.{held}
@@ -105,7 +105,7 @@ loop_framed f w e =
 -- what a call answers when it is not refused: one of its answers, narrow and no refusal
 record Replied (c : Call) (x : Said) : Type 0 where
   answer : can_answer c x ≡ true
-  taken : isRefusal x ≡ false
+  taken : is_refusal x ≡ false
   narrow : is_narrow x ≡ true
 
 frame_replied : (f : ℕ) (o : Outcome) → Framed o → Replied (on (loop_frame f)) (said o.answer)
@@ -148,7 +148,7 @@ replied (on bus_lines) w e =
       narrow = lt-ltb _ 512 (lines_small w.state (parts w.tobus w.toloop w.state (fitting bus_lines w e).0).bus.line);
     }
 
-pub loop_taken : (f : ℕ) (w : World) → first_refusal (checks (on (loop_frame f)) w) ≡ 0 → isRefusal (said (frame_taken w.state w.toloop f).answer) ≡ false
+pub loop_taken : (f : ℕ) (w : World) → first_refusal (checks (on (loop_frame f)) w) ≡ 0 → is_refusal (said (frame_taken w.state w.toloop f).answer) ≡ false
 loop_taken f w e = (frame_replied f _ (loop_framed f w e)).taken
 
 -- ---- the laws
@@ -177,7 +177,7 @@ pub refused_exactly : Obeys (mailbox step) RefusedExactly
 refused_exactly c w _ =
     by_refusal (λ (d : Did). Refuses d.said d.world (first_refusal (checks c w)) w) c w
     (λ e. record {
-      when = λ m h. absurd (false≢true (sym (replied c w e).taken ∙ ap isRefusal h));
+      when = λ m h. absurd (false≢true (sym (replied c w e).taken ∙ ap is_refusal h));
       given = λ h. absurd (h e);
       accepts = λ h. (replied c w e).taken;
       leaves = λ h. absurd (false≢true (sym (replied c w e).taken ∙ h));

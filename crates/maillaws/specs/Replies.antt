@@ -4,24 +4,24 @@ use Rattle.machine.specs.Machine.{of_calls}
 use Rattle.answers.specs.Refusals.{first_refusal}
 use Rattle.answers.specs.Refusing.{Refuses}
 use Rattle.answers.specs.Answers.{Said, done, none, byte, frame, refused, part, cell, lines}
-use Rattle.answers.specs.Answers.{doneOrRefused, cellOrRefused, linesOrRefused, frameOrRefused, isPart}
+use Rattle.answers.specs.Answers.{done_or_refused, cell_or_refused, lines_or_refused, frame_or_refused, is_part}
 use Rattle.mailbox.specs.Calls.{OnState, reset, loop_frame, bus_command, bus_byte, bus_fetch, bus_clear, bus_lines, Call, create, show, on, checks}
 use Rattle.maillaws.specs.Mailboxes.{Law}
 use Rattle.maillaws.specs.Sights.{taken, is_frame}
 
 -- the answers of each call
 abbrev pub can_answer_on : OnState → Said → Bool
-can_answer_on (loop_frame f) x = frameOrRefused x
-can_answer_on bus_fetch x = cellOrRefused x
-can_answer_on bus_lines x = linesOrRefused x
-can_answer_on reset x = doneOrRefused x
-can_answer_on (bus_command c) x = doneOrRefused x
-can_answer_on (bus_byte b mark) x = doneOrRefused x
-can_answer_on bus_clear x = doneOrRefused x
+can_answer_on (loop_frame f) x = frame_or_refused x
+can_answer_on bus_fetch x = cell_or_refused x
+can_answer_on bus_lines x = lines_or_refused x
+can_answer_on reset x = done_or_refused x
+can_answer_on (bus_command c) x = done_or_refused x
+can_answer_on (bus_byte b mark) x = done_or_refused x
+can_answer_on bus_clear x = done_or_refused x
 
 abbrev pub can_answer : Call → Said → Bool
-can_answer (create a) x = doneOrRefused x
-can_answer (show side) x = isPart x
+can_answer (create a) x = done_or_refused x
+can_answer (show side) x = is_part x
 can_answer (on c) x = can_answer_on c x
 
 -- every call answers one of these

@@ -4,7 +4,7 @@ use Rattle.frame.specs.Frame.{control_of, data_of, made, is_data, is_end, same_a
 use Rattle.store.specs.declared.Ring.{Ring}
 use Rattle.store.specs.Ring.{held}
 use Rattle.news.specs.declared.News.{News}
-use Rattle.answers.specs.Answers.{Said, done, none, byte, frame, refused, part, cell, lines, isRefusal}
+use Rattle.answers.specs.Answers.{Said, done, none, byte, frame, refused, part, cell, lines, is_refusal}
 use Rattle.mailbox.specs.Calls.{OnState, reset, loop_frame, bus_command, bus_byte, bus_fetch, bus_clear, bus_lines}
 use Rattle.mailbox.specs.Calls.{Call, create, show, on, on_state, of_frame, of_bus_byte, World}
 
@@ -43,7 +43,7 @@ waits d w = map counted (held (store_of d w) (ring_of d w))
 
 -- the call was not refused
 abbrev pub taken : Said → Bool
-taken a = not (isRefusal a)
+taken a = not (is_refusal a)
 
 -- what is seen of a frame, and of any other answer
 abbrev pub of_frame_said : {X : Type 0} → (ℕ → ℕ → X) → X → Said → X

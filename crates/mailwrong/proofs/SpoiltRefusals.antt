@@ -3,7 +3,7 @@ use native.Mathlib.Omega.{arith}
 use mathlib.Core.Path.{refl, ap}
 use mathlib.Core.Bool.{false≢true, true≢false}
 use lib.Dec.{eqb}
-use Rattle.answers.specs.Answers.{isRefusal}
+use Rattle.answers.specs.Answers.{is_refusal}
 use Rattle.mailbox.specs.Calls.{bus_lines, on, World}
 use Rattle.maillaws.specs.Sights.{to_bus, to_loop}
 use Rattle.maillaws.specs.Replies.{RefusedExactly, RefusedStays}
@@ -34,24 +34,24 @@ refuses_last_place_to_loop_falls law = true≢false ((law (leaves to_loop 57) (w
 -- the state does not fit, and the lines are looked at
 pub takes_misfit_falls : Breaks (overlooks 2) RefusedExactly
 unfolding computes
-takes_misfit_falls law = false≢true (ap isRefusal ((law (on bus_lines) misfitting tt).given (λ e. omega arith)))
+takes_misfit_falls law = false≢true (ap is_refusal ((law (on bus_lines) misfitting tt).given (λ e. omega arith)))
 
 pub takes_frame_2048_falls : Breaks (overlooks 3) RefusedExactly
 unfolding computes
-takes_frame_2048_falls law = false≢true (ap isRefusal ((law (takes 8 0) fresh tt).given (λ e. omega arith)))
+takes_frame_2048_falls law = false≢true (ap is_refusal ((law (takes 8 0) fresh tt).given (λ e. omega arith)))
 
 pub takes_command_128_falls : Breaks (overlooks 13) RefusedExactly
 unfolding computes
-takes_command_128_falls law = false≢true (ap isRefusal ((law (commands 128) fresh tt).given (λ e. omega arith)))
+takes_command_128_falls law = false≢true (ap is_refusal ((law (commands 128) fresh tt).given (λ e. omega arith)))
 
 -- there is no room
 pub replaces_newest_to_bus_takes : Breaks (replaces_newest to_bus) RefusedExactly
 unfolding computes
-replaces_newest_to_bus_takes law = false≢true (ap isRefusal ((law (leaves to_bus 57) (waiting to_bus 2 (leaver to_bus)) tt).given (λ e. omega arith)))
+replaces_newest_to_bus_takes law = false≢true (ap is_refusal ((law (leaves to_bus 57) (waiting to_bus 2 (leaver to_bus)) tt).given (λ e. omega arith)))
 
 pub replaces_newest_to_loop_takes : Breaks (replaces_newest to_loop) RefusedExactly
 unfolding computes
-replaces_newest_to_loop_takes law = false≢true (ap isRefusal ((law (leaves to_loop 57) (waiting to_loop 2 (leaver to_loop)) tt).given (λ e. omega arith)))
+replaces_newest_to_loop_takes law = false≢true (ap is_refusal ((law (leaves to_loop 57) (waiting to_loop 2 (leaver to_loop)) tt).given (λ e. omega arith)))
 
 -- ---- refused, and something is changed
 

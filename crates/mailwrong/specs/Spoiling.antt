@@ -7,7 +7,7 @@ use Rattle.news.specs.declared.News.{News}
 use Rattle.way.specs.declared.Way.{Way}
 use Rattle.bus.specs.declared.Bus.{Bus}
 use Rattle.answers.specs.Refusals.{first_refusal}
-use Rattle.answers.specs.Answers.{Said, done, none, byte, frame, refused, part, cell, lines, isRefusal}
+use Rattle.answers.specs.Answers.{Said, done, none, byte, frame, refused, part, cell, lines, is_refusal}
 use Rattle.mailstate.specs.declared.State.{State}
 use Rattle.mailstate.specs.State.{with_to_bus, with_to_loop, with_talker, with_bus}
 use Rattle.mailbox.specs.Calls.{Call, World, world, Did, checks, not_refused, step}
@@ -32,7 +32,7 @@ abbrev pub leaving : (Call → World → World → World) → Call → World →
 leaving change c w =
     record {
       said = (step c w).said;
-      world = cond (isRefusal (step c w).said) (step c w).world (change c w (step c w).world);
+      world = cond (is_refusal (step c w).said) (step c w).world (change c w (step c w).world);
     }
 
 -- a world with the state changed
@@ -47,7 +47,7 @@ after_sight seen change = leaving (λ c w v. having (λ s. cond (seen c w (step 
 abbrev pub answering : (Call → World → Said → Said) → Call → World → Did
 answering change c w =
     record {
-      said = cond (isRefusal (step c w).said) (step c w).said (change c w (step c w).said);
+      said = cond (is_refusal (step c w).said) (step c w).said (change c w (step c w).said);
       world = (step c w).world;
     }
 

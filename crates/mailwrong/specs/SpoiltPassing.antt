@@ -2,7 +2,7 @@
 use Rattle.std.specs.Prelude.{ℕ, ◌+◌, ◌%◌, Bool, false, cond, ◌&&◌, ◌||◌, not, eqb}
 use Rattle.frame.specs.Frame.{control_of, data_of, made}
 use Rattle.role.specs.Role.{with_listener, with_phase}
-use Rattle.answers.specs.Answers.{Said, frame, isRefusal}
+use Rattle.answers.specs.Answers.{Said, frame, is_refusal}
 use Rattle.mailstate.specs.State.{with_talker, with_source}
 use Rattle.mailbox.specs.Calls.{Call, World, Did, step}
 use Rattle.maillaws.specs.Sights.{on_frame}
@@ -37,7 +37,7 @@ sends_unasked =
 -- passes send device ID and send accessory ID on
 abbrev pub has_no_id : Call → World → Did
 has_no_id =
-    instead_at (λ c w a. on_frame (λ f. (eqb f (made 5 98) || eqb f (made 5 99)) && not (isRefusal a)) false c)
+    instead_at (λ c w a. on_frame (λ f. (eqb f (made 5 98) || eqb f (made 5 99)) && not (is_refusal a)) false c)
     (λ c w. on_frame (λ f. record { said = frame 5 (data_of f); world = w }) (step c w) c)
 
 -- sends a line feed behind every byte of an ID, for ever

@@ -3,7 +3,7 @@ use Rattle.std.specs.Prelude.{ℕ, ◌-◌, Bool, true, false, cond, ◌&&◌, �
 use Rattle.frame.specs.Frame.{control_of, data_of, made, is_data, is_end}
 use Rattle.store.specs.declared.Ring.{Ring}
 use Rattle.store.specs.Ring.{put_ring, put_bytes}
-use Rattle.answers.specs.Answers.{ofRefusal}
+use Rattle.answers.specs.Answers.{of_refusal}
 use Rattle.mailbox.specs.Calls.{Call, World, Did, step}
 use Rattle.maillaws.specs.Sights.{Direction, to_bus, to_loop, store_of, ring_of, on_frame, on_bus_byte, loop_listens, loop_active, bus_listens, cell_for, left}
 use Rattle.mailwrong.specs.Spoiling.{Sight, instead_at, leaving, with_ring, with_cells}
@@ -22,7 +22,7 @@ offers to_loop = on_bus_byte (λ b mark. true) false
 
 -- a byte is offered to the way, and there is no room for it
 abbrev pub overflows : Direction → Sight
-overflows d c w a = offers d c && ofRefusal (λ n. eqb n 4) false a
+overflows d c w a = offers d c && of_refusal (λ n. eqb n 4) false a
 
 -- takes a byte for which the way d has no room, in the place of the newest one
 abbrev pub replaces_newest : Direction → Call → World → Did

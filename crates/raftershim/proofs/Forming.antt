@@ -6,7 +6,7 @@ use mathlib.Core.List.{List}
 use lib.ListN.{length}
 use Rattle.answers.specs.Refusals.{Check, first_refusal}
 use Rattle.answers.specs.Refusing.{Refuses}
-use Rattle.answers.specs.Answers.{part, isRefusal}
+use Rattle.answers.specs.Answers.{part, is_refusal}
 use Rattle.answers.specs.Word.{value_of}
 use Rattle.boundary.specs.Product as product
 use Rattle.boundary.specs.Formed.{Formed}
@@ -39,11 +39,11 @@ module _ (m : ℕ) (s t : State) (xs ys : List ℕ) where
       pick true e = rw e
       pick false e = rw e
 
-  same_made : isRefusal (from s).said ≡ false → (from s).world ≡ (from t).world
+  same_made : is_refusal (from s).said ≡ false → (from s).world ≡ (from t).world
   unfolding step refused_or checks not_refused
   same_made = pick (sizes_obeyed m (length xs) (length ys)) refl
     where
-      pick : (u : Bool) → sizes_obeyed m (length xs) (length ys) ≡ u → isRefusal (from s).said ≡ false → (from s).world ≡ (from t).world
+      pick : (u : Bool) → sizes_obeyed m (length xs) (length ys) ≡ u → is_refusal (from s).said ≡ false → (from s).world ≡ (from t).world
       pick true e h = rw e
       pick false e h = absurd (false≢true (sym (rw e at h)))
 
@@ -59,9 +59,9 @@ named (show side) = refl
 named (on c) = refl
 
 -- a refusal tells no room, and create tells none at all
-alone : (c : Call) (w : World) → isRefusal (step c w).said ≡ true → (step c w).room ≡ 0
+alone : (c : Call) (w : World) → is_refusal (step c w).said ≡ true → (step c w).room ≡ 0
 alone c w =
-    by_refusal (λ (d : Did). isRefusal d.said ≡ true → d.room ≡ 0) c w
+    by_refusal (λ (d : Did). is_refusal d.said ≡ true → d.room ≡ 0) c w
     (λ _ e. absurd (false≢true (sym (bridge-answers.accepted c w).taken ∙ e)))
     (λ _ e. refl)
 

@@ -3,7 +3,7 @@
 #![tactic(auto)]
 
 ghost use Rattle.std.specs.Prelude.{◌≡◌, false, length};
-ghost use Rattle.answers.specs.Answers.{said, isRefusal};
+ghost use Rattle.answers.specs.Answers.{said, is_refusal};
 ghost use Rattle.block.specs.Packed.{block_len};
 ghost use Rattle.bridge.specs.Calls.{create, show, receive, transmit, on, reset, write, line_byte, line_break, key};
 ghost use Rattle.bridge.specs.Calls.{ask_line_byte, take_line_byte, loop_frame};
@@ -15,7 +15,7 @@ use state::Outcome;
 
 // Writes the state over the block, unless the call was refused, and gives the answer's number, which tells this room; 0 where none is told.
 fn finished(block: &mut [u8], o: Outcome, room: u16) -> u64
-    requires { isRefusal (said o.answer) ≡ false → length block.old ≡ block_len }
+    requires { is_refusal (said o.answer) ≡ false → length block.old ≡ block_len }
     ensures { (result ≡ word_with (said o.answer) room) × (block.new ≡ block_after block.old (said o.answer) o.state) }
 {
     let a = o.answer;

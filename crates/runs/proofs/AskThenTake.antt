@@ -15,7 +15,7 @@ use Rattle.state.specs.declared.Out.{Out}
 use Rattle.state.specs.declared.Out.TheVariants.{Own, Held, Nothing}
 use Rattle.state.specs.State.{with_tx}
 use Rattle.state.specs.Conditions.{with_request, settled}
-use Rattle.answers.specs.Answers.{Said, said, done, byte, refused, is_byte, faultOf}
+use Rattle.answers.specs.Answers.{Said, said, done, byte, refused, is_byte, fault_of}
 use Rattle.state.proofs.Fits.{tx_fits}
 use Rattle.line.specs.HoldingOff.{owed, next_out, is_next, gone, out_answer}
 use Rattle.bridge.specs.Calls.{on, ask_line_byte, take_line_byte, show, create, Call, next_of, World, Did, checks, outcome, settled_by}
@@ -172,10 +172,10 @@ module _ (w : World) (F : Fits w) (b : ℕ) where
 
 -- a take is done only where the state fits and the byte is next
 done_next : (b : ℕ) (w : World) → answer (on (take_line_byte b)) w ≡ done → Fits w × (is_next (next_of w) b ≡ true)
-unfolding faultOf
-done_next b w q = go (fitted w) (is_next (next_of w) b) (ap (λ (d : Did). faultOf d.said) (sym (take_is b w)) ∙ ap faultOf q)
+unfolding fault_of
+done_next b w q = go (fitted w) (is_next (next_of w) b) (ap (λ (d : Did). fault_of d.said) (sym (take_is b w)) ∙ ap fault_of q)
   where
-    go : (t u : Bool) → faultOf (cond t (cond u (not_refused (on (take_line_byte b)) w) (refusal 12 w)) (refusal 2 w)).said ≡ 0 → (t ≡ true) × (u ≡ true)
+    go : (t u : Bool) → fault_of (cond t (cond u (not_refused (on (take_line_byte b)) w) (refusal 12 w)) (refusal 2 w)).said ≡ 0 → (t ≡ true) × (u ≡ true)
     go true true z = (refl, refl)
     go true false z = absurd (omega (arith, z))
     go false u z = absurd (omega (arith, z))

@@ -12,7 +12,7 @@ use Rattle.registers.specs.Meanings.{go, stop}
 use Rattle.store.specs.Ring.{held}
 use Rattle.store.proofs.Laws.{held_length}
 use Rattle.state.specs.declared.Out.TheVariants.{Own, Held, Nothing}
-use Rattle.answers.specs.Answers.{said, done, none, byte, refused, byteIn}
+use Rattle.answers.specs.Answers.{said, done, none, byte, refused, byte_in}
 use Rattle.state.proofs.Fits.{tx_fits}
 use Rattle.line.specs.HoldingOff.{owed, next_out, is_next, out_answer}
 use Rattle.bridge.specs.Calls.{reset, ask_line_byte, take_line_byte, Call, create, show, on, is, next_of, World, Did, outcome, not_refused, refusal}
@@ -110,12 +110,12 @@ run_fits (c ∷ cs) w F = run_fits cs (after c w) (keeps_fit c w tt F)
 
 module _ (v : World) (F : Fits v) (n : next_byte v ≡ byte (own_character v)) where
   own_due : (d : Call) → OwnDue (record { call = d; before = v; answer = answer d v; after = after d v })
-  unfolding byteIn
+  unfolding byte_in
   own_due d =
       record {
         asked = λ e. (next_asked d v tt e).fit F ∙ n;
         own = λ b e q. (takes_next d v tt b e).next F (n ∙ ap byte (sym q));
-        other = λ b e h. (takes_next d v tt b e).other F (λ x. h (ap byteIn (sym x ∙ n)));
+        other = λ b e h. (takes_next d v tt b e).other F (λ x. h (ap byte_in (sym x ∙ n)));
       }
 
 pub own_next : Obeys ours OwnNext

@@ -30,7 +30,7 @@ use Rattle.bridge.specs.Calls.{show, on, World, Did, checks, outcome, settled_by
 use Rattle.laws.specs.Observers.{on_frame, is_send, is_flow, arrived, accepted, breaks, bytes_and_breaks, restarts, clears, empties}
 use Rattle.laws.specs.Worlds.{held_cells, held_to_send}
 use Rattle.laws.specs.SendRule.{NoneRemoved}
-use Rattle.laws.proofs.Answers.{frame-not-refused}
+use Rattle.laws.proofs.Answers.{frame_not_refused}
 use Rattle.laws.proofs.Refusing.{by_refusal, fitting}
 use Rattle.runs.proofs.Shapes.{Fits, Core}
 use Rattle.runs.proofs.FramesRead.{held_stored, accepted_bytes}
@@ -103,7 +103,7 @@ module _ (w : World) where
   done_stays ask_line_byte e q n b = same_ring _ refl
   done_stays (take_line_byte x) e q n b = same_ring _ (gone_rx w.state (next_out w.state w.tx))
   done_stays (loop_frame f) e q n b =
-      let c : device_clear w.state f ≡ false = (λ i. not (sym (frame-not-refused w.state w.rx f) i) && device_clear w.state f) ∙ q in
+      let c : device_clear w.state f ≡ false = (λ i. not (sym (frame_not_refused w.state w.rx f) i) && device_clear w.state f) ∙ q in
       same_ring _ (settled_rx w.state (device_clear w.state f) _ (frame_rx w.state w.rx f _ (kind_of f w (fitting (loop_frame f) w e).0) n c))
 
   refused_stays : (c : Call) (n : ℕ) → Stays c w (refusal n w)

@@ -40,7 +40,7 @@ use Rattle.runs.proofs.Refusals.{if_taken}
 use Rattle.runs.proofs.Alike.{same_either}
 use Rattle.runs.proofs.Runs.{first_not}
 use Rattle.runs.proofs.SendRule.{send_rule}
-use Rattle.laws.proofs.Answers.{frame-not-refused}
+use Rattle.laws.proofs.Answers.{frame_not_refused}
 use Rattle.runs.proofs.FrameKinds.{Kind, no_data, kind_of, address_high}
 use Rattle.runs.proofs.FrameKinds as kinds
 use Rattle.laws.proofs.Ways.{Way, is_next, is_back, is_last, is_damaged, is_stored, is_passed, is_cleared}
@@ -139,10 +139,10 @@ module _ (k : Bool) (g : ℕ) (e : Bool) where
       same w.state _ false (both_untouched _ _ _ (gone_untouched w.state (next_out w.state w.tx)) (settled_untouched w.state false _)) refl u
   done_on (on (loop_frame f)) w u n =
       let m = neither (is_data f) (eqb (control_of f) 4)
-      ((λ i. not (sym (frame-not-refused w.state w.rx f) i) && (is_data f || eqb (control_of f) 4)) ∙ n) in
+      ((λ i. not (sym (frame_not_refused w.state w.rx f) i) && (is_data f || eqb (control_of f) 4)) ∙ n) in
       moved _ _ (settled_untouched w.state (device_clear w.state f) _)
       (subst (λ (t : Bool). Under k g (e || (not t && eqb f (made 5 66))) (frame_taken w.state w.rx f).state)
-      (sym (frame-not-refused w.state w.rx f))
+      (sym (frame_not_refused w.state w.rx f))
       (frame_on w f u m.0 m.1 (frame_taken w.state w.rx f) (way w.state w.rx f)))
 
   refused_on : (c : Call) (w : World) (n : ℕ) → On c w (refusal n w)

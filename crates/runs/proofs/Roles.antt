@@ -34,7 +34,7 @@ use Rattle.laws.specs.Observers.{any, taken, data_frame, on_frame, restarts}
 use Rattle.laws.specs.Fitting.{Fits}
 use Rattle.laws.specs.Worlds.{held_cells}
 use Rattle.laws.specs.Roles.{commanded, readied, returned_to, by_frame, remote_by_frame, RoleGoes, RemoteGoes}
-use Rattle.laws.proofs.Answers.{frame-not-refused}
+use Rattle.laws.proofs.Answers.{frame_not_refused}
 use Rattle.laws.proofs.Refusing.{by_refusal, fitting}
 use Rattle.runs.proofs.Alike.{same_kind}
 use Rattle.runs.proofs.Bytes.{sent_plain}
@@ -191,9 +191,9 @@ done_goes (on (loop_frame f)) w e q =
     let u : Untouched o.state _ = settled_untouched w.state (device_clear w.state f) o.state in
     let F : Fits w = (fitting (loop_frame f) w e).0 in (
       ap (λ (t : Talker). t.role) u.talker ∙ role_way w F f o (way w.state w.rx f)
-          ∙ (λ i. cond (not (sym (frame-not-refused w.state w.rx f) i)) (by_frame f w.state.talker.role (said o.answer)) w.state.talker.role),
+          ∙ (λ i. cond (not (sym (frame_not_refused w.state w.rx f) i)) (by_frame f w.state.talker.role (said o.answer)) w.state.talker.role),
       u.remote ∙ remote_way w F f o (way w.state w.rx f)
-          ∙ (λ i. cond (not (sym (frame-not-refused w.state w.rx f) i)) (remote_by_frame f w.state.talker.role w.state.remote) w.state.remote),
+          ∙ (λ i. cond (not (sym (frame_not_refused w.state w.rx f) i)) (remote_by_frame f w.state.talker.role w.state.remote) w.state.remote),
     )
 
 refused_goes : (c : Call) (w : World) (n : ℕ) → Goes c w (refusal n w)

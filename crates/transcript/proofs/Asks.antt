@@ -13,7 +13,7 @@ use Rattle.store.specs.Ring.{held, drop_ring}
 use Rattle.state.specs.declared.State.{State}
 use Rattle.state.specs.declared.Out.{Out}
 use Rattle.state.specs.declared.Out.TheVariants.{Own, Held, Nothing}
-use Rattle.answers.specs.Answers.{Said, said, done, none, byte, frame, refused, part, cell, lines, is_byte, byteIn}
+use Rattle.answers.specs.Answers.{Said, said, done, none, byte, frame, refused, part, cell, lines, is_byte, byte_in}
 use Rattle.state.specs.Sizes.{TxFits}
 use Rattle.state.specs.Conditions.{settled}
 use Rattle.state.proofs.Fits.{tx_fits}
@@ -54,8 +54,8 @@ module _ (b : ℕ) where
       fewer zero h = absurd (h refl)
       fewer (suc k) h = omega arith
 
-is_byte_lem : (a : Said) → is_byte a ≡ true → a ≡ byte (byteIn a)
-unfolding is_byte byteIn
+is_byte_lem : (a : Said) → is_byte a ≡ true → a ≡ byte (byte_in a)
+unfolding is_byte byte_in
 is_byte_lem (byte b) e = refl
 is_byte_lem done e = absurd (false≢true e)
 is_byte_lem none e = absurd (false≢true e)
@@ -66,10 +66,10 @@ is_byte_lem (cell n) e = absurd (false≢true e)
 is_byte_lem (lines n) e = absurd (false≢true e)
 
 -- a byte that was asked for is taken
-next_taken_lem : (w : World) → is_byte (ask_answer w) ≡ true → then_takes w ≡ not_refused (on (take_line_byte (byteIn (ask_answer w)))) w
+next_taken_lem : (w : World) → is_byte (ask_answer w) ≡ true → then_takes w ≡ not_refused (on (take_line_byte (byte_in (ask_answer w)))) w
 next_taken_lem w h =
-    let x = asked_next (byteIn (ask_answer w)) w (is_byte_lem (ask_answer w) h) in
-    ap (step (on (take_line_byte (byteIn (ask_answer w))))) (ask_leaves w) ∙ take_fits (byteIn (ask_answer w)) w x.0 x.1
+    let x = asked_next (byte_in (ask_answer w)) w (is_byte_lem (ask_answer w) h) in
+    ap (step (on (take_line_byte (byte_in (ask_answer w))))) (ask_leaves w) ∙ take_fits (byte_in (ask_answer w)) w x.0 x.1
 
 take_done : (w : World) → is_byte (ask_answer w) ≡ true → take_answer w ≡ done
 unfolding not_refused outcome said
@@ -79,8 +79,8 @@ take_done w h = ap (λ (d : Did). d.said) (next_taken_lem w h)
 step_falls : (w : World) → is_byte (ask_answer w) ≡ true → weight (next_taken w).state < weight w.state
 unfolding not_refused outcome settled_by settled
 step_falls w h =
-    let x = asked_next (byteIn (ask_answer w)) w (is_byte_lem (ask_answer w) h) in
-    subst (λ (d : Did). weight d.world.state < weight w.state) (sym (next_taken_lem w h)) (falls (byteIn (ask_answer w)) w.state w.tx x.1)
+    let x = asked_next (byte_in (ask_answer w)) w (is_byte_lem (ask_answer w) h) in
+    subst (λ (d : Did). weight d.world.state < weight w.state) (sym (next_taken_lem w h)) (falls (byte_in (ask_answer w)) w.state w.tx x.1)
 
 -- ---- no byte left to take
 
@@ -96,7 +96,7 @@ no_byte w e =
     go Nothing h = refl
 
 taken_fits : (w : World) → Fits w → Fits (next_taken w)
-taken_fits w e = keeps_fit (on (take_line_byte (byteIn (ask_answer w)))) (step (on ask_line_byte) w).world tt (keeps_fit (on ask_line_byte) w tt e)
+taken_fits w e = keeps_fit (on (take_line_byte (byte_in (ask_answer w)))) (step (on ask_line_byte) w).world tt (keeps_fit (on ask_line_byte) w tt e)
 
 -- more asks than there is to take end with none
 pub until_none : (n : ℕ) (w : World) → Fits w → weight w.state < n → ask_answer (line_world n w) ≡ none
@@ -117,9 +117,9 @@ no_more (suc n) (suc m) w l h = pick (no_more n m (next_taken w) (omega arith)) 
   where
     pick : (is_byte (ask_answer (line_world n (next_taken w))) ≡ false → line_out m (next_taken w) ≡ line_out n (next_taken w)) →
         (t : Bool) → is_byte (ask_answer w) ≡ t →
-        cond (is_byte (ask_answer w)) (byteIn (ask_answer w) ∷ line_out m (next_taken w)) []
-        ≡ cond (is_byte (ask_answer w)) (byteIn (ask_answer w) ∷ line_out n (next_taken w)) []
-    pick more true e = rw e (ap (λ (bs : List ℕ). byteIn (ask_answer w) ∷ bs) (more (rw e at h)))
+        cond (is_byte (ask_answer w)) (byte_in (ask_answer w) ∷ line_out m (next_taken w)) []
+        ≡ cond (is_byte (ask_answer w)) (byte_in (ask_answer w) ∷ line_out n (next_taken w)) []
+    pick more true e = rw e (ap (λ (bs : List ℕ). byte_in (ask_answer w) ∷ bs) (more (rw e at h)))
     pick more false e = rw e
 
 at_most_one : (b : Bool) → cond b 1 0 ≤ 1

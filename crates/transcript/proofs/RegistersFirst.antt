@@ -7,7 +7,7 @@ use lib.Dec.{eqb, ltb}
 use lib.ListN.{get_or}
 use borrow.Author.Tests.{ltb-true}
 use Rattle.branches.proofs.Branches.{by_cond, and_left}
-use Rattle.answers.specs.Answers.{faultOf, said}
+use Rattle.answers.specs.Answers.{fault_of, said}
 use Rattle.state.specs.declared.State.{State}
 use Rattle.state.specs.Sizes.{start_state}
 use Rattle.state.specs.Conditions.{settled}
@@ -36,9 +36,9 @@ module _ (n v : ℕ) (w : World) (none : Nothing w) where
   unfolding held_line
   not_held e = omega (arith, none, ltb-true 0 w.state.rx.len (and_left (ltb 0 w.state.rx.len) (of_reading_rule n) (ten_given w n v e).held))
 
-  not_ten : faultOf (step (on (write n v)) w).said ≡ 10 → ⊥
-  unfolding not_refused outcome said faultOf
-  not_ten = by_refusal (λ (d : Did). faultOf d.said ≡ 10 → ⊥) (on (write n v)) w (λ _ e. omega arith) (λ _. not_held)
+  not_ten : fault_of (step (on (write n v)) w).said ≡ 10 → ⊥
+  unfolding not_refused outcome said fault_of
+  not_ten = by_refusal (λ (d : Did). fault_of d.said ≡ 10 → ⊥) (on (write n v)) w (λ _ e. omega arith) (λ _. not_held)
 
 set_never : (n : ℕ) (x : List ℕ) (i : ℕ) (w : World) → Nothing w → (set_registers n x i w).fault ≡ 10 → ⊥
 unfolding set_registers
@@ -46,7 +46,7 @@ set_never zero x i w none = λ e. omega arith
 set_never (suc n) x i w none =
     let k = get_or x i 0 in
     let v = get_or x (i + 1) 0 in
-    by_cond (λ (g : Set). g.fault ≡ 10 → ⊥) (eqb (faultOf (step (on (write k v)) w).said) 0) _ _
+    by_cond (λ (g : Set). g.fault ≡ 10 → ⊥) (eqb (fault_of (step (on (write k v)) w).said) 0) _ _
     (λ _. set_never n x (i + 2) (step (on (write k v)) w).world (write_nothing k v w none))
     (λ _. not_ten k v w none)
 

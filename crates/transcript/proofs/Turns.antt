@@ -10,7 +10,7 @@ use borrow.Author.Tests.{eq-eqb, ne_eqb, not-true, not-false}
 use Rattle.state.specs.declared.State.{State}
 use Rattle.state.specs.declared.Outcome.{Outcome}
 use Rattle.answers.specs.declared.Answer.{Answer}
-use Rattle.answers.specs.Answers.{said, faultOf, is_byte, byteIn}
+use Rattle.answers.specs.Answers.{said, fault_of, is_byte, byte_in}
 use Rattle.bridge.specs.declared.Told.{Told}
 use Rattle.bridge.specs.Calls.{on, write, line_byte, ask_line_byte, take_line_byte, loop_frame, World, world, Did, did, told, looked, step, ask_answer}
 use Rattle.transcript.specs.declared.Set.{Set}
@@ -29,9 +29,9 @@ one_left n h = omega arith
 
 module _ (x : List ℕ) (rx tx : List ℕ) where
   set_step : (n i : ℕ) (w : World) → 0 < n → set_registers n x i w ≡
-      cond (eqb (faultOf (step (on (write (get_or x i 0) (get_or x (i + 1) 0))) w).said) 0)
+      cond (eqb (fault_of (step (on (write (get_or x i 0) (get_or x (i + 1) 0))) w).said) 0)
       (set_registers (n - 1) x (i + 2) (step (on (write (get_or x i 0) (get_or x (i + 1) 0))) w).world)
-      (record { state = w.state; fault = faultOf (step (on (write (get_or x i 0) (get_or x (i + 1) 0))) w).said })
+      (record { state = w.state; fault = fault_of (step (on (write (get_or x i 0) (get_or x (i + 1) 0))) w).said })
   unfolding set_registers
   set_step n i w h = ap (λ (k : ℕ). set_registers k x i w) (one_left n h)
 
@@ -40,18 +40,18 @@ module _ (x : List ℕ) (rx tx : List ℕ) where
     there : did o rx tx ≡ step (on (write (get_or x i 0) (get_or x (i + 1) 0))) (world t rx tx)
     there = e ∙ (λ j. step (on (write (p j) (q j))) (world t rx tx))
 
-    pub set_again : (k : ℕ) {total : Set} → 0 < n → k ≡ faultOf (said o.answer) → k ≡ 0 → set_registers n x i (world t rx tx) ≡ total →
+    pub set_again : (k : ℕ) {total : Set} → 0 < n → k ≡ fault_of (said o.answer) → k ≡ 0 → set_registers n x i (world t rx tx) ≡ total →
         set_registers (n - 1) x (i + 2) (world o.state rx tx) ≡ total
     set_again k h f z inv =
-        let fine : faultOf (step (on (write (get_or x i 0) (get_or x (i + 1) 0))) (world t rx tx)).said ≡ 0 =
-        ap (λ (d : Did). faultOf d.said) (sym there) ∙ sym f ∙ z in
+        let fine : fault_of (step (on (write (get_or x i 0) (get_or x (i + 1) 0))) (world t rx tx)).said ≡ 0 =
+        ap (λ (d : Did). fault_of d.said) (sym there) ∙ sym f ∙ z in
         ap (λ (d : Did). set_registers (n - 1) x (i + 2) d.world) there ∙ sym (set_step n i (world t rx tx) h ∙ rw (eq-eqb _ 0 fine)) ∙ inv
 
-    pub set_stops : (k : ℕ) {total : Set} → 0 < n → k ≡ faultOf (said o.answer) → (k ≡ 0 → ⊥) → set_registers n x i (world t rx tx) ≡ total →
+    pub set_stops : (k : ℕ) {total : Set} → 0 < n → k ≡ fault_of (said o.answer) → (k ≡ 0 → ⊥) → set_registers n x i (world t rx tx) ≡ total →
         ◌≡◌ {A = Set} (record { state = t; fault = k }) total
     set_stops k h f z inv =
-        let same : faultOf (step (on (write (get_or x i 0) (get_or x (i + 1) 0))) (world t rx tx)).said ≡ k =
-        ap (λ (d : Did). faultOf d.said) (sym there) ∙ sym f in
+        let same : fault_of (step (on (write (get_or x i 0) (get_or x (i + 1) 0))) (world t rx tx)).said ≡ k =
+        ap (λ (d : Did). fault_of d.said) (sym there) ∙ sym f in
         sym (set_step n i (world t rx tx) h ∙ rw (same, ne_eqb k 0 z)) ∙ inv
 
   pub set_ends : (t : State) (i n : ℕ) {total : Set} → n ≤ 0 → set_registers n x i (world t rx tx) ≡ total →
@@ -150,29 +150,29 @@ offer_ends {x} {rx} {tx₀} {i} {n} {out₀} {to} {t₀} {tx} {out} {t} {at} {le
 
 -- ---- line bytes out
 
-line_step : (n : ℕ) (w : World) → 0 < n → line_out n w ≡ cond (is_byte (ask_answer w)) (byteIn (ask_answer w) ∷ line_out (n - 1) (next_taken w)) []
+line_step : (n : ℕ) (w : World) → 0 < n → line_out n w ≡ cond (is_byte (ask_answer w)) (byte_in (ask_answer w) ∷ line_out (n - 1) (next_taken w)) []
 unfolding line_out
 line_step n w h = ap (λ (k : ℕ). line_out k w) (one_left n h)
 
 module _ (rx tx : List ℕ) (t : State) (n : ℕ) (a : Answer) (r : Bool) (h : 0 < n)
     (e : looked (said a) (world t rx tx) ≡ step (on ask_line_byte) (world t rx tx)) (b : r ≡ is_byte (said a)) where
   line_is : line_out n (world t rx tx) ≡
-      cond (is_byte (said a)) (byteIn (said a) ∷ line_out (n - 1) (step (on (take_line_byte (byteIn (said a)))) (world t rx tx)).world) []
+      cond (is_byte (said a)) (byte_in (said a) ∷ line_out (n - 1) (step (on (take_line_byte (byte_in (said a)))) (world t rx tx)).world) []
   line_is =
       line_step n (world t rx tx) h
       ∙ ap
-      (λ (d : Did). cond (is_byte d.said) (byteIn d.said ∷ line_out (n - 1) (step (on (take_line_byte (byteIn d.said))) d.world).world) [])
+      (λ (d : Did). cond (is_byte d.said) (byte_in d.said ∷ line_out (n - 1) (step (on (take_line_byte (byte_in d.said))) d.world).world) [])
       (sym e)
 
   pub line_stops : not r ≡ true → line_out n (world t rx tx) ≡ []
   line_stops q = line_is ∙ rw (← b, not-true r q)
 
   -- the byte is taken by its name
-  pub line_goes : (x : ℕ) (o : Outcome) → not r ≡ false → x ≡ byteIn (said a) → did o rx tx ≡ step (on (take_line_byte x)) (world t rx tx) →
-      line_out n (world t rx tx) ≡ byteIn (said a) ∷ line_out (n - 1) (world o.state rx tx)
+  pub line_goes : (x : ℕ) (o : Outcome) → not r ≡ false → x ≡ byte_in (said a) → did o rx tx ≡ step (on (take_line_byte x)) (world t rx tx) →
+      line_out n (world t rx tx) ≡ byte_in (said a) ∷ line_out (n - 1) (world o.state rx tx)
   line_goes x o q p f =
       line_is ∙ rw (← b, not-false r q)
-      (ap (λ (d : Did). byteIn (said a) ∷ line_out (n - 1) d.world) (sym (f ∙ ap (λ (y : ℕ). step (on (take_line_byte y)) (world t rx tx)) p)))
+      (ap (λ (d : Did). byte_in (said a) ∷ line_out (n - 1) d.world) (sym (f ∙ ap (λ (y : ℕ). step (on (take_line_byte y)) (world t rx tx)) p)))
 
 pub line_none : (n : ℕ) (w : World) → n ≤ 0 → line_out n w ≡ []
 unfolding line_out

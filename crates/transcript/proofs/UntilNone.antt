@@ -14,7 +14,7 @@ use Rattle.laws.proofs.States.{start_fits}
 use Rattle.laws.proofs.Fitting.{keeps_fit, stores_stay}
 use Rattle.transcript.specs.declared.Set.{Set}
 use Rattle.transcript.specs.Input.{high, sections_of}
-use Rattle.answers.specs.Answers.{faultOf}
+use Rattle.answers.specs.Answers.{fault_of}
 use Rattle.transcript.specs.Transcript.{set_registers, line_bytes_in, frames_world, store}
 use Rattle.transcript.specs.UntilNone.{run_world, UntilNone}
 use Rattle.transcript.proofs.Asks.{asks_enough}
@@ -47,7 +47,7 @@ unfolding set_registers
 set_right zero x i w r = r
 set_right (suc n) x i w r =
     let c : Call = (on (write (get_or x i 0) (get_or x (i + 1) 0))) in
-    by_cond (λ (g : Set). Right (world g.state w.rx w.tx)) (eqb (faultOf (step c w).said) 0) _ _
+    by_cond (λ (g : Set). Right (world g.state w.rx w.tx)) (eqb (fault_of (step c w).said) 0) _ _
     (λ _. let kept = write_stores (get_or x i 0) (get_or x (i + 1) 0) w in
     same_stores _ kept.0 kept.1 (set_right n x (i + 2) (step c w).world (step_right c w r)))
     (λ _. r)

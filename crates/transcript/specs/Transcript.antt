@@ -1,7 +1,7 @@
 -- Proved examples, the program onepass: what it prints, by the calls of the bridge.
 use Rattle.std.specs.Prelude.{ℕ, zero, suc, ◌+◌, ◌*◌, ◌≤◌, ◌≡◌, cond, List, [], ◌∷◌, ◌++◌, length, get_or, replicate, eqb}
 use Rattle.state.specs.declared.State.{State}
-use Rattle.answers.specs.Answers.{Said, faultOf, is_byte, byteIn}
+use Rattle.answers.specs.Answers.{Said, fault_of, is_byte, byte_in}
 use Rattle.state.specs.Sizes.{start_state}
 use Rattle.bridge.specs.Calls.{on, write, line_byte, ask_line_byte, take_line_byte, loop_frame, World, world, Did, step, ask_answer}
 use Rattle.transcript.specs.declared.Sections.{Sections}
@@ -13,9 +13,9 @@ use Rattle.transcript.specs.Text.{decimal, newline, first_line, line_word, refus
 unfoldable pub set_registers : ℕ → List ℕ → ℕ → World → Set
 set_registers zero x i w = record { state = w.state; fault = 0 }
 set_registers (suc n) x i w =
-    cond (eqb (faultOf (step (on (write (get_or x i 0) (get_or x (i + 1) 0))) w).said) 0)
+    cond (eqb (fault_of (step (on (write (get_or x i 0) (get_or x (i + 1) 0))) w).said) 0)
     (set_registers n x (i + 2) (step (on (write (get_or x i 0) (get_or x (i + 1) 0))) w).world)
-    (record { state = w.state; fault = faultOf (step (on (write (get_or x i 0) (get_or x (i + 1) 0))) w).said })
+    (record { state = w.state; fault = fault_of (step (on (write (get_or x i 0) (get_or x (i + 1) 0))) w).said })
 
 -- the program, then: n line bytes from place i come in
 unfoldable pub line_bytes_in : ℕ → List ℕ → ℕ → World → World
@@ -39,7 +39,7 @@ pub record Offers (n : ℕ) (x : List ℕ) (i : ℕ) (w : World) (out : List ℕ
 
 -- the program, then: what a take of the byte that an ask answers does after it, with its answer and the world that it leaves
 abbrev pub then_takes : World → Did
-then_takes w = step (on (take_line_byte (byteIn (ask_answer w)))) (step (on ask_line_byte) w).world
+then_takes w = step (on (take_line_byte (byte_in (ask_answer w)))) (step (on ask_line_byte) w).world
 
 abbrev pub take_answer : World → Said
 take_answer w = (then_takes w).said
@@ -50,7 +50,7 @@ next_taken w = (then_takes w).world
 -- the line bytes that are asked for and taken until there is none, in n asks at most
 unfoldable pub line_out : ℕ → World → List ℕ
 line_out zero w = []
-line_out (suc n) w = cond (is_byte (ask_answer w)) (byteIn (ask_answer w) ∷ line_out n (next_taken w)) []
+line_out (suc n) w = cond (is_byte (ask_answer w)) (byte_in (ask_answer w) ∷ line_out n (next_taken w)) []
 
 -- the bytes of a full store, our own go or stop, and the none
 abbrev pub asks : ℕ

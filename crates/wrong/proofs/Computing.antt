@@ -21,7 +21,7 @@ use Rattle.talker.specs.TalkerFit as talker-fit
 use Rattle.store.specs.Ring.{fit_test, put_ring, put_bytes, puts_ring, puts_bytes, drop_ring}
 use Rattle.status.specs.Status.{status_byte}
 use Rattle.sending.specs.Sending.{send_held, sent_ring}
-use Rattle.answers.specs.Answers.{said, is_byte, byteIn}
+use Rattle.answers.specs.Answers.{said, is_byte, byte_in}
 use Rattle.state.specs.Sizes.{sizes_obeyed, start_state, fits}
 use Rattle.state.specs.Conditions as status
 use Rattle.line.specs.HoldingOff as line
@@ -74,7 +74,7 @@ stores_open = tt
 
 -- the state, its line and its loop
 unfoldable state_open : Unit {0}
-unfolding said is_byte byteIn sizes_obeyed start_state fits status.conditions status.enabled_by status.asking status.settled status.shows status.serviced
+unfolding said is_byte byte_in sizes_obeyed start_state fits status.conditions status.enabled_by status.asking status.settled status.shows status.serviced
 state_open = tt
 
 unfoldable status_open : Unit {0}

@@ -4,7 +4,7 @@ use mathlib.Core.Path.{refl, ap}
 use mathlib.Core.Bool.{false≢true, true≢false}
 use lib.Dec.{eqb}
 use Rattle.frame.specs.Frame.{made}
-use Rattle.answers.specs.Answers.{isRefusal}
+use Rattle.answers.specs.Answers.{is_refusal}
 use Rattle.bridge.specs.Calls.{receive, write, key, ask_line_byte, show, on, World}
 use Rattle.laws.specs.Answering.{AnswersSo, RefusedExactly}
 use Rattle.laws.specs.Demands.{RefusedStays, OneFrameOut}
@@ -46,7 +46,7 @@ always_refusing_falls law = true≢false ((law (on key) fresh tt).accepts refl)
 -- an end byte adds three, and there is room for one
 pub never_busy_falls : Breaks (heedless 4) RefusedExactly
 unfolding computes
-never_busy_falls law = false≢true (ap isRefusal ((law (takes 2 68) nearly_full tt).given (λ e. omega arith)))
+never_busy_falls law = false≢true (ap is_refusal ((law (takes 2 68) nearly_full tt).given (λ e. omega arith)))
 
 -- R11 carries no bit 2
 pub refuses_and_writes_falls : Breaks refuses_and_writes RefusedStays

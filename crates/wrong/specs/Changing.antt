@@ -5,7 +5,7 @@ use Rattle.frame.specs.Frame.{control_of, data_of}
 use Rattle.role.specs.declared.Role.{Role}
 use Rattle.talker.specs.declared.Under.{Under}
 use Rattle.state.specs.declared.State.{State}
-use Rattle.answers.specs.Answers.{Said, isRefusal}
+use Rattle.answers.specs.Answers.{Said, is_refusal}
 use Rattle.state.specs.State.{with_talker}
 use Rattle.bridge.specs.Calls.{Call, create, show, on, World, world, Did, checks, not_refused, step, refusal}
 use Rattle.laws.specs.Observers.{on_frame}
@@ -20,7 +20,7 @@ leaving change c w =
     record {
       said = (step c w).said;
       room = (step c w).room;
-      world = cond (isRefusal (step c w).said) (step c w).world (change c w (step c w).world);
+      world = cond (is_refusal (step c w).said) (step c w).world (change c w (step c w).world);
     }
 
 -- the same, where no byte of a store is changed
@@ -31,7 +31,7 @@ afterwards change = leaving (λ c w v. world (change c w v.state) v.rx v.tx)
 abbrev pub answering : (Call → World → Said → Said) → Call → World → Did
 answering change c w =
     record {
-      said = cond (isRefusal (step c w).said) (step c w).said (change c w (step c w).said);
+      said = cond (is_refusal (step c w).said) (step c w).said (change c w (step c w).said);
       room = (step c w).room;
       world = (step c w).world;
     }

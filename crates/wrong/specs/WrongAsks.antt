@@ -1,6 +1,6 @@
 -- Bridges whose ask or take is wrong.
 use Rattle.std.specs.Prelude.{ℕ, Bool, true, false, cond, ◌&&◌, not, eqb}
-use Rattle.answers.specs.Answers.{Said, done, none, refused, is_byte, byteIn}
+use Rattle.answers.specs.Answers.{Said, done, none, refused, is_byte, byte_in}
 use Rattle.state.specs.Conditions.{with_request}
 use Rattle.line.specs.Breaks.{break_cells}
 use Rattle.bridge.specs.Calls.{ask_line_byte, take_line_byte, Call, on, World, world, Did, misfit, step, ask_answer}
@@ -13,7 +13,7 @@ use Rattle.wrong.specs.Seeing.{after_sight, instead_at, only, in_state, with_sto
 
 -- what a take of the answer to an ask does
 abbrev pub takes_asked : World → Did
-takes_asked w = step (on (take_line_byte (byteIn (ask_answer w)))) w
+takes_asked w = step (on (take_line_byte (byte_in (ask_answer w)))) w
 
 -- an ask removes the byte that it says, as giving did
 abbrev pub ask_removes : Call → World → Did
@@ -79,7 +79,7 @@ pub record Remembered : Type 0 where
 
 -- the byte that it said last, where it is not next any more
 abbrev pub said_once : ℕ → Remembered → Bool
-said_once b o = is_byte o.said_last && (eqb b (byteIn o.said_last) && not (taken (step (on (take_line_byte b)) o.world).said))
+said_once b o = is_byte o.said_last && (eqb b (byte_in o.said_last) && not (taken (step (on (take_line_byte b)) o.world).said))
 
 abbrev pub takes_what_it_said : Call → Remembered → Did
 takes_what_it_said c o = on_take (λ b. cond (said_once b o) (as_if_none_owed c o.world) (step c o.world)) (step c o.world) c

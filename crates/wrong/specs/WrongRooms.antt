@@ -1,7 +1,7 @@
 -- Bridges that tell another room than there is.
 use Rattle.std.specs.Prelude.{ℕ, cond}
 use Rattle.store.specs.Ring.{room}
-use Rattle.answers.specs.Answers.{isRefusal}
+use Rattle.answers.specs.Answers.{is_refusal}
 use Rattle.state.specs.declared.State.{State}
 use Rattle.bridge.specs.Calls.{Call, World, Did, room_of, step}
 use Rattle.bridge.specs.Calls as calls
@@ -17,13 +17,13 @@ of_state c s = calls.on_state (λ x. room_of x s) 0 c
 
 -- tells the room that there was before the call
 abbrev pub tells_before : Call → World → Did
-tells_before = telling_so (λ c w d. cond (isRefusal d.said) 0 (of_state c w.state))
+tells_before = telling_so (λ c w d. cond (is_refusal d.said) 0 (of_state c w.state))
 
 -- tells the room of the other store
 abbrev pub tells_the_other : Call → World → Did
 tells_the_other =
     telling_so
-    (λ c w d. cond (isRefusal d.said) 0
+    (λ c w d. cond (is_refusal d.said) 0
     (on_line_byte (λ b. room d.world.state.tx) (on_frame (λ f. room d.world.state.rx) 0 c) c))
 
 -- a refusal is not its number alone: it tells the room too

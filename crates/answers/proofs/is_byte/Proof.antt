@@ -1,6 +1,6 @@
 use mathlib.Core.Bool.{true, false}
 use Rattle.answers.specs.Answers.{is_byte}
-use Rattle.answers.proofs.Answers.{byte-seen, no-byte-seen}
+use Rattle.answers.proofs.Answers.{byte_seen, no_byte_seen}
 use borrow.Author.Rules.{rules}
 use Rattle.answers.proofs.is_byte.Statement.{statement}
 use Rattle.answers.proofs.is_byte.Tie as tie
@@ -11,5 +11,5 @@ is_byte_spec =
     tie.close
     (tie.spec
     (λ c. search rules)
-    (λ c. byte-seen (λ b. true) false _ _ c.enum_told.given.1)
-    (λ c. no-byte-seen (λ b. true) false _ c.match.keys2))
+    (λ c. byte_seen (λ b. true) false _ _ c.enum_told.given.1)
+    (λ c. no_byte_seen (λ b. true) false _ c.match.keys2))

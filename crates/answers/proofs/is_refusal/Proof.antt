@@ -1,5 +1,5 @@
 use mathlib.Core.Bool.{true, false}
-use Rattle.answers.proofs.Answers.{refusal-seen, no-refusal-seen}
+use Rattle.answers.proofs.Answers.{refusal_seen, no_refusal_seen}
 use borrow.Author.Rules.{rules}
 use Rattle.answers.proofs.is_refusal.Statement.{statement}
 use Rattle.answers.proofs.is_refusal.Tie as tie
@@ -9,5 +9,5 @@ is_refusal_spec =
     tie.close
     (tie.spec
     (λ c. search rules)
-    (λ c. refusal-seen (λ n. true) false _ _ c.enum_told.given.1)
-    (λ c. no-refusal-seen (λ n. true) false _ c.match.keys2))
+    (λ c. refusal_seen (λ n. true) false _ _ c.enum_told.given.1)
+    (λ c. no_refusal_seen (λ n. true) false _ c.match.keys2))
