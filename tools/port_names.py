@@ -39,7 +39,7 @@ def read(name):
 
 def snake(name):
     """A name with its words joined by underscores."""
-    parts = re.sub(r"(?<=[a-z0-9₀-₉'])[A-Z]", lambda m: "_" + m.group(0).lower(), name)
+    parts = re.sub(r"(?<=[a-z0-9₀-₉'])[A-Z]|(?<=[A-Z])[A-Z](?=[a-z])", lambda m: "_" + m.group(0).lower(), name)
     return re.sub(r"(?<=[\w'₀-₉])-(?=[\w'₀-₉])", "_", parts)
 
 

@@ -22,7 +22,7 @@ use Rattle.wrong.specs.Seeing.{having}
 use Rattle.wrong.specs.WrongSends.{command_empties}
 use Rattle.wrong.specs.WrongBreaks.{joins_across, wall_in_the_pair, reads_upper_bits, spans_equal_pairs, holds_back}
 use Rattle.wrong.specs.WrongBreaks.{keeps_upper_bits, puts_upper_bits, unmarks_again, marks_unheld, marks_by_the_rule, marks_both}
-use Rattle.wrong.specs.WrongBreaks.{marks_the_oldest, mark_takes_aPlace, marks_nothing, forgets_round, drops_undecided}
+use Rattle.wrong.specs.WrongBreaks.{marks_the_oldest, mark_takes_a_place, marks_nothing, forgets_round, drops_undecided}
 use Rattle.wrong.specs.Broken.{Breaks}
 use Rattle.wrong.proofs.Computing.{computes}
 use Rattle.wrong.proofs.Written.{Turn, leaves, does, Does}
@@ -130,7 +130,7 @@ marks_the_oldest_falls law =
     true≢false (ap (has_at 0 306) (rw (holds half_pair 0 2 refl) at (law (on line_break) (holding_first 2 half_pair) tt).bytes))
 
 -- a third place is taken
-pub mark_takes_a_place_falls : Breaks mark_takes_aPlace (Places receive)
+pub mark_takes_a_place_falls : Breaks mark_takes_a_place (Places receive)
 unfolding computes
 mark_takes_a_place_falls law =
     true≢false (ap (has_at 2 256) (rw (holds half_pair 0 2 refl, no_round 4 2 refl) at (law (on line_break) (holding_first 2 half_pair) tt).bytes))

@@ -67,8 +67,8 @@ abbrev pub marks_the_oldest : Call → World → Did
 marks_the_oldest = at_break (λ w s. s) (λ w. marked_at marked_cell w.state.rx.oldest w.rx)
 
 -- the mark takes a place of its own
-abbrev pub mark_takes_aPlace : Call → World → Did
-mark_takes_aPlace = at_break (λ w s. with_rx s (put_ring w.state.rx)) (λ w. put_bytes w.rx w.state.rx 256)
+abbrev pub mark_takes_a_place : Call → World → Did
+mark_takes_a_place = at_break (λ w s. with_rx s (put_ring w.state.rx)) (λ w. put_bytes w.rx w.state.rx 256)
 
 -- the place before the next, where the newest stands if anything is held
 abbrev newest : World → ℕ
