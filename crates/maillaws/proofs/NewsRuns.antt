@@ -102,7 +102,7 @@ unfolding course finally comes_back
 run_stays l [] w q h n = q.available
 run_stays l (c ∷ cs) w q h n =
     let m = neither _ _ n in
-    run_stays _ cs (step c w).world (call_stays l c w q m.0 h.0) h.1 m.1
+    run_stays (under_way news_round l c w (step c w).said) cs (step c w).world (call_stays l c w q m.0 h.0) h.1 m.1
 
 -- ---- where it begins
 

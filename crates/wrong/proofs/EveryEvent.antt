@@ -57,6 +57,7 @@ shown e [] = false
 shown e (g ∷ gs) = bit (place e) g
 
 shows_shown : (e : Event) (gs : List ℕ) → Shows e gs → shown e gs ≡ true
+shows_shown e [] h = elim h [ ]
 shows_shown e (g ∷ gs) h = h
 
 module _ (B : Event → Call → World → Did) (w : Event → World) (cs : List Call) where
