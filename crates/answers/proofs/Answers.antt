@@ -2,10 +2,6 @@
 use Prim.Native.Nat.{ℕ}
 use native.Mathlib.Omega.{arith}
 use mathlib.Core.Path.{◌≡◌, refl, sym, ap, ◌∙◌}
-use mathlib.Core.List.{[], ◌∷◌}
-use types.Run.{OneOf, miss}
-use denote.Enum.Declared.{tag_of}
-use Rattle.answers.specs.contracts.Answer.{the_type}
 use Rattle.answers.specs.declared.Answer.{Answer}
 use Rattle.answers.specs.declared.Answer.TheVariants.{Done, Nothing, Byte, Frame, Refused, Cell, Lines}
 use Rattle.frame.specs.Frame.{control_of, data_of, made}
@@ -16,7 +12,7 @@ module _ {X : Type 0} (see : ℕ → X) (other : X) where
   unfolding said
   refusal_seen a n e = rw e
 
-  pub no_refusal_seen : (a : Answer) → OneOf (0 ∷ 1 ∷ 2 ∷ 3 ∷ 5 ∷ 6 ∷ []) (tag_of the_type a) → other ≡ of_refusal see other (said a)
+  pub no_refusal_seen : (a : Answer) → ((n : ℕ) → a ≡ Refused n → ⊥) → other ≡ of_refusal see other (said a)
   unfolding said
   no_refusal_seen Done h = refl
   no_refusal_seen Nothing h = refl
@@ -24,17 +20,17 @@ module _ {X : Type 0} (see : ℕ → X) (other : X) where
   no_refusal_seen (Frame f) h = refl
   no_refusal_seen (Cell n) h = refl
   no_refusal_seen (Lines n) h = refl
-  no_refusal_seen (Refused n) h = absurd (miss (0 ∷ 1 ∷ 2 ∷ 3 ∷ 5 ∷ 6 ∷ []) 4 tt h)
+  no_refusal_seen (Refused n) h = absurd (h n refl)
 
   pub byte_seen : (a : Answer) (n : ℕ) → a ≡ Byte n → see n ≡ of_byte see other (said a)
   unfolding said
   byte_seen a n e = rw e
 
-  pub no_byte_seen : (a : Answer) → OneOf (0 ∷ 1 ∷ 3 ∷ 4 ∷ 5 ∷ 6 ∷ []) (tag_of the_type a) → other ≡ of_byte see other (said a)
+  pub no_byte_seen : (a : Answer) → ((b : ℕ) → a ≡ Byte b → ⊥) → other ≡ of_byte see other (said a)
   unfolding said
   no_byte_seen Done h = refl
   no_byte_seen Nothing h = refl
-  no_byte_seen (Byte b) h = absurd (miss (0 ∷ 1 ∷ 3 ∷ 4 ∷ 5 ∷ 6 ∷ []) 2 tt h)
+  no_byte_seen (Byte b) h = absurd (h b refl)
   no_byte_seen (Frame f) h = refl
   no_byte_seen (Refused n) h = refl
   no_byte_seen (Cell n) h = refl

@@ -1,0 +1,6 @@
+use borrow.Author.Rules.{rules}
+use Rattle.bus.proofs.Parts.{fits_met}
+use Rattle.bus.proofs.bus_fits.Goals as goal
+
+pub returns : goal.returns
+returns c = fits_met _ _ c.role_fits.ensures

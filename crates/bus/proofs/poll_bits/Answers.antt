@@ -1,0 +1,10 @@
+use borrow.Author.Rules.{rules}
+use Rattle.bus.specs.Bus.{poll_bits}
+use Rattle.bus.proofs.poll_bits.Goals as goal
+
+pub answer-requires : goal.answer-requires
+answer-requires c = c.requires
+
+pub returns : goal.returns
+unfolding poll_bits
+returns c = c.answer.ensures

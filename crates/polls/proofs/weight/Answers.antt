@@ -1,0 +1,6 @@
+use borrow.Author.Rules.{rules}
+use Rattle.polls.proofs.Bits.{weight_met}
+use Rattle.polls.proofs.weight.Goals as goal
+
+pub returns : goal.returns
+returns c = weight_met c.args.line c.requires

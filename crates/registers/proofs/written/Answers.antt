@@ -1,0 +1,9 @@
+use borrow.Author.Rules.{rules}
+use Rattle.registers.specs.Writing.{written}
+use Rattle.registers.proofs.written.Goals as goal
+
+-- `registers::written` meets its contract, register by register.
+
+pub returns : goal.returns
+unfolding written
+returns c = cc

@@ -1,0 +1,6 @@
+use Rattle.state.proofs.Parts.{shows_met}
+use borrow.Author.Rules.{rules}
+use Rattle.state.proofs.requests.shows.Goals as goal
+
+pub returns : goal.returns
+returns c = shows_met _ _ c.requests_show.ensures

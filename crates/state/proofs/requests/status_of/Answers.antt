@@ -1,0 +1,6 @@
+use Rattle.state.proofs.Parts.{status_met}
+use borrow.Author.Rules.{rules}
+use Rattle.state.proofs.requests.status_of.Goals as goal
+
+pub returns : goal.returns
+returns c = status_met _ _ _ _ c.conditions.ensures c.shows.ensures c.status_byte.ensures

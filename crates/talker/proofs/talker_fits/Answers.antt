@@ -1,0 +1,6 @@
+use Rattle.talker.proofs.Parts.{fits_met}
+use borrow.Author.Rules.{rules}
+use Rattle.talker.proofs.talker_fits.Goals as goal
+
+pub returns : goal.returns
+returns c = fits_met _ _ c.role_fits.ensures
