@@ -4,21 +4,17 @@ use mathlib.Core.Path.{◌≡◌, ap, ◌∙◌}
 use mathlib.Core.List.{List, [], ◌++◌, append-nil}
 use native.Mathlib.Omega.{arith}
 use lib.ListN.{length, take, drop, length-append, length-drop, drop_of_length-le, take-append-drop}
-use lib.Seq.{take_all, take-length, take_at, drop_at}
+use lib.Seq.{take_at, drop_at}
 use Rattle.codec.specs.Codec.{Codec}
 use Rattle.codec.specs.Blocks.{packed}
 
-pub both_copied : (n : ℕ) (h t b b₁ ys : List ℕ) → length h ≡ n → length b ≡ n + length t → b₁ ≡ take (length h) h ++ drop (length h) b →
-    ys ≡ take (length t) t ++ drop (length t) (take (length b₁ - n) (drop n b₁)) → take n b₁ ++ (ys ++ drop (length b₁ - n) (drop n b₁)) ≡ h ++ t
-both_copied n h t b b₁ ys lh lb p q =
-    let first : b₁ ≡ h ++ drop n b = p ∙ (λ j. take-length h j ++ drop (lh j) b) in
+pub both_copied : (n : ℕ) (h t b b₁ ys : List ℕ) → length h ≡ n → length b ≡ n + length t → b₁ ≡ h ++ drop n b → ys ≡ t →
+    take n b₁ ++ (ys ++ drop (length b₁ - n) (drop n b₁)) ≡ h ++ t
+both_copied n h t b b₁ ys lh lb first there =
     let front : take n b₁ ≡ h = ap (take n) first ∙ take_at h (drop n b) n lh in
     let back : drop n b₁ ≡ drop n b = ap (drop n) first ∙ drop_at h (drop n b) n lh in
-    let size : length (drop n b) ≡ length t = omega (arith, length-drop n b) in
-    let room : length b₁ - n ≡ length t = omega (arith, ap length first, length-append h (drop n b)) in
-    let all : take (length t) (drop n b) ≡ drop n b = take_all (length t) (drop n b) (omega arith) in
-    let none : drop (length t) (drop n b) ≡ [] = drop_of_length-le (drop n b) {i = length t} (omega arith) in
-    let there : ys ≡ t = q ∙ rw (take-length t, room, back, all, none, append-nil) in
+    let room : length b₁ - n ≡ length t = omega (arith, ap length first, length-append h (drop n b), length-drop n b) in
+    let none : drop (length t) (drop n b) ≡ [] = drop_of_length-le (drop n b) {i = length t} (omega (arith, length-drop n b)) in
     rw (front, there, back, room, none, append-nil)
 
 -- a state's bytes in two parts, the second behind the first, are its block

@@ -75,7 +75,7 @@ pub fn write_both(block: &mut [u8], head: &[u8], tail: &[u8])
     requires { length block.old ≡ length head.now + length tail.now }
     ensures { block.new ≡ head.now ++ tail.now }
 {
-    bytes::copy(head, block);
     let n = head.len();
-    bytes::copy(tail, &mut block[n..]);
+    block[..n].copy_from_slice(head);
+    block[n..].copy_from_slice(tail);
 }

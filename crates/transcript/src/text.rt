@@ -20,8 +20,9 @@ pub fn put_all(out: &mut [u8], at: usize, text: &[u8]) -> usize
     requires { at + length text.now ≤ length out.old }
     ensures { Wrote out.old at text.now out.new result }
 {
-    let n = bytes::copy(text, &mut out[at..]);
-    at + n
+    let end = at + text.len();
+    out[at..end].copy_from_slice(text);
+    end
 }
 
 // Writes a number below 1,000 in decimal.

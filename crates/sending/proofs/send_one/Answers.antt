@@ -7,12 +7,12 @@ use Rattle.sending.proofs.send_one.Goals as goal
 pub one_frame-requires : goal.one_frame-requires
 one_frame-requires c =
     let l = c.skipped-q.ensures.left in
-    (l.fit, enough _ _ _ End l.fit (sym c.decided-d.ensures ∙ c.in-End.is))
+    record { fit = l.fit; n_le_len = enough _ _ _ End l.fit (sym c.decided-d.ensures ∙ c.in-End.is) }
 
 pub one_frame-requires-in-Data : goal.one_frame-requires-in-Data
 one_frame-requires-in-Data c =
     let l = c.skipped-q.ensures.left in
-    (l.fit, enough _ _ _ Data l.fit (sym c.decided-d.ensures ∙ c.in-Data.is))
+    record { fit = l.fit; n_le_len = enough _ _ _ Data l.fit (sym c.decided-d.ensures ∙ c.in-Data.is) }
 
 pub returns-in-End : goal.returns-in-End
 returns-in-End c = end_met _ _ _ _ c.requires c.skipped-q.ensures.left _ (sym c.decided-d.ensures ∙ c.in-End.is) c.one_frame.ensures

@@ -5,12 +5,6 @@ use Rattle.sending.specs.Sending.{Left, is_removed}
 use Rattle.sending.proofs.Chain.{left_start, left_again, pair_enough}
 use Rattle.sending.proofs.skipped.Goals as goal
 
-abbrev decreases-loop : tie.decreases-loop
-decreases-loop rule s q₀ q = q.len
-
-abbrev invariant-loop : tie.invariant-loop
-invariant-loop rule s q₀ q = Left rule s q₀ q
-
 pub loop-rule-init : goal.loop-rule-init
 loop-rule-init c = left_start _ _ _ c.requires
 
@@ -20,7 +14,10 @@ decided-requires c = c.loop-rule.invariant.fit
 pub drop_oldest-q-requires : goal.drop_oldest-q-requires
 drop_oldest-q-requires c =
     let l = c.loop-rule.invariant in
-    (l.fit.within, pair_enough _ _ _ l.fit (sym (c.removes.ensures ∙ ap is_removed c.decided.ensures) ∙ c.loop-rule-test.true))
+    record {
+      within = l.fit.within;
+      n_le_len = pair_enough _ _ _ l.fit (sym (c.removes.ensures ∙ ap is_removed c.decided.ensures) ∙ c.loop-rule-test.true);
+    }
 
 pub loop-rule-smaller : goal.loop-rule-smaller
 loop-rule-smaller c =

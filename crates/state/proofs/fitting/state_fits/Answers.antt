@@ -4,5 +4,5 @@ use Rattle.state.proofs.fitting.state_fits.Goals as goal
 
 pub returns : goal.returns
 returns c =
-    fits_met _ _ _ _ _ _ _ _ c.ring-fits.ensures c.ring-fits2.ensures
-    c.sizes-obeyed.ensures c.registers-fit.ensures c.talker_fits.ensures
+    fits_met _ _ _ _ _ _ _ _ c.ring_fits.ensures c.ring_fits-2.ensures
+    c.sizes_obeyed.ensures c.registers_fit.ensures c.talker_fits.ensures

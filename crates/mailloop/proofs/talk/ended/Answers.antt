@@ -1,0 +1,6 @@
+use borrow.Author.Rules.{rules}
+use Rattle.mailloop.proofs.Sending.{ended_met}
+use Rattle.mailloop.proofs.talk.ended.Goals as goal
+
+pub returns : goal.returns
+returns c = ended_met _ _ _ _ c.ended-addressed.ensures c.make.ensures
