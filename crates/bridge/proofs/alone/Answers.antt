@@ -1,0 +1,6 @@
+use Rattle.bridge.proofs.Steps.{none_told}
+use borrow.Author.Rules.{rules}
+use Rattle.bridge.proofs.alone.Goals as goal
+
+pub returns : goal.returns
+returns c = none_told _ _ _ c.refused.ensures

@@ -1,0 +1,19 @@
+use mathlib.Core.Path.{ap}
+use mathlib.Core.Bool.{not}
+use borrow.Author.Rules.{rules}
+use mathlib.Core.Path.{refl}
+use Rattle.mailstate.proofs.Fits.{is_misfit, is_fit}
+use Rattle.mailbox.specs.Calls.{checks_on, outcome, tobus_after, toloop_after, bus_clear}
+use Rattle.mailbox.proofs.Steps.{misfit_met, done_met}
+use Rattle.mailbox.proofs.bus_clear.Goals as goal
+
+pub returns-then-not-state_fits : goal.returns-then-not-state_fits
+returns-then-not-state_fits c =
+    let a = c.args in
+    misfit_met a.s a.tobus.now a.toloop.now (is_misfit c.state_fits.ensures (ap not c.if-not-state_fits.true)) bus_clear _ c.refused.ensures
+
+pub returns : goal.returns
+unfolding checks_on outcome tobus_after toloop_after
+returns c =
+    let a = c.args in
+    done_met a.s a.tobus.now a.toloop.now (is_fit c.state_fits.ensures (ap not c.if-not-state_fits.false)) bus_clear _ _ _ refl c.cleared.ensures refl refl

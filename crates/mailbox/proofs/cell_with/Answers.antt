@@ -1,0 +1,6 @@
+use borrow.Author.Rules.{rules}
+use Rattle.mailbox.proofs.Parts.{cell_marked}
+use Rattle.mailbox.proofs.cell_with.Goals as goal
+
+pub returns-then-mark : goal.returns-then-mark
+returns-then-mark c = cell_marked _ _ c.if-mark.true

@@ -1,0 +1,6 @@
+use borrow.Author.Rules.{rules}
+use Rattle.mailbox.proofs.Parts.{cleared_met}
+use Rattle.mailbox.proofs.cleared.Goals as goal
+
+pub returns : goal.returns
+returns c = cleared_met _ _ _ c.interface_cleared-b.ensures c.done.ensures

@@ -1,0 +1,6 @@
+use borrow.Author.Rules.{rules}
+use Rattle.mailbox.proofs.Parts.{lines_met}
+use Rattle.mailbox.proofs.lines.Goals as goal
+
+pub returns : goal.returns
+returns c = lines_met _ _ _ c.poll_bits-bits.ensures c.cell_with-shown.ensures
