@@ -1,3 +1,5 @@
+use mathlib.Core.Path.{ap}
+use mathlib.Core.Bool.{not}
 use mathlib.Core.Path.{refl}
 use Rattle.state.proofs.Fits.{is_misfit, is_fit, rx_fits}
 use Rattle.bridge.specs.Calls.{line_byte}
@@ -8,12 +10,12 @@ use Rattle.bridge.proofs.line_byte.Goals as goal
 pub returns-then-not-state_fits : goal.returns-then-not-state_fits
 returns-then-not-state_fits c =
     let a = c.args in
-    misfit_told a.s a.rx.now a.tx.now (is_misfit c.state_fits.ensures c.if-not-state_fits.true) (line_byte a.b) _ c.alone.ensures
+    misfit_told a.s a.rx.now a.tx.now (is_misfit c.state_fits.ensures (ap not c.if-not-state_fits.true)) (line_byte a.b) _ c.alone.ensures
 
 pub taken-t-requires : goal.taken-t-requires
 taken-t-requires c =
     let a = c.args in
-    rx_fits a.s a.rx.now a.tx.now (is_fit c.state_fits.ensures c.if-not-state_fits.false)
+    rx_fits a.s a.rx.now a.tx.now (is_fit c.state_fits.ensures (ap not c.if-not-state_fits.false))
 
 pub overflow_cast-left : goal.overflow_cast-left
 overflow_cast-left c =
@@ -24,5 +26,5 @@ overflow_cast-left c =
 pub returns : goal.returns
 returns c =
     let a = c.args in
-    let e = is_fit c.state_fits.ensures c.if-not-state_fits.false in
+    let e = is_fit c.state_fits.ensures (ap not c.if-not-state_fits.false) in
     line_done a.s a.rx.now a.tx.now e a.b _ _ _ c.taken-t.ensures c.done.ensures refl

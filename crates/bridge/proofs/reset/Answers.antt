@@ -1,3 +1,4 @@
+use mathlib.Core.Bool.{not}
 use mathlib.Core.Path.{refl, ap}
 use Rattle.state.proofs.Fits.{is_misfit, is_fit}
 use Rattle.bridge.specs.Calls.{checks_on, done_with, outcome, room_of, settled_by, rx_after, tx_after, reset}
@@ -8,11 +9,11 @@ use Rattle.bridge.proofs.reset.Goals as goal
 pub returns-then-not-state_fits : goal.returns-then-not-state_fits
 returns-then-not-state_fits c =
     let a = c.args in
-    misfit_met a.s a.rx.now a.tx.now (is_misfit c.state_fits.ensures c.if-not-state_fits.true) reset _ c.refused.ensures
+    misfit_met a.s a.rx.now a.tx.now (is_misfit c.state_fits.ensures (ap not c.if-not-state_fits.true)) reset _ c.refused.ensures
 
 pub returns : goal.returns
 unfolding checks_on outcome settled_by rx_after tx_after room_of
 returns c =
     let a = c.args in
-    let e = is_fit c.state_fits.ensures c.if-not-state_fits.false in
+    let e = is_fit c.state_fits.ensures (ap not c.if-not-state_fits.false) in
     done_met a.s a.rx.now a.tx.now e reset _ _ _ _ refl (λ q. refl) (ap done_with c.start-t.ensures) refl refl refl c.done.ensures

@@ -1,3 +1,5 @@
+use mathlib.Core.Path.{ap}
+use mathlib.Core.Bool.{not}
 use Rattle.state.proofs.Fits.{is_misfit, is_fit, rx_fits}
 use Rattle.bridge.specs.Calls.{receive}
 use Rattle.bridge.proofs.Steps.{show_misfit, show_fit}
@@ -7,14 +9,14 @@ use Rattle.bridge.proofs.show_receive.Goals as goal
 pub returns-then-not-state_fits : goal.returns-then-not-state_fits
 returns-then-not-state_fits c =
     let a = c.args in
-    show_misfit a.s a.rx.now a.tx.now (is_misfit c.state_fits.ensures c.if-not-state_fits.true) receive
+    show_misfit a.s a.rx.now a.tx.now (is_misfit c.state_fits.ensures (ap not c.if-not-state_fits.true)) receive
 
 pub show-requires : goal.show-requires
 show-requires c =
     let a = c.args in
-    (rx_fits a.s a.rx.now a.tx.now (is_fit c.state_fits.ensures c.if-not-state_fits.false)).ring
+    (rx_fits a.s a.rx.now a.tx.now (is_fit c.state_fits.ensures (ap not c.if-not-state_fits.false))).ring
 
 pub returns : goal.returns
 returns c =
     let a = c.args in
-    show_fit a.s a.rx.now a.tx.now (is_fit c.state_fits.ensures c.if-not-state_fits.false) receive _ c.show.ensures.bytes
+    show_fit a.s a.rx.now a.tx.now (is_fit c.state_fits.ensures (ap not c.if-not-state_fits.false)) receive _ c.show.ensures.bytes

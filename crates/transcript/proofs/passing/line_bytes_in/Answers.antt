@@ -1,0 +1,46 @@
+use borrow.Author.Rules.{rules}
+use Prim.Native.Nat.{◌+◌, ◌≤◌, ◌<◌}
+use native.Mathlib.Omega.{arith}
+use mathlib.Core.Path.{◌≡◌, refl}
+use lib.ListN.{length}
+use Rattle.bridge.specs.Calls.{world}
+use Rattle.transcript.specs.Transcript.{line_bytes_in}
+use Rattle.transcript.proofs.Turns.{line_in_again, line_in_ends}
+use Rattle.transcript.proofs.passing.line_bytes_in.Goals as goal
+
+abbrev decreases-loop : tie.decreases-loop
+decreases-loop rx₀ tx x i n t₀ at₀ left₀ rx t at left = left
+
+abbrev invariant-loop : tie.invariant-loop
+invariant-loop rx₀ tx x i n t₀ at₀ left₀ rx t at left =
+    (line_bytes_in left x at (world t rx tx) ≡ line_bytes_in n x i (world t₀ rx₀ tx)) × (((at + left ≤ length x) × (at + left < 65536)) × (length rx ≡ length rx₀))
+
+pub loop-left-init : goal.loop-left-init
+loop-left-init c = (refl, (c.requires, refl))
+
+pub bounds-x-at : goal.bounds-x-at
+bounds-x-at c = omega arith
+
+pub overflow_add-at : goal.overflow_add-at
+overflow_add-at c =
+    omega
+    (arith, c.loop-left.invariant.1.0.1, c.loop-left-test.true)
+
+pub overflow_sub-left : goal.overflow_sub-left
+overflow_sub-left c = omega arith
+
+pub loop-left-smaller : goal.loop-left-smaller
+loop-left-smaller c = omega arith
+
+pub loop-left-preserved : goal.loop-left-preserved
+loop-left-preserved c = (
+  line_in_again _ _ _ _ _ _ _ _ c.loop-left-test.true c.line_byte-told.ensures
+      c.loop-left.invariant.0,
+  ((omega arith, omega arith), search rules),
+)
+
+pub shape_of-rx : goal.shape_of-rx
+shape_of-rx c = c.loop-left.invariant.1.1
+
+pub returns : goal.returns
+returns c = line_in_ends _ _ _ _ c.loop-left-test.false c.loop-left.invariant.0

@@ -1,0 +1,6 @@
+use Rattle.transcript.proofs.Writing.{wrote_one}
+use borrow.Author.Rules.{rules}
+use Rattle.transcript.proofs.text.put.Goals as goal
+
+pub returns : goal.returns
+returns c = wrote_one _ _ _ c.requires
