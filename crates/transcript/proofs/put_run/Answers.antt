@@ -8,8 +8,8 @@ pub put_refused-requires : goal.put_refused-requires
 put_refused-requires c =
     omega (
       arith,
-      c.put_all_lem.ensures.next,
-      c.put_all_lem.ensures.size,
+      c.put_all-to.ensures.next,
+      c.put_all-to.ensures.size,
       c.requires.in_bounds,
     )
 
@@ -19,16 +19,16 @@ returns-then-fault-ne0 c =
     (create_state 8 _ _ _
     c.create-o.ensures)
     c.set_registers-g.ensures
-    c.put_all_lem.ensures
+    c.put_all-to.ensures
     c.if-fault-ne0.true c.put_refused.ensures
 
 pub put_rest-requires : goal.put_rest-requires
 put_rest-requires c =
-    let o = c.put_all_lem.ensures in
+    let o = c.put_all-to.ensures in
     let p = c.requires in
     record { whole = p.0; to_in_bounds = omega (arith, o.next, o.size, p.1) }
 
 pub returns : goal.returns
 returns c =
     run_goes _ _ _ _ _ _ (create_state 8 _ _ _ c.create-o.ensures) c.set_registers-g.ensures
-    c.put_all_lem.ensures c.if-fault-ne0.false c.put_rest.ensures
+    c.put_all-to.ensures c.if-fault-ne0.false c.put_rest.ensures

@@ -8,12 +8,6 @@ use Rattle.transcript.specs.Transcript.{line_out}
 use Rattle.transcript.proofs.Turns.{line_stops, line_goes, count_ends}
 use Rattle.transcript.proofs.passing.count_line.Goals as goal
 
-abbrev decreases-loop : tie.decreases-loop
-decreases-loop rx tx n t₀ left₀ k₀ t left k = left
-
-abbrev invariant-loop : tie.invariant-loop
-invariant-loop rx tx n t₀ left₀ k₀ t left k = (k + length (line_out left (world t rx tx)) ≡ length (line_out n (world t₀ rx tx))) × (k + left ≤ n)
-
 pub loop-left-init : goal.loop-left-init
 loop-left-init c = (omega arith, omega arith)
 

@@ -8,13 +8,6 @@ use Rattle.transcript.specs.Transcript.{line_bytes_in}
 use Rattle.transcript.proofs.Turns.{line_in_again, line_in_ends}
 use Rattle.transcript.proofs.passing.line_bytes_in.Goals as goal
 
-abbrev decreases-loop : tie.decreases-loop
-decreases-loop rx₀ tx x i n t₀ at₀ left₀ rx t at left = left
-
-abbrev invariant-loop : tie.invariant-loop
-invariant-loop rx₀ tx x i n t₀ at₀ left₀ rx t at left =
-    (line_bytes_in left x at (world t rx tx) ≡ line_bytes_in n x i (world t₀ rx₀ tx)) × (((at + left ≤ length x) × (at + left < 65536)) × (length rx ≡ length rx₀))
-
 pub loop-left-init : goal.loop-left-init
 loop-left-init c = (refl, (c.requires, refl))
 

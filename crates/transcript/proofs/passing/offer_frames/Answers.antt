@@ -5,12 +5,6 @@ use lib.ListN.{length}
 use Rattle.transcript.proofs.Turns.{rest_start, Offering, offer_again, offer_ends}
 use Rattle.transcript.proofs.passing.offer_frames.Goals as goal
 
-abbrev decreases-loop : tie.decreases-loop
-decreases-loop rx tx₀ x i n out₀ to t₀ at₀ left₀ k₀ tx out t at left k = left
-
-abbrev invariant-loop : tie.invariant-loop
-invariant-loop rx tx₀ x i n out₀ to t₀ at₀ left₀ k₀ tx out t at left k = (Offering x rx tx₀ i n out₀ to t₀ tx out t at left k) × (length tx ≡ length tx₀)
-
 pub loop-left-init : goal.loop-left-init
 loop-left-init c = (
   record {

@@ -8,14 +8,6 @@ use Rattle.transcript.specs.Transcript.{line_out}
 use Rattle.transcript.proofs.Turns.{Rest, rest_start, bytes_end, bytes_again, line_stops, line_goes, line_none}
 use Rattle.transcript.proofs.passing.put_line.Goals as goal
 
-abbrev decreases-loop : tie.decreases-loop
-decreases-loop rx tx n out₀ to t₀ left₀ k₀ out t left k = left
-
-abbrev invariant-loop : tie.invariant-loop
-invariant-loop rx tx n out₀ to t₀ left₀ k₀ out t left k =
-    (Rest out₀ to (bytes_text (line_out n (world t₀ rx tx))) out k (bytes_text (line_out left (world t rx tx)))) ×
-    ((k + 4 * left ≤ to + 4 * n) × (to + 4 * n ≤ length out))
-
 pub loop-left-init : goal.loop-left-init
 loop-left-init c = (rest_start _ _ _, (omega arith, c.requires))
 

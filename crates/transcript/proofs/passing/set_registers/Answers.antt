@@ -8,13 +8,6 @@ use Rattle.transcript.specs.Transcript.{set_registers}
 use Rattle.transcript.proofs.Turns.{set_again, set_stops, set_ends}
 use Rattle.transcript.proofs.passing.set_registers.Goals as goal
 
-abbrev decreases-loop : tie.decreases-loop
-decreases-loop rx tx x i n t₀ at₀ left₀ t at left = left
-
-abbrev invariant-loop : tie.invariant-loop
-invariant-loop rx tx x i n t₀ at₀ left₀ t at left =
-    (set_registers left x at (world t rx tx) ≡ set_registers n x i (world t₀ rx tx)) × ((at + 2 * left ≤ length x) × (at + 2 * left < 65536))
-
 pub loop-left-init : goal.loop-left-init
 loop-left-init c = (refl, c.requires)
 

@@ -6,5 +6,5 @@ pub returns : goal.returns
 returns c =
     refusal_line _ _ c.requires
     c.wide16.ensures.0
-    c.put_all_lem.ensures
+    c.put_all-k.ensures
     c.put_number-j.ensures c.put.ensures
