@@ -73,15 +73,11 @@ number_three n h j l p q s =
 
 -- ---- a text that was copied over what stands from `at` on
 
-pub put_text : (out text ys : List ℕ) (at r : ℕ) → at + length text ≤ length out → r ≡ length text →
-    ys ≡ take (length text) text ++ drop (length text) (take (length out - at) (drop at out)) →
-    Wrote out at text (take at out ++ (ys ++ drop (length out - at) (drop at out))) (at + r)
-put_text out text ys at r h e q =
-    let mid : take (length out - at) (drop at out) ≡ drop at out = take_all (length out - at) (drop at out) (omega (arith, length-drop at out)) in
-    let none : drop (length out - at) (drop at out) ≡ [] = drop_of_length-le (drop at out) {i = length out - at} (omega (arith, length-drop at out)) in
-    let there : ys ≡ text ++ drop (at + length text) out = q ∙ rw (mid, take-length text, drop-drop (length text) at out) in
-    let whole : take at out ++ (ys ++ drop (length out - at) (drop at out)) ≡ overwritten at text out = rw (there, none, append-nil) in
-    record { bytes = whole; next = ap (λ (n : ℕ). at + n) e; size = ap length whole ∙ overwritten_size at text out h }
+pub put_text : (out text ys : List ℕ) (at n : ℕ) → at + length text ≤ length out → n ≡ length text → ys ≡ text →
+    Wrote out at text (take at out ++ (ys ++ drop n (drop at out))) (at + length text)
+put_text out text ys at n h e q =
+    let whole : take at out ++ (ys ++ drop n (drop at out)) ≡ overwritten at text out = rw (q, e, drop-drop (length text) at out) in
+    record { bytes = whole; next = refl; size = ap length whole ∙ overwritten_size at text out h }
 
 -- ---- the line of a refusal, and of a frame
 

@@ -6,23 +6,23 @@ use Rattle.transcript.proofs.put_rest.Goals as goal
 pub overflow_add-second-2 : goal.overflow_add-second-2
 overflow_add-second-2 c =
     let p = c.requires in
-    omega (arith, p.0.regs, p.0.bytes)
+    omega (arith, p.whole.regs, p.whole.bytes)
 
 pub offer_frames-w-requires : goal.offer_frames-w-requires
 offer_frames-w-requires c =
     let p = c.requires in (
       (
-        omega (arith, p.0.regs, p.0.bytes, p.0.frames, p.0.all, p.1),
-        omega (arith, p.0.regs, p.0.bytes, p.0.frames, p.0.all, p.1),
+        omega (arith, p.whole.regs, p.whole.bytes, p.whole.frames, p.whole.all, p.to_in_bounds),
+        omega (arith, p.whole.regs, p.whole.bytes, p.whole.frames, p.whole.all, p.to_in_bounds),
       ),
-      omega (arith, p.0.regs, p.0.bytes, p.0.frames, p.0.all, p.1),
+      omega (arith, p.whole.regs, p.whole.bytes, p.whole.frames, p.whole.all, p.to_in_bounds),
     )
 
 pub put_last-requires : goal.put_last-requires
 put_last-requires c =
     let o = c.offer_frames-w.ensures in
     let p = c.requires in
-    omega (arith, o.short, o.wrote.size, p.0.regs, p.0.bytes, p.0.frames, p.0.all, p.1)
+    omega (arith, o.short, o.wrote.size, p.whole.regs, p.whole.bytes, p.whole.frames, p.whole.all, p.to_in_bounds)
 
 pub returns : goal.returns
 returns c =

@@ -26,7 +26,7 @@ pub put_rest-requires : goal.put_rest-requires
 put_rest-requires c =
     let o = c.put_all-to.ensures in
     let p = c.requires in
-    record { whole = p.0; to_in_bounds = omega (arith, o.next, o.size, p.1) }
+    record { whole = p.whole; to_in_bounds = omega (arith, o.next, o.size, p.in_bounds) }
 
 pub returns : goal.returns
 returns c =

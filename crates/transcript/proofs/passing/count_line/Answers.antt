@@ -1,3 +1,4 @@
+use mathlib.Core.Bool.{not}
 use borrow.Author.Rules.{rules}
 use Prim.Native.Nat.{◌+◌, ◌≤◌}
 use native.Mathlib.Omega.{arith}
@@ -15,7 +16,7 @@ pub returns-then-not-is_byte : goal.returns-then-not-is_byte
 returns-then-not-is_byte c =
     let s = ap length
     (line_stops _ _ _ _ _ _ c.loop-left-test.true c.ask_line_byte-a.ensures c.is_byte.ensures
-    c.if-not-is_byte.true) in
+    (ap not c.if-not-is_byte.true)) in
     (omega (arith, s, c.loop-left.invariant.0), omega (arith, c.loop-left.invariant.1))
 
 pub overflow_add-k : goal.overflow_add-k
@@ -32,7 +33,7 @@ loop-left-preserved c =
     let s = ap length
     (line_goes _ _ _ _ _ _ c.loop-left-test.true
     c.ask_line_byte-a.ensures
-    c.is_byte.ensures _ _ c.if-not-is_byte.false
+    c.is_byte.ensures _ _ (ap not c.if-not-is_byte.false)
     c.byte_in.ensures c.take_line_byte-o.ensures) in (
       omega (arith, s, c.loop-left.invariant.0),
       omega (

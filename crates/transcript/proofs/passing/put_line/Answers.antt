@@ -1,3 +1,5 @@
+use mathlib.Core.Path.{ap}
+use mathlib.Core.Bool.{not}
 use borrow.Author.Rules.{rules}
 use Prim.Native.Nat.{◌+◌, ◌*◌, ◌≤◌}
 use native.Mathlib.Omega.{arith}
@@ -17,7 +19,7 @@ shape_of-out-then-not-is_byte c = c.loop-left.invariant.0.size
 pub returns-then-not-is_byte : goal.returns-then-not-is_byte
 returns-then-not-is_byte c = (
   bytes_end (line_stops _ _ _ _ _ _ c.loop-left-test.true c.ask_line_byte-a.ensures
-      c.is_byte.ensures c.if-not-is_byte.true) c.loop-left.invariant.0,
+      c.is_byte.ensures (ap not c.if-not-is_byte.true)) c.loop-left.invariant.0,
   omega (arith, c.loop-left.invariant.1.0),
 )
 
@@ -47,7 +49,7 @@ loop-left-preserved c = (
       (line_goes _ _ _ _ _ _ c.loop-left-test.true
       c.ask_line_byte-a.ensures
       c.is_byte.ensures
-      _ _ c.if-not-is_byte.false
+      _ _ (ap not c.if-not-is_byte.false)
       c.byte_in-b.ensures c.take_line_byte-o.ensures)
       c.byte_in-b.ensures
       c.loop-left.invariant.0

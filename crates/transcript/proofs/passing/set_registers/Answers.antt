@@ -14,9 +14,6 @@ loop-left-init c = (refl, c.requires)
 pub bounds-x-at : goal.bounds-x-at
 bounds-x-at c = omega arith
 
-pub overflow_add-at : goal.overflow_add-at
-overflow_add-at c = omega arith
-
 pub bounds-x-at-in-loop-left : goal.bounds-x-at-in-loop-left
 bounds-x-at-in-loop-left c = omega arith
 
