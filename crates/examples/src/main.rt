@@ -2,71 +2,68 @@
 //! file stdin: the paper's examples that are run, and the slips that we have seen.
 #![tactic(auto)]
 
-ghost use Rattle.std.specs.Prelude.{◌≤◌, ◌<◌, length};
+ghost use Rattle.std.specs.Prelude.{◌≤◌, ◌<◌, length, IfOk};
 
 use answers::Answer;
-use libc::STDOUT_FILENO;
 use state::{Outcome, State};
+use std::io;
+use std::io::Input;
 
-fn text(t: &[u8]) {
-    io::write_all(STDOUT_FILENO, t);
+fn text(rt: &impl Print, t: &[u8]) -> io::Result<()> {
+    rt.write_all(t)
 }
 
-fn number(n: u64) {
-    io::print_decimal(STDOUT_FILENO, n);
+fn number(rt: &impl Print, n: u64) -> io::Result<()> {
+    rt.print(n)
 }
 
 // A frame as the paper writes it: control,data.
-fn frame(f: u16) {
-    number(frame::control(f) as u64);
-    text(b",");
-    number(frame::data_byte(f) as u64);
+fn frame(rt: &impl Print, f: u16) -> io::Result<()> {
+    number(rt, frame::control(f) as u64)?;
+    text(rt, b",")?;
+    number(rt, frame::data_byte(f) as u64)
 }
 
-fn answer(a: Answer) {
+fn answer(rt: &impl Print, a: Answer) -> io::Result<()> {
     match a {
-        Answer::Done => {
-            text(b"done");
-        }
-        Answer::Nothing => {
-            text(b"none");
-        }
+        Answer::Done => text(rt, b"done"),
+        Answer::Nothing => text(rt, b"none"),
         Answer::Byte(b) => {
-            text(b"byte ");
-            number(b as u64);
+            text(rt, b"byte ")?;
+            number(rt, b as u64)
         }
         Answer::Frame(f) => {
-            text(b"frame ");
-            frame(f);
+            text(rt, b"frame ")?;
+            frame(rt, f)
         }
         Answer::Refused(n) => {
-            text(b"refused ");
-            number(n as u64);
+            text(rt, b"refused ")?;
+            number(rt, n as u64)
         }
         Answer::Cell(c) => {
-            text(b"cell ");
-            number(c as u64);
+            text(rt, b"cell ")?;
+            number(rt, c as u64)
         }
         Answer::Lines(n) => {
-            text(b"lines ");
-            number(n as u64);
+            text(rt, b"lines ")?;
+            number(rt, n as u64)
         }
     }
 }
 
 // The state after a call whose answer is printed.
-fn answered(o: Outcome) -> State {
-    text(b": ");
+fn answered(rt: &impl Print, o: Outcome) -> io::Result<State> {
+    text(rt, b": ")?;
     let a = o.answer;
-    answer(a);
-    o.state
+    answer(rt, a)?;
+    Ok(o.state)
 }
 
 // The state as it is, after a call that only looks.
-fn asked(s: State, a: Answer) -> State {
-    text(b": ");
-    answer(a);
-    s
+fn asked(rt: &impl Print, s: State, a: Answer) -> io::Result<State> {
+    text(rt, b": ")?;
+    answer(rt, a)?;
+    Ok(s)
 }
 
 fn is_digit(b: u8) -> bool {
@@ -130,19 +127,26 @@ fn line_end(script: &[u8], from: usize) -> usize
 }
 
 // The state after the call of a line, by the first letter of the line: c, r, l, b, n, t, f, a, s; any other line is a title.
-fn called(s: State, rx: &mut [u16], tx: &mut [u8], line: &[u8], first: u8) -> State {
+fn called(
+    rt: &impl Print,
+    s: State,
+    rx: &mut [u16],
+    tx: &mut [u8],
+    line: &[u8],
+    first: u8,
+) -> io::Result<State> {
     let a = number_in(line, 0);
     let b = number_in(line, 1);
     match first {
-        99 => answered(bridge::create(rx, tx, a as usize)),
-        114 => answered(bridge::write_register(s, rx, tx, a, b)),
-        108 => answered(bridge::line_byte(s, rx, tx, (a % 256) as u8).outcome),
-        98 => answered(bridge::take_break(s, rx, tx)),
-        110 => asked(s, bridge::ask_line_byte(s, rx, tx)),
-        116 => answered(bridge::take_line_byte(s, rx, tx, (a % 256) as u8)),
-        102 => answered(bridge::loop_frame(s, rx, tx, a * 256 + b).outcome),
-        97 => answered(bridge::loop_frame(s, rx, tx, a).outcome),
-        _ => s,
+        99 => answered(rt, bridge::create(rx, tx, a as usize)),
+        114 => answered(rt, bridge::write_register(s, rx, tx, a, b)),
+        108 => answered(rt, bridge::line_byte(s, rx, tx, (a % 256) as u8).outcome),
+        98 => answered(rt, bridge::take_break(s, rx, tx)),
+        110 => asked(rt, s, bridge::ask_line_byte(s, rx, tx)),
+        116 => answered(rt, bridge::take_line_byte(s, rx, tx, (a % 256) as u8)),
+        102 => answered(rt, bridge::loop_frame(s, rx, tx, a * 256 + b).outcome),
+        97 => answered(rt, bridge::loop_frame(s, rx, tx, a).outcome),
+        _ => Ok(s),
     }
 }
 
@@ -155,60 +159,73 @@ fn names_receive(line: &[u8]) -> bool {
 }
 
 // How many cells or bytes a store shows.
-fn shown(s: State, rx: &[u16], tx: &[u8], receive: bool) {
-    text(b": ");
+fn shown(rt: &impl Print, s: State, rx: &[u16], tx: &[u8], receive: bool) -> io::Result<()> {
+    text(rt, b": ")?;
     if receive {
         let cells = bridge::show_receive(s, rx, tx);
-        number(cells.len() as u64);
-        return;
+        return number(rt, cells.len() as u64);
     }
     let bytes = bridge::show_transmit(s, rx, tx);
-    number(bytes.len() as u64);
+    number(rt, bytes.len() as u64)
 }
 
 // A line of the script, which has a first letter: its call, or how many cells or bytes a store shows.
-fn played(s: State, rx: &mut [u16], tx: &mut [u8], line: &[u8], first: u8) -> State {
-    text(line);
+fn played(
+    rt: &impl Print,
+    s: State,
+    rx: &mut [u16],
+    tx: &mut [u8],
+    line: &[u8],
+    first: u8,
+) -> io::Result<State> {
+    text(rt, line)?;
     if first == 115 {
-        shown(s, rx, tx, names_receive(line));
-        text(b"\n");
-        return s;
+        shown(rt, s, rx, tx, names_receive(line))?;
+        text(rt, b"\n")?;
+        return Ok(s);
     }
-    let t = called(s, rx, tx, line, first);
-    text(b"\n");
-    t
+    let t = called(rt, s, rx, tx, line, first)?;
+    text(rt, b"\n")?;
+    Ok(t)
 }
 
 // The lines of a script from a place up to an empty line or its end, on these stores; gives the place behind.
-fn play(script: &[u8], from: usize, rx: &mut [u16], tx: &mut [u8]) -> usize
+fn play(
+    rt: &impl Print,
+    script: &[u8],
+    from: usize,
+    rx: &mut [u16],
+    tx: &mut [u8],
+) -> io::Result<usize>
     requires { (from ≤ length script.now) × (length script.now ≤ 8192) }
-    ensures { result ≤ length script.now }
+    ensures { IfOk result (λ n. n ≤ length script.now) }
 {
     let mut s = state::fitting::start(1, 4, 3);
     let mut at = from;
     while at < script.len() {
         let end = line_end(script, at);
         let first = script[at];
-        s = played(s, rx, tx, &script[at..end], first);
+        s = played(rt, s, rx, tx, &script[at..end], first)?;
         if end >= script.len() {
-            return end;
+            return Ok(end);
         }
         at = end + 1;
         if first == 10 {
-            return at;
+            return Ok(at);
         }
     }
-    at
+    Ok(at)
 }
 
-fn main() {
+fn main(rt: HostRuntime) -> io::Result<()> {
     let mut input = [0u8; 8192];
-    let n = io::read_full(0, &mut input);
+    let n = streams::read_full(&mut rt.reader(), &mut input)?;
     let mut seven = [0u16; 7];
     let mut eight = [0u16; 8];
     let mut four = [0u16; 4];
     let mut tx = [0u8; 3];
-    let a = play(&input[..n], 0, &mut seven, &mut tx);
-    let b = play(&input[..n], a, &mut eight, &mut tx);
-    play(&input[..n], b, &mut four, &mut tx);
+    let a = play(&rt, &input[..n], 0, &mut seven, &mut tx)?;
+    let b = play(&rt, &input[..n], a, &mut eight, &mut tx)?;
+    play(&rt, &input[..n], b, &mut four, &mut tx)?;
+    Ok(())
 }

@@ -1,11 +1,14 @@
+//! Reads an input, hands it to `transcript::run`, and prints what that answers. Well-formed input has at most 326 bytes, so that what
+//! does not fit the buffer is malformed however it goes on.
 #![tactic(auto)]
 
-// Reads an input, hands it to `transcript::run`, and prints what that answers. Well-formed input has at most 326 bytes, so that what
-// does not fit the buffer is malformed however it goes on.
-fn main() {
-    let mut input = io::buffer();
-    let n = io::read_full(0, &mut input);
-    let mut output = io::buffer();
+use std::io;
+use std::io::Input;
+
+fn main(rt: HostRuntime) -> io::Result<()> {
+    let mut input = [0u8; 4096];
+    let n = streams::read_full(&mut rt.reader(), &mut input)?;
+    let mut output = [0u8; 4096];
     let k = transcript::run(&input[..n], &mut output);
-    io::write_all(1, &output[..k]);
+    rt.write_all(&output[..k])
 }
