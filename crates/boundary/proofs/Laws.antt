@@ -13,7 +13,7 @@ use Rattle.answers.specs.Word.{word, word_with}
 use Rattle.codec.specs.Blocks.{packed}
 use Rattle.codec.proofs.Laws.{packed_length, packed_means, meaning_fits}
 use Rattle.boundary.specs.Product.{Product, Held, held, Kind, creating, showing, calling, call_of, fits_held, shown, said, room, after}
-use Rattle.boundary.specs.CCalls.{Lent, lent, CDid, c_did, place_word, store_of, held_in, opened, fitting}
+use Rattle.boundary.specs.CCalls.{Lent, CDid, c_did, place_word, store_of, held_in, opened, fitting}
 use Rattle.boundary.specs.CCalls.{closed, created_for, called_for, place_of, shown_word, c_by, c_step}
 use Rattle.boundary.specs.CRuns.{packed_world, word_by, answer_word}
 use Rattle.boundary.specs.CLaws.{OneResultInC, ShownPlace, MisfitShowsNothing, MisfitRefused, WrongBlockRefused, SameCall}

@@ -4,7 +4,7 @@ use Rattle.machine.specs.Machine.{narrowed}
 use Rattle.machine.proofs.Opening.{carried, all_carried, opens_narrowed}
 use Rattle.answers.specs.Answers.{Said}
 use Rattle.boundary.specs.Product.{Product, telling_of}
-use Rattle.boundary.specs.CCalls.{opened, held_in}
+use Rattle.boundary.specs.CCalls.{opened}
 use Rattle.boundary.specs.CRuns.{c_telling}
 use Rattle.boundary.specs.CLaws.{CIsTheProduct, CAnswersAsTheProduct, LawsHoldInC, AllHoldInC}
 use Rattle.boundary.specs.Formed.{Formed}

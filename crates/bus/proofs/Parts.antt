@@ -1,6 +1,6 @@
 -- What a function made up of calls gives, by what these gave. Assumes nothing.
 use Prim.Native.Nat.{ℕ}
-use mathlib.Core.Path.{◌≡◌, refl, ap, ◌∙◌}
+use mathlib.Core.Path.{◌≡◌, ap, ◌∙◌}
 use mathlib.Core.Bool.{Bool, false, ◌&&◌}
 use lib.Dec.{eqb, leb, ltb}
 use Rattle.role.specs.declared.Role.{Role}
@@ -11,7 +11,6 @@ use Rattle.role.specs.Orders.{order_of, is_clear}
 use Rattle.role.specs.Commands.{obeyed_role}
 use Rattle.role.specs.RoleFit as role-fit
 use Rattle.polls.specs.declared.Response.{Response}
-use Rattle.polls.specs.Polls as polls
 use Rattle.bus.specs.declared.Bus.{Bus}
 use Rattle.bus.specs.Bus.{response_after, serial_after, commanded, interface_cleared, clears, fit_test}
 

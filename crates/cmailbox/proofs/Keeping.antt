@@ -10,7 +10,7 @@ use lib.ListN.{length}
 use borrow.Author.Tests.{ltb-true}
 use Rattle.branches.proofs.Branches.{by_cond, and_left, and_right}
 use Rattle.frame.specs.Frame.{data_of, is_end}
-use Rattle.answers.specs.Answers.{Said, done, none, byte, frame, refused, part, cell, lines, said}
+use Rattle.answers.specs.Answers.{Said, done, none, byte, frame, refused, part, cell, lines}
 use Rattle.cells.specs.Cells.{Cells}
 use Rattle.boundary.specs.Kept.{Tells, Kept}
 use Rattle.boundary.proofs.Words.{done_told, none_told, refusal_told, lines_told, frame_told, cell_told, SmallNumbers, first_small}
@@ -22,7 +22,7 @@ use Rattle.mailblock.specs.States.{Ranged}
 use Rattle.mailblock.proofs.Laws.{ranged_by, start_ranged, obeyed_ranged}
 use Rattle.mailbox.specs.BusSide as bus-side
 use Rattle.mailbox.specs.Calls.{OnState, reset, loop_frame, bus_command, bus_byte, bus_fetch, bus_clear, bus_lines, Call, create, show, on}
-use Rattle.mailbox.specs.Calls.{World, world, Did, checks_on, checks, tobus_after, toloop_after, not_refused, refused_or, step}
+use Rattle.mailbox.specs.Calls.{World, Did, checks_on, checks, tobus_after, toloop_after, not_refused, refused_or, step}
 use Rattle.maillaws.specs.Mailboxes.{ByteCall}
 use Rattle.maillaws.specs.Replies.{can_answer, is_narrow}
 use Rattle.maillaws.specs.StateFits.{Fits}

@@ -1,5 +1,5 @@
 -- Holding the line off: line bytes in, and line bytes out.
-use Rattle.std.specs.Prelude.{◌≡◌, ℕ, ◌*◌, Bool, true, false, cond, not, ◌&&◌, ◌||◌, List, length, ◌==◌, nat_le, slice_index}
+use Rattle.std.specs.Prelude.{◌≡◌, ℕ, ◌*◌, Bool, false, cond, not, ◌&&◌, ◌||◌, List, length, ◌==◌, nat_le, slice_index}
 use Rattle.registers.specs.declared.Registers.{Registers}
 use Rattle.registers.specs.Meanings.{protocol_on, go, stop}
 use Rattle.store.specs.declared.Ring.{Ring}

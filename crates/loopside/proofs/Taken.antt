@@ -13,7 +13,7 @@ use Rattle.state.specs.State.{with_tx}
 use Rattle.role.proofs.Clears.{clear_order}
 use Rattle.loopside.specs.LoopToLine.{adds, added_state, added_bytes, Added}
 use Rattle.state.specs.Conditions.{serviced, settled_outcome}
-use Rattle.loopside.specs.Frames.{command, ready, returned, data_passed, Passed, identify, command_settled, frame_taken, device_clear}
+use Rattle.loopside.specs.Frames.{ready, returned, data_passed, Passed, identify, command_settled, frame_taken, device_clear}
 use Rattle.loopside.specs.Frames.{frame_settled, adds_bytes, frame_bytes, Framed}
 use Rattle.loopside.proofs.Within.{settled_in, returned_in, command_in, ready_in, identified_in}
 

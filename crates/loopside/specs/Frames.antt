@@ -1,8 +1,7 @@
 -- Frames: what each frame taken does, and the one frame out.
-use Rattle.std.specs.Prelude.{◌≡◌, ℕ, ◌+◌, Bool, true, false, cond, not, ◌&&◌, ◌||◌, List, length, ◌==◌}
+use Rattle.std.specs.Prelude.{◌≡◌, ℕ, ◌+◌, Bool, false, cond, not, ◌&&◌, List, length, ◌==◌}
 use Rattle.frame.specs.Frame.{control_of, data_of, made, is_data}
 use Rattle.role.specs.declared.Order.{Order}
-use Rattle.role.specs.declared.Order.TheVariants.{Unlisten, Listen, Untalk, Talk, Clear, Deselect, Enable, Disable, Local, Unassign, Nothing}
 use Rattle.role.specs.declared.Ready.{Ready}
 use Rattle.role.specs.declared.Ready.TheVariants.{Pass, Address, Data, Status, Finish}
 use Rattle.role.specs.Role.{is_active}

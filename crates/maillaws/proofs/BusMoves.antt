@@ -1,8 +1,8 @@
 -- What a loop frame does to the way to the bus. Assumes nothing.
-use Prim.Native.Nat.{ℕ, ◌+◌, ◌%◌, ◌<◌, ◌≤◌}
+use Prim.Native.Nat.{ℕ, ◌<◌}
 use native.Mathlib.Omega.{arith}
 use mathlib.Core.Path.{◌≡◌, refl, sym, ap, subst, ◌∙◌}
-use mathlib.Core.Bool.{Bool, true, false, cond, ◌&&◌, ◌||◌, not, true≢false}
+use mathlib.Core.Bool.{Bool, true, false, cond, ◌&&◌, not, true≢false}
 use mathlib.Core.List.{List, [], ◌∷◌}
 use lib.Dec.{eqb, leb}
 use borrow.Author.Tests.{leb-false}
@@ -25,7 +25,7 @@ use Rattle.maillaws.proofs.FrameTests.{data_not}
 use Rattle.maillaws.proofs.FrameWays.{Way, Returning, Arriving, Commanding, Asking, is_next, is_next_id, is_back, is_last, is_damaged, is_held, is_heard, is_passed}
 use Rattle.maillaws.proofs.FrameWays.{is_cleared, is_obeyed, is_released, is_assigned, is_send_asked, is_told, is_finishing, is_id_asked, is_accessory}
 use Rattle.maillaws.proofs.FrameWays.{is_ready, is_identified}
-use Rattle.maillaws.proofs.Moves.{Sight, sight, nothing, Move, is_still, is_put, is_emptied, by_sight}
+use Rattle.maillaws.proofs.Moves.{sight, nothing, Move, is_still, is_put, is_emptied, by_sight}
 
 -- a test with a false one
 and_off : (t : Bool) → (t && false) ≡ false

@@ -9,7 +9,6 @@ use borrow.Author.Tests.{eqb-true, eq-eqb, ne_eqb, le-leb, lt-leb, leb-true, lt-
 use Rattle.branches.proofs.Branches.{by_cond, and_left, and_right, same_test}
 use Rattle.machine.specs.Machine.{Obeys}
 use Rattle.answers.specs.Refusals.{first_refusal}
-use Rattle.answers.specs.declared.Answer.TheVariants as answer
 use Rattle.answers.specs.Answers.{said}
 use Rattle.role.specs.Orders.{own_address}
 use Rattle.role.specs.Commands.{merely_addressed, changed_role, obeyed_role, after_command}

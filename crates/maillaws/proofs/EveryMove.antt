@@ -1,10 +1,9 @@
 -- What every call does to each way of the mailbox: the one view of all calls, by way. Assumes nothing.
-use Prim.Native.Nat.{ℕ, ◌+◌, ◌%◌, ◌<◌, ◌≤◌}
-use native.Mathlib.Omega.{arith}
-use mathlib.Core.Path.{◌≡◌, refl, sym, ap, subst, ◌∙◌}
-use mathlib.Core.Bool.{Bool, true, false, cond, ◌&&◌, ◌||◌, not}
-use mathlib.Core.List.{List, [], ◌∷◌}
-use lib.Dec.{eqb, leb, ltb}
+use Prim.Native.Nat.{ℕ}
+use mathlib.Core.Path.{◌≡◌, refl, sym, ap, ◌∙◌}
+use mathlib.Core.Bool.{Bool, true, false, cond, ◌&&◌, ◌||◌}
+use mathlib.Core.List.{[], ◌∷◌}
+use lib.Dec.{eqb, leb}
 use lib.ListN.{length, get_or}
 use borrow.Author.Tests.{eqb-false, leb-false}
 use Rattle.branches.proofs.Branches.{by_cond}
@@ -13,7 +12,7 @@ use Rattle.role.specs.Role.{idle}
 use Rattle.role.proofs.Clears.{clear_order}
 use Rattle.store.specs.Ring.{held, put_bytes}
 use Rattle.answers.specs.Refusals.{first_refusal}
-use Rattle.answers.specs.Answers.{Said, refused, cell, said}
+use Rattle.answers.specs.Answers.{refused, said}
 use Rattle.news.specs.News.{news_byte, no_news}
 use Rattle.way.specs.Way.{empty_way, left_in, fetched}
 use Rattle.bus.specs.declared.Fetch.{Fetch}
@@ -27,7 +26,7 @@ use Rattle.mailstate.specs.State.{with_to_loop}
 use Rattle.mailstate.proofs.Fits.{tobus_fits, toloop_fits}
 use Rattle.mailloop.specs.Messages.{frame_taken}
 use Rattle.mailbox.specs.BusSide as bus-side
-use Rattle.mailbox.specs.Calls.{OnState, reset, loop_frame, bus_command, bus_byte, bus_fetch, bus_clear, bus_lines, Call, create, show, on, World, Did}
+use Rattle.mailbox.specs.Calls.{reset, loop_frame, bus_command, bus_byte, bus_fetch, bus_clear, bus_lines, Call, create, show, on, World, Did}
 use Rattle.mailbox.specs.Calls.{checks, outcome, tobus_after, toloop_after, not_refused, step}
 use Rattle.maillaws.specs.Sights as see
 use Rattle.maillaws.specs.Sights.{Direction, to_bus, to_loop, store_of, ring_of, news_of, counted, loop_active, from_way, bus_listens, cell_for, asks_clear}
@@ -38,7 +37,7 @@ use Rattle.maillaws.proofs.FrameTests.{either_same}
 use Rattle.maillaws.proofs.FrameWays.{way}
 use Rattle.maillaws.proofs.BusMoves.{frame_to_bus}
 use Rattle.maillaws.proofs.LoopMoves.{frame_to_loop}
-use Rattle.maillaws.proofs.Moves.{Sight, sight, nothing, Move, is_still, is_put, is_fetched, is_emptied, is_asked, by_sight}
+use Rattle.maillaws.proofs.Moves.{sight, nothing, Move, is_still, is_put, is_fetched, is_emptied, is_asked, by_sight}
 
 -- what was done, for one way
 abbrev pub Moved : Direction → Call → World → Did → Type 0

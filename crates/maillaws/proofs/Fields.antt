@@ -1,10 +1,10 @@
 -- What a world that fits gives of its fields. Assumes nothing.
-use Prim.Native.Nat.{ℕ, ◌≤◌, ◌<◌}
+use Prim.Native.Nat.{◌<◌}
 use mathlib.Core.Path.{◌≡◌}
-use mathlib.Core.Bool.{Bool, true, false, ◌&&◌}
+use mathlib.Core.Bool.{true, false, ◌&&◌}
 use lib.Dec.{leb, ltb}
 use lib.ListN.{length}
-use borrow.Author.Tests.{leb-true, ltb-true, lt-leb}
+use borrow.Author.Tests.{ltb-true, lt-leb}
 use native.Mathlib.Omega.{arith}
 use Rattle.branches.proofs.Branches.{and_left, and_right}
 use Rattle.role.specs.Role.{is_active}

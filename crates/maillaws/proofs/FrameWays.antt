@@ -4,7 +4,7 @@ use Prim.Native.Nat.{ℕ, ◌+◌}
 use mathlib.Core.Path.{◌≡◌}
 use mathlib.Core.Bool.{true, false, ◌&&◌}
 use mathlib.Core.List.{List}
-use lib.Dec.{eqb, leb}
+use lib.Dec.{eqb}
 use Rattle.branches.proofs.Branches.{by_cond}
 use Rattle.frame.specs.Frame.{control_of, data_of, made, is_data, same_apart}
 use Rattle.role.specs.declared.Ready.{Ready}
@@ -20,7 +20,7 @@ use Rattle.news.specs.News as news
 use Rattle.mailstate.specs.declared.State.{State}
 use Rattle.mailstate.specs.declared.Outcome.{Outcome}
 use Rattle.mailstate.specs.State.{with_to_bus, with_to_loop, with_talker, with_hold, with_response, no_hold}
-use Rattle.mailloop.specs.Sends.{serviced, ended, sends, frame_of, send_waiting, send_id, send_accessory, send_status, send_next}
+use Rattle.mailloop.specs.Sends.{serviced, ended, send_waiting, send_id, send_accessory, send_status, send_next}
 use Rattle.mailloop.specs.Messages.{passed, home, clears, response_after, hold_after, command_state, command, released, identities, readied, ready}
 use Rattle.mailloop.specs.Messages.{identify, holds_back, kept, heard, judged, data_taken, frame_taken}
 

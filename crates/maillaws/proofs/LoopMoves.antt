@@ -1,15 +1,14 @@
 -- What a loop frame does to the way to the loop. Assumes nothing.
-use Prim.Native.Nat.{ℕ, ◌+◌, ◌*◌, ◌/◌, ◌%◌, ◌<◌, ◌≤◌}
+use Prim.Native.Nat.{ℕ, ◌+◌, ◌*◌, ◌/◌, ◌%◌, ◌<◌}
 use native.Mathlib.Omega.{arith}
-use mathlib.Core.Path.{◌≡◌, refl, sym, ap, subst, ◌∙◌}
+use mathlib.Core.Path.{◌≡◌, refl, sym, ap, ◌∙◌}
 use mathlib.Core.Bool.{Bool, true, false, cond, ◌&&◌, ◌||◌, not, true≢false}
-use mathlib.Core.List.{List, [], ◌∷◌}
+use mathlib.Core.List.{List, []}
 use lib.Dec.{eqb, leb, ltb}
 use lib.ListN.{get_or}
 use borrow.Author.Tests.{eqb-false, le-ltb}
 use Rattle.branches.proofs.Branches.{by_cond, and_left}
 use Rattle.frame.specs.Frame.{control_of, data_of, made, is_data}
-use Rattle.role.specs.Role.{is_active}
 use Rattle.store.specs.Ring.{held}
 use Rattle.answers.specs.Answers.{Said, frame, said}
 use Rattle.news.specs.declared.News.{News}
@@ -26,10 +25,10 @@ use Rattle.maillaws.specs.StateFits.{Fits}
 use Rattle.maillaws.specs.NewsGoing.{status_back}
 use Rattle.maillaws.proofs.Small.{news_small}
 use Rattle.maillaws.proofs.FrameTests.{frame_is, data_no_frame, other_byte, no_frame_by_control, no_frame_by_byte, either_same, cell_carried, byte_carried, no_cell}
-use Rattle.maillaws.proofs.FrameWays.{Way, Returning, Arriving, Readying, Asking, asked, is_next, is_next_id, is_back, is_last, is_damaged, is_held, is_heard, is_passed}
+use Rattle.maillaws.proofs.FrameWays.{Way, Returning, Arriving, Asking, asked, is_next, is_next_id, is_back, is_last, is_damaged, is_held, is_heard, is_passed}
 use Rattle.maillaws.proofs.FrameWays.{is_cleared, is_obeyed, is_released, is_assigned, is_send_asked, is_told, is_finishing, is_id_asked, is_accessory}
 use Rattle.maillaws.proofs.FrameWays.{is_ready, is_identified}
-use Rattle.maillaws.proofs.Moves.{Sight, sight, nothing, Move, is_still, is_fetched, is_asked, is_returned, by_sight}
+use Rattle.maillaws.proofs.Moves.{sight, nothing, Move, is_still, is_fetched, is_asked, is_returned, by_sight}
 
 module _ (w : World) (f : ℕ) where
   -- the frame asks for what waits, and for status

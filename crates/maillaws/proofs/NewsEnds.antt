@@ -1,13 +1,13 @@
 -- The news ends when a status byte that showed it is back unchanged and nothing came since. Assumes nothing.
-use Prim.Native.Nat.{ℕ, ◌*◌, ◌+◌, ◌%◌, ◌/◌, ◌<◌}
+use Prim.Native.Nat.{ℕ, ◌%◌}
 use native.Mathlib.Omega.{arith}
 use mathlib.Core.Path.{◌≡◌, refl, sym, ap, subst, ◌∙◌}
 use mathlib.Core.Bool.{Bool, true, false, cond, ◌&&◌, ◌||◌, not, false≢true, true≢false}
 use mathlib.Core.List.{List, [], ◌∷◌}
 use lib.Dec.{eqb, leb}
-use borrow.Author.Tests.{eqb-true, ne_eqb, le-leb}
+use borrow.Author.Tests.{eqb-true}
 use Rattle.branches.proofs.Branches.{by_cond, and_left, and_right}
-use Rattle.machine.specs.Course.{of, some, Without}
+use Rattle.machine.specs.Course.{Without}
 use Rattle.machine.specs.Machine.{Obeys, seen, course, finally}
 use Rattle.machine.proofs.Course.{neither, first_not}
 use Rattle.frame.specs.Frame.{control_of, data_of, made, is_data, same_apart}
@@ -15,8 +15,7 @@ use Rattle.role.specs.Role.{is_active}
 use Rattle.talker.specs.UnderWay.{talking}
 use Rattle.store.specs.Ring.{put_ring}
 use Rattle.answers.specs.Refusals.{first_refusal}
-use Rattle.answers.specs.Answers.{Said, refused, said}
-use Rattle.news.specs.declared.News.{News}
+use Rattle.answers.specs.Answers.{said}
 use Rattle.news.specs.News.{news_byte, come}
 use Rattle.way.specs.Way.{empty_way, left_in}
 use Rattle.bus.specs.Bus as bus
@@ -30,11 +29,10 @@ use Rattle.mailbox.specs.BusSide as bus-side
 use Rattle.mailbox.specs.Calls.{reset, loop_frame, bus_command, bus_byte, bus_fetch, bus_clear, bus_lines, Call, create, show, on, World, Did}
 use Rattle.mailbox.specs.Calls.{checks, outcome, tobus_after, toloop_after, not_refused, step}
 use Rattle.maillaws.specs.Mailboxes.{mailbox}
-use Rattle.maillaws.specs.Sights.{to_loop, news_of, waits, any, taken, data_byte, bus_listens, cell_for, left, restarts, comes, told}
+use Rattle.maillaws.specs.Sights.{to_loop, waits, any, taken, data_byte, bus_listens, cell_for, left, restarts, comes, told}
 use Rattle.maillaws.specs.StateFits.{Fits}
 use Rattle.maillaws.specs.NewsTold.{shows_news, ends_way, gives_back, NewsEnds}
 use Rattle.maillaws.proofs.Refusal.{by_refusal, fitting}
-use Rattle.maillaws.proofs.FrameTests.{data_not}
 use Rattle.maillaws.proofs.Fetching.{Fetching, fetching, is_none, is_given, is_status}
 use Rattle.maillaws.proofs.Requests.{any_waits}
 use Rattle.maillaws.proofs.Replied.{loop_taken}

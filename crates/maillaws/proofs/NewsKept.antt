@@ -1,5 +1,5 @@
 -- The news stays until a status byte that showed it is back unchanged: what every call keeps of it. Assumes nothing.
-use Prim.Native.Nat.{ℕ, ◌+◌, ◌*◌, ◌/◌, ◌%◌, ◌<◌, ◌≤◌}
+use Prim.Native.Nat.{ℕ, ◌+◌, ◌*◌, ◌/◌, ◌%◌}
 use native.Mathlib.Omega.{arith}
 use mathlib.Core.Path.{◌≡◌, refl, sym, ap, subst, ◌∙◌}
 use mathlib.Core.Bool.{Bool, true, false, cond, ◌&&◌, ◌||◌, not, false≢true, true≢false}
@@ -18,7 +18,7 @@ use Rattle.store.specs.Ring.{held, drop_ring}
 use Rattle.store.proofs.Laws.{drop_len, drop_fit}
 use Rattle.answers.specs.Answers.{Said, frame, said}
 use Rattle.news.specs.declared.News.{News}
-use Rattle.news.specs.News.{news_byte, no_news, come}
+use Rattle.news.specs.News.{news_byte}
 use Rattle.way.specs.Way.{fetched}
 use Rattle.mailstate.specs.declared.State.{State}
 use Rattle.mailstate.specs.declared.Outcome.{Outcome}
@@ -29,10 +29,10 @@ use Rattle.mailbox.specs.Calls.{loop_frame, on, World}
 use Rattle.maillaws.specs.Sights.{to_loop, counted, any, data_byte, told}
 use Rattle.maillaws.specs.StateFits.{Fits}
 use Rattle.maillaws.specs.NewsTold.{shows_news, showing, ends_way, gives_back, news_round}
-use Rattle.maillaws.proofs.FrameTests.{data_not, no_cell, either_same, frame_is, other_byte, no_frame_by_byte, no_frame_by_control}
+use Rattle.maillaws.proofs.FrameTests.{no_cell, either_same, frame_is, other_byte, no_frame_by_byte, no_frame_by_control}
 use Rattle.maillaws.proofs.StatusSent.{status_byte}
-use Rattle.maillaws.proofs.Requests.{any_waits, none_waits}
-use Rattle.maillaws.proofs.FrameWays.{Way, Returning, Asking, asked, is_next, is_next_id, is_back as isBackWay, is_last, is_damaged, is_held, is_heard, is_passed, is_cleared, is_obeyed}
+use Rattle.maillaws.proofs.Requests.{any_waits}
+use Rattle.maillaws.proofs.FrameWays.{Way, Returning, is_next, is_next_id, is_back as isBackWay, is_last, is_damaged, is_held, is_heard, is_passed, is_cleared, is_obeyed}
 use Rattle.maillaws.proofs.FrameWays.{is_released, is_assigned, is_send_asked, is_told, is_finishing, is_id_asked, is_accessory, is_ready, is_identified}
 
 -- the frame is the one under way, as the loop saw it sent

@@ -1,21 +1,20 @@
 -- The news over runs: it stays until a status byte that showed it is back unchanged, and ends then. Assumes nothing.
-use Prim.Native.Nat.{ℕ, ◌%◌}
-use native.Mathlib.Omega.{arith}
+use Prim.Native.Nat.{ℕ}
 use mathlib.Core.Path.{◌≡◌, refl, sym, ap, subst, ◌∙◌}
-use mathlib.Core.Bool.{Bool, true, false, cond, ◌&&◌, ◌||◌, not, false≢true, true≢false}
+use mathlib.Core.Bool.{Bool, true, false, cond, not, false≢true, true≢false}
 use mathlib.Core.List.{List, [], ◌∷◌, map}
 use lib.Dec.{eqb}
 use borrow.Author.Tests.{eqb-true}
 use Rattle.branches.proofs.Branches.{by_cond, and_left, and_right}
-use Rattle.machine.specs.Course.{Seen, of, Each}
-use Rattle.machine.specs.Machine.{Obeys, seen, course, finally}
-use Rattle.machine.specs.Rounds.{newest, under_way, is_back, comes_back, sent_and_back}
+use Rattle.machine.specs.Course.{Each}
+use Rattle.machine.specs.Machine.{Obeys, course, finally}
+use Rattle.machine.specs.Rounds.{newest, under_way, is_back, comes_back}
 use Rattle.machine.proofs.Course.{neither}
 use Rattle.frame.specs.Frame.{made}
 use Rattle.store.specs.Ring.{held, put_ring}
 use Rattle.store.proofs.Laws.{held_empty}
 use Rattle.answers.specs.Refusals.{first_refusal}
-use Rattle.answers.specs.Answers.{Said, refused, said}
+use Rattle.answers.specs.Answers.{refused, said}
 use Rattle.news.specs.declared.News.{News}
 use Rattle.news.specs.News.{news_byte, come}
 use Rattle.way.specs.Way.{empty_way, left_in}
@@ -28,10 +27,10 @@ use Rattle.mailstate.proofs.Fits.{toloop_fits}
 use Rattle.mailloop.specs.Sends.{send_status}
 use Rattle.mailloop.specs.Messages.{passed, frame_taken}
 use Rattle.mailbox.specs.BusSide as bus-side
-use Rattle.mailbox.specs.Calls.{OnState, reset, loop_frame, bus_command, bus_byte, bus_fetch, bus_clear, bus_lines, Call, create, show, on, World, Did}
+use Rattle.mailbox.specs.Calls.{reset, loop_frame, bus_command, bus_byte, bus_fetch, bus_clear, bus_lines, Call, create, show, on, World, Did}
 use Rattle.mailbox.specs.Calls.{checks, outcome, tobus_after, toloop_after, not_refused, step}
-use Rattle.maillaws.specs.Mailboxes.{mailbox, Saw}
-use Rattle.maillaws.specs.Sights.{to_loop, counted, waits, any, taken, data_byte, bus_listens, cell_for, left, restarts, comes, told}
+use Rattle.maillaws.specs.Mailboxes.{mailbox}
+use Rattle.maillaws.specs.Sights.{to_loop, counted, waits, any, data_byte, bus_listens, cell_for, left, restarts, comes, told}
 use Rattle.maillaws.specs.StateFits.{Fits}
 use Rattle.maillaws.specs.NewsTold.{shows_news, showing, ends_way, news_round, StillWaits, NewsStays}
 use Rattle.maillaws.proofs.Refusal.{by_refusal, fitting}
@@ -40,7 +39,7 @@ use Rattle.maillaws.proofs.FrameWays.{way}
 use Rattle.maillaws.proofs.Fetching.{Fetching, fetching, is_none, is_given, is_status}
 use Rattle.maillaws.proofs.Requests.{any_waits}
 use Rattle.maillaws.proofs.StatusSent.{status_frame, status_byte}
-use Rattle.maillaws.proofs.NewsKept.{Safe, Kept, frame_stays, by_news}
+use Rattle.maillaws.proofs.NewsKept.{Kept, frame_stays, by_news}
 
 -- ---- every call
 

@@ -13,7 +13,7 @@ use Rattle.frame.specs.Frame.{control_of, data_of}
 use Rattle.frame.proofs.Laws.{service_small, data_small}
 use Rattle.answers.specs.Refusals.{first_refusal}
 use Rattle.answers.specs.Refusing.{Refuses}
-use Rattle.answers.specs.Answers.{Said, frame, refused, said, is_refusal}
+use Rattle.answers.specs.Answers.{Said, refused, said, is_refusal}
 use Rattle.answers.specs.declared.Answer.{Answer}
 use Rattle.answers.specs.declared.Answer.TheVariants as answer
 use Rattle.store.specs.Ring.{held}

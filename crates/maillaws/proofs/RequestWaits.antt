@@ -1,37 +1,36 @@
 -- A request shows only while something waits, in every run since the way was cleared. Assumes nothing.
-use Prim.Native.Nat.{ℕ, ◌+◌, ◌*◌, ◌-◌, ◌/◌, ◌%◌, ◌<◌, ◌≤◌}
+use Prim.Native.Nat.{ℕ, ◌+◌, ◌*◌, ◌-◌, ◌/◌, ◌%◌, ◌<◌}
 use native.Mathlib.Omega.{arith}
 use mathlib.Core.Path.{◌≡◌, refl, sym, ap, subst, ◌∙◌}
-use mathlib.Core.Bool.{Bool, true, false, cond, ◌&&◌, ◌||◌, not, false≢true, true≢false}
-use mathlib.Core.List.{List, [], ◌∷◌, map}
-use lib.Dec.{eqb, leb, ltb}
+use mathlib.Core.Bool.{Bool, true, false, cond, ◌&&◌, not, false≢true, true≢false}
+use mathlib.Core.List.{List, [], ◌∷◌}
+use lib.Dec.{eqb, leb}
 use borrow.Author.Tests.{eqb-true, eqb-false, ne_eqb, leb-true}
 use Rattle.branches.proofs.Branches.{by_cond, and_left, and_right}
 use Rattle.machine.specs.Machine.{Obeys, finally}
-use Rattle.frame.specs.Frame.{control_of, data_of, made, is_data, has_service, with_service}
+use Rattle.frame.specs.Frame.{control_of, data_of, made, has_service, with_service}
 use Rattle.store.specs.declared.Ring.{Ring}
 use lib.ListN.{get_or}
 use Rattle.store.specs.Ring.{Fit, held, drop_ring}
 use Rattle.store.proofs.Laws.{ring_len, drop_len}
 use Rattle.news.specs.declared.News.{News}
-use Rattle.news.specs.News.{no_news}
 use Rattle.answers.specs.Answers.{Said, done, none, byte, frame, refused, part, cell, lines, said}
 use Rattle.bus.specs.Bus.{poll_bits, response_of}
 use Rattle.polls.specs.Polls.{joined}
 use Rattle.mailstate.specs.declared.State.{State}
 use Rattle.mailstate.specs.declared.Outcome.{Outcome}
 use Rattle.mailstate.proofs.Fits.{loop_line, bus_line, tobus_fits, toloop_fits}
-use Rattle.mailloop.specs.Sends.{serviced, frame_of, id_byte, ended, sends, send_waiting, send_id, send_accessory, send_status}
-use Rattle.mailloop.specs.Messages.{released, identify, frame_taken}
+use Rattle.mailloop.specs.Sends.{serviced, frame_of, id_byte, ended, sends, send_waiting, send_id}
+use Rattle.mailloop.specs.Messages.{identify, frame_taken}
 use Rattle.mailbox.specs.BusSide as bus-side
-use Rattle.mailbox.specs.Calls.{OnState, reset, loop_frame, bus_command, bus_byte, bus_fetch, bus_clear, bus_lines, Call, create, show, on, World, Did, outcome, not_refused, step}
+use Rattle.mailbox.specs.Calls.{reset, loop_frame, bus_command, bus_byte, bus_fetch, bus_clear, bus_lines, Call, create, show, on, World, Did, outcome, not_refused, step}
 use Rattle.maillaws.specs.Mailboxes.{mailbox}
-use Rattle.maillaws.specs.Sights.{Direction, to_bus, to_loop, store_of, ring_of, news_of, waits, any, taken, of_frame_said, clears}
+use Rattle.maillaws.specs.Sights.{Direction, to_bus, to_loop, store_of, ring_of, news_of, of_frame_said}
 use Rattle.maillaws.specs.Replies.{can_answer}
 use Rattle.maillaws.specs.StateFits.{Fits}
 use Rattle.maillaws.specs.Requesting.{carries_service, lines_request, shows_request, RequestWaits}
-use Rattle.maillaws.proofs.Refusal.{by_refusal, fitting, taken_fits}
-use Rattle.maillaws.proofs.Small.{frame_small, id_small, bits_small, joined_small}
+use Rattle.maillaws.proofs.Refusal.{by_refusal, fitting}
+use Rattle.maillaws.proofs.Small.{id_small, bits_small, joined_small}
 use Rattle.maillaws.proofs.Replied.{answers_so}
 use Rattle.maillaws.proofs.FrameWays.{Way, way, is_next, is_next_id, is_back, is_last, is_damaged, is_held, is_heard, is_passed, is_cleared, is_obeyed}
 use Rattle.maillaws.proofs.FrameWays.{is_released, is_assigned, is_send_asked, is_told, is_finishing, is_id_asked, is_accessory, is_ready, is_identified}

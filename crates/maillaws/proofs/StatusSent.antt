@@ -1,14 +1,11 @@
 -- What answers send status. Assumes nothing.
 use Prim.Native.Nat.{ℕ}
 use mathlib.Core.Path.{◌≡◌, refl, sym, ap, subst, ◌∙◌}
-use mathlib.Core.Bool.{Bool, true, false, cond, ◌&&◌, false≢true}
+use mathlib.Core.Bool.{Bool, true, false, cond, false≢true}
 use mathlib.Core.List.{List, [], ◌∷◌}
-use lib.Dec.{eqb, leb}
-use borrow.Author.Tests.{eqb-true}
-use Rattle.branches.proofs.Branches.{by_cond}
+use lib.Dec.{eqb}
 use Rattle.machine.specs.Machine.{Obeys, seen}
-use Rattle.frame.specs.Frame.{control_of, data_of, made}
-use Rattle.role.specs.declared.Ready.{Ready}
+use Rattle.frame.specs.Frame.{made}
 use Rattle.role.specs.declared.Ready.TheVariants.{Pass, Status}
 use Rattle.role.specs.ReadyFrames.{ready_of}
 use Rattle.answers.specs.Answers.{said}
@@ -17,9 +14,9 @@ use Rattle.mailstate.specs.declared.State.{State}
 use Rattle.mailstate.specs.declared.Outcome.{Outcome}
 use Rattle.mailloop.specs.Sends.{serviced, send_status}
 use Rattle.mailloop.specs.Messages.{passed, identities, readied, ready, frame_taken}
-use Rattle.mailbox.specs.Calls.{loop_frame, on, World, Did, outcome, not_refused, step}
-use Rattle.maillaws.specs.Mailboxes.{mailbox, Saw}
-use Rattle.maillaws.specs.Sights.{to_loop, news_of, taken, data_byte, loop_addressed, told}
+use Rattle.mailbox.specs.Calls.{loop_frame, on, Did, outcome, not_refused, step}
+use Rattle.maillaws.specs.Mailboxes.{mailbox}
+use Rattle.maillaws.specs.Sights.{taken, data_byte, loop_addressed, told}
 use Rattle.maillaws.specs.NewsTold.{StatusRight, StatusTold}
 use Rattle.maillaws.proofs.Refusal.{by_refusal}
 use Rattle.maillaws.proofs.Small.{news_small}

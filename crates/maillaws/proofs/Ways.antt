@@ -1,11 +1,11 @@
 -- What was fetched and what waits is what was left, on both ways; and which message clears which way. Assumes nothing.
-use Prim.Native.Nat.{ℕ, ◌<◌, ◌≤◌}
+use Prim.Native.Nat.{ℕ, ◌<◌}
 use native.Mathlib.Omega.{arith}
 use mathlib.Core.Path.{◌≡◌, refl, sym, ap, subst, ◌∙◌}
-use mathlib.Core.Bool.{Bool, true, false, cond, ◌&&◌, ◌||◌, false≢true, true≢false}
+use mathlib.Core.Bool.{Bool, true, false, cond, ◌&&◌, false≢true, true≢false}
 use mathlib.Core.List.{List, [], ◌∷◌, ◌++◌, map, append_assoc}
 use lib.ListN.{length, get_or, drop}
-use Rattle.machine.specs.Course.{Each, Without, of}
+use Rattle.machine.specs.Course.{Each, Without}
 use Rattle.machine.specs.Machine.{Obeys, course, AllFair, seen}
 use Rattle.machine.specs.Turns.{TurnReads}
 use Rattle.machine.proofs.Course.{first_not}
@@ -28,14 +28,14 @@ use Rattle.mailbox.specs.BusSide.{bus_command}
 use Rattle.mailbox.specs.Calls.{reset, loop_frame, bus_byte, bus_fetch, bus_clear, bus_lines, Call, create, show, on, World, world, Did, outcome, tobus_after, toloop_after, not_refused, step}
 use Rattle.mailbox.specs.Calls as calls
 use Rattle.maillaws.specs.Mailboxes.{mailbox, ByteCall}
-use Rattle.maillaws.specs.Sights.{Direction, to_bus, to_loop, store_of, ring_of, news_of, waits, counted, taken, loop_listens, bus_listens, cell_for, asks_clear, left, clears_by, clears}
+use Rattle.maillaws.specs.Sights.{Direction, to_bus, to_loop, store_of, ring_of, waits, counted, taken, loop_listens, bus_listens, cell_for, asks_clear, left, clears_by, clears}
 use Rattle.maillaws.specs.WaysKept.{through, WayKept, WaySince}
 use Rattle.maillaws.specs.WaysCleared.{Emptied, ClearsWay, SameWay, OtherStays}
 use Rattle.maillaws.proofs.Refusal.{by_refusal}
 use Rattle.maillaws.proofs.FrameTests.{data_not}
 use Rattle.maillaws.proofs.FrameWays.{Way, way, is_next, is_next_id, is_back, is_last, is_damaged, is_held, is_heard, is_passed, is_cleared, is_obeyed}
 use Rattle.maillaws.proofs.FrameWays.{is_released, is_assigned, is_send_asked, is_told, is_finishing, is_id_asked, is_accessory, is_ready, is_identified}
-use Rattle.maillaws.proofs.Moves.{Sight, sight, Move, is_still, is_put, is_fetched, is_emptied, is_asked, is_returned}
+use Rattle.maillaws.proofs.Moves.{Sight, Move, is_still, is_put, is_fetched, is_emptied, is_asked, is_returned}
 use Rattle.maillaws.proofs.EveryMove.{moved}
 
 -- ---- what counts of cells, of two lists and of one by its first

@@ -1,9 +1,9 @@
 -- What a side is given when it asks: send data on the loop, a fetch on the bus.
-use Rattle.std.specs.Prelude.{ℕ, ◌≡◌, Bool, true, false, cond, ◌&&◌, ◌||◌, not, List, [], ◌∷◌, ◌++◌, eqb}
+use Rattle.std.specs.Prelude.{ℕ, ◌≡◌, Bool, true, false, ◌&&◌, ◌||◌, not, List, [], ◌∷◌, eqb}
 use Rattle.machine.specs.Course.{of}
 use Rattle.machine.specs.Machine.{of_calls}
 use Rattle.frame.specs.Frame.{made, is_data, same_apart}
-use Rattle.answers.specs.Answers.{Said, none, frame, cell}
+use Rattle.answers.specs.Answers.{none, frame, cell}
 use Rattle.mailbox.specs.Calls.{loop_frame, bus_fetch, on, World}
 use Rattle.maillaws.specs.Mailboxes.{Law, Saw}
 use Rattle.maillaws.specs.Sights.{Direction, to_bus, to_loop, news_of, waits, taken, loop_addressed, from_way, bus_talks, status_of, fetched}

@@ -1,6 +1,5 @@
 -- How the role on the loop goes, over every call: by the frame, the role before it and the answer. Each part by itself.
 use Rattle.std.specs.Prelude.{ℕ, ◌+◌, ◌-◌, ◌≡◌, Bool, false, cond, ◌&&◌, ◌||◌, not, eqb, leb, ltb}
-use Rattle.machine.specs.Course.{of}
 use Rattle.machine.specs.Machine.{of_calls}
 use Rattle.frame.specs.Frame.{control_of, data_of, is_data}
 use Rattle.role.specs.declared.Role.{Role}

@@ -1,5 +1,5 @@
 -- The news on the loop: bit 0 of the status byte says that something came, until a status byte that showed it is back unchanged.
-use Rattle.std.specs.Prelude.{ℕ, ◌%◌, ◌≡◌, Bool, true, false, cond, ◌&&◌, ◌||◌, not, List, [], ◌∷◌, eqb}
+use Rattle.std.specs.Prelude.{ℕ, ◌%◌, ◌≡◌, Bool, true, false, cond, ◌&&◌, ◌||◌, List, [], ◌∷◌, eqb}
 use Rattle.machine.specs.Course.{of, Without, Each}
 use Rattle.machine.specs.Machine.{of_calls, of_between}
 use Rattle.machine.specs.Rounds.{Round, sent_and_back}

@@ -1,6 +1,6 @@
 -- Not ready for data: when a frame is held back, and that it goes on when 5,66 has come round.
-use Rattle.std.specs.Prelude.{ℕ, ◌+◌, ◌≡◌, Bool, true, false, cond, ◌&&◌, ◌||◌, not, List, eqb, length}
-use Rattle.machine.specs.Course.{of, Without}
+use Rattle.std.specs.Prelude.{ℕ, ◌+◌, ◌≡◌, Bool, true, false, cond, ◌&&◌, ◌||◌, not, eqb, length}
+use Rattle.machine.specs.Course.{Without}
 use Rattle.machine.specs.Machine.{of_calls, of_between}
 use Rattle.frame.specs.Frame.{control_of, data_of, made, is_data, with_service}
 use Rattle.answers.specs.Answers.{Said, frame}

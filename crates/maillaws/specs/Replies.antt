@@ -1,5 +1,5 @@
 -- What a call can answer, when it refuses, and the frame out.
-use Rattle.std.specs.Prelude.{ℕ, ◌≡◌, Bool, true, false, cond, ◌&&◌, List, eqb, ltb}
+use Rattle.std.specs.Prelude.{ℕ, ◌≡◌, Bool, true, false, ◌&&◌, ltb}
 use Rattle.machine.specs.Machine.{of_calls}
 use Rattle.answers.specs.Refusals.{first_refusal}
 use Rattle.answers.specs.Refusing.{Refuses}

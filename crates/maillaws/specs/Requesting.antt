@@ -1,5 +1,5 @@
 -- Service requests of both sides: when one begins and ends, and that one shows only while something waits.
-use Rattle.std.specs.Prelude.{ℕ, ◌%◌, ◌≡◌, Bool, true, false, cond, ◌&&◌, ◌||◌, not, List, [], ◌∷◌, eqb, leb, ltb}
+use Rattle.std.specs.Prelude.{ℕ, ◌%◌, ◌≡◌, Bool, true, false, ◌&&◌, ◌||◌, not, [], eqb, leb, ltb}
 use Rattle.machine.specs.Course.{of}
 use Rattle.machine.specs.Machine.{of_calls, of_between}
 use Rattle.frame.specs.Frame.{control_of, has_service}

@@ -1,6 +1,6 @@
 -- What is seen of a call from outside: from the call, the world before it and its answer. Nothing here looks at the world after it.
-use Rattle.std.specs.Prelude.{ℕ, ◌+◌, ◌/◌, ◌%◌, Bool, true, false, cond, ◌&&◌, ◌||◌, not, List, [], ◌∷◌, map, eqb, leb, ltb}
-use Rattle.frame.specs.Frame.{control_of, data_of, made, is_data, is_end, same_apart}
+use Rattle.std.specs.Prelude.{ℕ, ◌+◌, ◌%◌, Bool, true, false, cond, ◌&&◌, ◌||◌, not, List, [], ◌∷◌, map, eqb, leb, ltb}
+use Rattle.frame.specs.Frame.{control_of, data_of, made, is_data, is_end}
 use Rattle.store.specs.declared.Ring.{Ring}
 use Rattle.store.specs.Ring.{held}
 use Rattle.news.specs.declared.News.{News}

@@ -3,7 +3,7 @@ use Rattle.std.specs.Prelude.{◌≡◌, true, false, []}
 use Rattle.machine.specs.Course.{of}
 use Rattle.machine.specs.Machine.{of_calls}
 use Rattle.mailbox.specs.Calls.{World}
-use Rattle.maillaws.specs.Mailboxes.{Law, Saw}
+use Rattle.maillaws.specs.Mailboxes.{Law}
 use Rattle.maillaws.specs.Sights.{Direction, other, store_of, ring_of, news_of, waits, clears_by, clears}
 
 -- nothing waits any more, and nothing is told of it

@@ -1,9 +1,9 @@
 -- Commands, ready frames, identify frames, returns and kept bytes, by what the calls gave. Assumes nothing.
-use Prim.Native.Nat.{ℕ, ◌+◌, ◌≤◌, ◌<◌, ◌/◌}
+use Prim.Native.Nat.{ℕ, ◌+◌, ◌≤◌, ◌<◌}
 use native.Mathlib.Omega.{arith}
 use mathlib.Core.Path.{◌≡◌, refl, sym, ap, subst, ◌∙◌}
 use mathlib.Core.List.{List}
-use mathlib.Core.Bool.{Bool, true, false, cond, ◌&&◌, ◌||◌, not}
+use mathlib.Core.Bool.{Bool, true, false, cond, ◌&&◌, not}
 use lib.Dec.{eqb, leb}
 use Rattle.frame.specs.Frame.{control_of, data_of, made, is_data}
 use borrow.Author.Tests.{eq-eqb, ne_eqb, le-leb, lt-leb}
@@ -22,7 +22,7 @@ use Rattle.talker.specs.Obeying.{obeyed_talker}
 use Rattle.talker.specs.Readied.{assigned_talker, finishing_talker}
 use Rattle.talker.specs.Returning.{return_of}
 use Rattle.polls.specs.declared.Response.{Response}
-use Rattle.polls.specs.Polls.{no_response, loop_response, joined}
+use Rattle.polls.specs.Polls.{joined}
 use Rattle.store.specs.Ring.{room, put_ring, put_bytes}
 use Rattle.news.specs.declared.News.{News}
 use Rattle.news.specs.News as news
@@ -33,7 +33,7 @@ use Rattle.mailstate.specs.declared.Hold.{Hold}
 use Rattle.mailstate.specs.declared.Outcome.{Outcome}
 use Rattle.mailstate.specs.State.{with_to_bus, with_to_loop, with_talker, with_hold, with_response, no_hold}
 use Rattle.mailloop.specs.Sends.{serviced, ended, send_waiting, send_id, send_accessory, send_status, send_next}
-use Rattle.mailloop.specs.Messages.{cell_of, heard, Kept, data_taken, frame_taken, keeps, frame_cells, Framed, listens, busy, passed, response_after, hold_after, command, command_state, released, identities, readied, ready, identify, judged}
+use Rattle.mailloop.specs.Messages.{cell_of, heard, Kept, data_taken, frame_taken, keeps, frame_cells, Framed, listens, busy, passed, response_after, command, command_state, released, identities, readied, ready, identify, judged}
 
 pub busy_met : (s : State) (f : ℕ) (d : Bool) → d ≡ is_data f → ((s.talker.role.listener && d) && leb s.tobus.ring.cap s.tobus.ring.len) ≡ busy s f
 busy_met s f d p = rw p

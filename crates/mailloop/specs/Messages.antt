@@ -1,5 +1,5 @@
 -- Response to HP-IL messages: the table of section 4, group by group.
-use Rattle.std.specs.Prelude.{ℕ, ◌+◌, ◌/◌, ◌≡◌, Bool, true, false, cond, ◌&&◌, ◌||◌, not, List, eqb, length}
+use Rattle.std.specs.Prelude.{ℕ, ◌+◌, ◌/◌, ◌≡◌, Bool, true, cond, ◌&&◌, ◌||◌, not, List, eqb, length}
 use Rattle.frame.specs.Frame.{control_of, data_of, made, is_data, is_end}
 use Rattle.role.specs.Role.{addressed, is_active}
 use Rattle.role.specs.Orders.{order_of, is_clear}

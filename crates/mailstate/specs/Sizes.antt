@@ -1,5 +1,5 @@
 -- The sizes of a mailbox, its start, and when a state fits.
-use Rattle.std.specs.Prelude.{ℕ, List, [], ◌∷◌, Bool, false, ◌&&◌, leb, ltb}
+use Rattle.std.specs.Prelude.{ℕ, Bool, false, ◌&&◌, leb, ltb}
 use Rattle.talker.specs.Talker.{start_talker}
 use Rattle.talker.specs.TalkerFit as talker-fit
 use Rattle.polls.specs.Polls as polls

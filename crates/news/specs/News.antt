@@ -1,5 +1,5 @@
 -- The HP-IL and HP-IB status bytes of section 4, one for each side of the mailbox.
-use Rattle.std.specs.Prelude.{ℕ, ◌+◌, ◌%◌, true, false, cond, ◌&&◌, not, eqb}
+use Rattle.std.specs.Prelude.{ℕ, ◌%◌, true, false, cond, ◌&&◌, not, eqb}
 use Rattle.news.specs.declared.News.{News}
 
 -- nothing is told: at the start, when the way is empty again, and on the bus when the byte was read

@@ -15,7 +15,6 @@ use Rattle.role.specs.Role.{is_active}
 use Rattle.store.specs.Ring.{full}
 use Rattle.status.specs.declared.Events.{Events}
 use Rattle.status.specs.Status.{showed, stays, acknowledged}
-use Rattle.reading.specs.Reading.{one}
 use Rattle.state.specs.declared.State.{State}
 use Rattle.state.specs.declared.Notes.{Notes}
 use Rattle.state.specs.declared.Outcome.{Outcome}

@@ -8,7 +8,6 @@ use lib.Dec.{ltb}
 use lib.ListN.{length}
 use borrow.Author.Tests.{eqb-true, ltb-false, le-ltb, lt-leb}
 use Rattle.frame.specs.Frame.{control_of, made, is_data}
-use Rattle.registers.specs.Meanings.{go}
 use Rattle.role.specs.Role.{is_active}
 use Rattle.reading.specs.Reading.{Sent, none, one}
 use Rattle.reading.specs.Received.{Received}

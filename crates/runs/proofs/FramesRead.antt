@@ -40,7 +40,7 @@ use Rattle.laws.specs.Observers.{taken, is_flow, arrived, accepted, breaks, mark
 use Rattle.laws.specs.Worlds.{held_cells, held_to_send, rule_in, reading, holds_some}
 use Rattle.laws.specs.Demands.{by_its_rule, held_by_the_rule, FramesRead, NothingWaits, UnheldBreaks}
 use Rattle.laws.proofs.ByRules.{Silent, wall_silent, none_silent, behind, one_rule}
-use Rattle.runs.proofs.Shapes.{Seen, seen, Core, core, Fits, Shape, is_still, is_begun}
+use Rattle.runs.proofs.Shapes.{Seen, Core, Fits, Shape, is_still, is_begun}
 use Rattle.runs.proofs.Shapes.{is_written, is_cleared, is_stored, is_lost, is_broken, is_sent, is_none, is_left, is_handed}
 use Rattle.runs.proofs.View.{view}
 use Rattle.runs.proofs.Bytes.{sent_plain}

@@ -3,7 +3,6 @@ use Prim.Native.Nat.{ℕ}
 use mathlib.Core.Path.{◌≡◌, refl}
 use mathlib.Core.Bool.{Bool, true, false, cond, ◌||◌}
 use mathlib.Core.List.{[]}
-use Rattle.registers.specs.Meanings.{go}
 use Rattle.answers.specs.Answers.{said, done, refused}
 use Rattle.state.specs.Conditions.{settled, break_state, key_state}
 use Rattle.bridge.specs.Calls.{Call, on, create, reset, write, line_byte, line_break, key, ask_line_byte, take_line_byte, loop_frame}

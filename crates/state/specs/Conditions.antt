@@ -1,5 +1,5 @@
 -- Status byte: the conditions of a state, its requests, and what shows.
-use Rattle.std.specs.Prelude.{ℕ, Bool, true, false, cond, ◌&&◌, ◌||◌, eqb, ltb}
+use Rattle.std.specs.Prelude.{ℕ, Bool, false, cond, ◌&&◌, ◌||◌, eqb, ltb}
 use Rattle.frame.specs.Frame.{with_service}
 use Rattle.registers.specs.declared.Registers.{Registers}
 use Rattle.registers.specs.Meanings.{requests_show, overrun_enabled, break_enabled, key_enabled}

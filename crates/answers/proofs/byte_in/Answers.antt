@@ -1,6 +1,5 @@
 use Rattle.answers.specs.Answers.{byte_in}
 use Rattle.answers.proofs.Answers.{byte_seen, no_byte_seen}
-use borrow.Author.Rules.{rules}
 use Rattle.answers.proofs.byte_in.Goals as goal
 
 pub returns-in-Byte : goal.returns-in-Byte

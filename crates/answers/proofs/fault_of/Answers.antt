@@ -1,6 +1,5 @@
 use Rattle.answers.specs.Answers.{fault_of}
 use Rattle.answers.proofs.Answers.{refusal_seen, no_refusal_seen}
-use borrow.Author.Rules.{rules}
 use Rattle.answers.proofs.fault_of.Goals as goal
 
 pub returns-in-Refused : goal.returns-in-Refused

@@ -1,7 +1,6 @@
 use mathlib.Core.Bool.{true, false}
 use Rattle.answers.specs.Answers.{is_byte}
 use Rattle.answers.proofs.Answers.{byte_seen, no_byte_seen}
-use borrow.Author.Rules.{rules}
 use Rattle.answers.proofs.is_byte.Goals as goal
 
 pub returns-in-Byte : goal.returns-in-Byte

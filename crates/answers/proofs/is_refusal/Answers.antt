@@ -1,6 +1,5 @@
 use mathlib.Core.Bool.{true, false}
 use Rattle.answers.proofs.Answers.{refusal_seen, no_refusal_seen}
-use borrow.Author.Rules.{rules}
 use Rattle.answers.proofs.is_refusal.Goals as goal
 
 pub returns-in-Refused : goal.returns-in-Refused

@@ -1,5 +1,4 @@
 use Rattle.answers.proofs.Word.{byte_bound, done_word, none_word, byte_word, frame_word, refused_word, cell_word, lines_word}
-use borrow.Author.Rules.{rules}
 use Rattle.answers.proofs.number.Goals as goal
 
 pub returns-in-Done : goal.returns-in-Done

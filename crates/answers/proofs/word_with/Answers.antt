@@ -1,5 +1,4 @@
 use Rattle.answers.proofs.Word.{with_room}
-use borrow.Author.Rules.{rules}
 use Rattle.answers.proofs.word_with.Goals as goal
 
 pub returns : goal.returns

@@ -5,7 +5,6 @@ use mathlib.Core.Path.{refl, ◌∙◌}
 use Rattle.state.proofs.Fits.{is_misfit, is_fit}
 use Rattle.codec.proofs.Same.{other_length, state_if_right, none_if_wrong, means, means_none}
 use Rattle.block.specs.Packed.{layout}
-use borrow.Author.Rules.{rules}
 use Rattle.block.proofs.meaning.Goals as goal
 
 pub returns-then-b-ne-LENGTH : goal.returns-then-b-ne-LENGTH

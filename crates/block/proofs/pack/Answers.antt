@@ -1,6 +1,5 @@
 use Rattle.codec.proofs.Copied.{packed_both}
 use Rattle.block.specs.Packed.{layout}
-use borrow.Author.Rules.{rules}
 use Rattle.block.proofs.pack.Goals as goal
 
 pub returns : goal.returns

@@ -1,5 +1,4 @@
 use Rattle.bridge.proofs.Steps.{none_told}
-use borrow.Author.Rules.{rules}
 use Rattle.bridge.proofs.alone.Goals as goal
 
 pub returns : goal.returns

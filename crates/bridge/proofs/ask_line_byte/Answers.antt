@@ -3,7 +3,6 @@ use mathlib.Core.Bool.{not}
 use Rattle.answers.specs.Answers.{said}
 use Rattle.state.proofs.Fits.{is_misfit, is_fit, tx_fits}
 use Rattle.bridge.proofs.Steps.{misfit_asked, ask_done}
-use borrow.Author.Rules.{rules}
 use Rattle.bridge.proofs.ask_line_byte.Goals as goal
 
 pub returns-then-not-state_fits : goal.returns-then-not-state_fits

@@ -1,6 +1,5 @@
 use mathlib.Core.Path.{refl, sym, ◌∙◌}
 use Rattle.bridge.proofs.Steps.{create_done, create_refused}
-use borrow.Author.Rules.{rules}
 use Rattle.bridge.proofs.create.Goals as goal
 
 pub returns-then-sizes_obeyed : goal.returns-then-sizes_obeyed

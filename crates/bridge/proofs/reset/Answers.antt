@@ -3,7 +3,6 @@ use mathlib.Core.Path.{refl, ap}
 use Rattle.state.proofs.Fits.{is_misfit, is_fit}
 use Rattle.bridge.specs.Calls.{checks_on, done_with, outcome, room_of, settled_by, rx_after, tx_after, reset}
 use Rattle.bridge.proofs.Steps.{misfit_met, done_met}
-use borrow.Author.Rules.{rules}
 use Rattle.bridge.proofs.reset.Goals as goal
 
 pub returns-then-not-state_fits : goal.returns-then-not-state_fits

@@ -3,7 +3,6 @@ use mathlib.Core.Bool.{not}
 use Rattle.state.proofs.Fits.{is_misfit, is_fit, rx_fits}
 use Rattle.bridge.specs.Calls.{receive}
 use Rattle.bridge.proofs.Steps.{show_misfit, show_fit}
-use borrow.Author.Rules.{rules}
 use Rattle.bridge.proofs.show_receive.Goals as goal
 
 pub returns-then-not-state_fits : goal.returns-then-not-state_fits

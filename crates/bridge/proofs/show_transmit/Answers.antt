@@ -3,7 +3,6 @@ use mathlib.Core.Bool.{not}
 use Rattle.state.proofs.Fits.{is_misfit, is_fit, tx_fits}
 use Rattle.bridge.specs.Calls.{transmit}
 use Rattle.bridge.proofs.Steps.{show_misfit, show_fit}
-use borrow.Author.Rules.{rules}
 use Rattle.bridge.proofs.show_transmit.Goals as goal
 
 pub returns-then-not-state_fits : goal.returns-then-not-state_fits

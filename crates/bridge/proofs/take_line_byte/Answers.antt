@@ -3,7 +3,6 @@ use mathlib.Core.Bool.{not}
 use Rattle.state.proofs.Fits.{is_misfit, is_fit, tx_fits}
 use Rattle.bridge.specs.Calls.{take_line_byte}
 use Rattle.bridge.proofs.Steps.{misfit_met, take_refused, take_done}
-use borrow.Author.Rules.{rules}
 use Rattle.bridge.proofs.take_line_byte.Goals as goal
 
 pub returns-then-not-state_fits : goal.returns-then-not-state_fits

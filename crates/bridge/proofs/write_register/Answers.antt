@@ -8,7 +8,6 @@ use Rattle.registers.proofs.Refusals.{accepted_written}
 use Rattle.bridge.specs.Calls.{checks_on, done_with, outcome, room_of, settled_by, rx_after, tx_after, write, world}
 use Rattle.bridge.proofs.Checks.{write_refused, write_let}
 use Rattle.bridge.proofs.Steps.{misfit_met, refused_met, done_met}
-use borrow.Author.Rules.{rules}
 use Rattle.bridge.proofs.write_register.Goals as goal
 
 pub returns-then-not-state_fits : goal.returns-then-not-state_fits

@@ -1,4 +1,3 @@
-use borrow.Author.Rules.{rules}
 use Rattle.bus.proofs.Parts.{fits_met}
 use Rattle.bus.proofs.bus_fits.Goals as goal
 

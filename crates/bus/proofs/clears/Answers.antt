@@ -1,4 +1,3 @@
-use borrow.Author.Rules.{rules}
 use Rattle.bus.proofs.Parts.{clears_met}
 use Rattle.bus.proofs.clears.Goals as goal
 

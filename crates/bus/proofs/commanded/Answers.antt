@@ -1,4 +1,3 @@
-use borrow.Author.Rules.{rules}
 use Rattle.bus.proofs.Parts.{commanded_met}
 use Rattle.bus.proofs.commanded.Goals as goal
 

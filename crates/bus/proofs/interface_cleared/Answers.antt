@@ -1,4 +1,3 @@
-use borrow.Author.Rules.{rules}
 use Rattle.bus.proofs.Parts.{cleared_met}
 use Rattle.bus.proofs.interface_cleared.Goals as goal
 

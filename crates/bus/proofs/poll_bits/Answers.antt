@@ -1,4 +1,3 @@
-use borrow.Author.Rules.{rules}
 use Rattle.bus.specs.Bus.{poll_bits}
 use Rattle.bus.proofs.poll_bits.Goals as goal
 

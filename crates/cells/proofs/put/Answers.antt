@@ -1,4 +1,3 @@
-use borrow.Author.Rules.{rules}
 use Rattle.store.proofs.Laws.{put_at, put_kept}
 use Rattle.cells.proofs.put.Goals as goal
 

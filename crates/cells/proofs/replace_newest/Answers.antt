@@ -1,4 +1,3 @@
-use borrow.Author.Rules.{rules}
 use Rattle.cells.proofs.Newest.{replaced_at}
 use Rattle.cells.proofs.replace_newest.Goals as goal
 

@@ -1,4 +1,3 @@
-use borrow.Author.Rules.{rules}
 use Rattle.store.proofs.Laws.{shown_met}
 use Rattle.cells.proofs.show.Goals as goal
 

@@ -4,7 +4,6 @@ use Rattle.boundary.proofs.Closing.{looked}
 use Rattle.cmailbox.specs.Mailbox.{mailboxes}
 use Rattle.cmailbox.proofs.Forming.{formed}
 use Rattle.cmailbox.proofs.Lines.{lines_leave}
-use borrow.Author.Rules.{rules}
 use Rattle.cmailbox.proofs.raftershim_mailbox_bus_lines.Goals as goal
 
 pub returns : goal.returns

@@ -1,9 +1,8 @@
-use mathlib.Core.Path.{refl, ◌∙◌}
+use mathlib.Core.Path.{refl}
 use Rattle.answers.specs.Answers.{said}
 use Rattle.boundary.proofs.Closing.{wrong_length, create_written}
 use Rattle.cmailbox.specs.Mailbox.{mailboxes}
 use Rattle.cmailbox.proofs.Forming.{formed}
-use borrow.Author.Rules.{rules}
 use Rattle.cmailbox.proofs.raftershim_mailbox_create.Goals as goal
 
 pub returns-then-block-ne-LENGTH : goal.returns-then-block-ne-LENGTH

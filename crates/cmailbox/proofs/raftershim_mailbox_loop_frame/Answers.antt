@@ -3,7 +3,6 @@ use Rattle.mailbox.specs.Calls.{loop_frame}
 use Rattle.boundary.proofs.Closing.{may_write, written}
 use Rattle.cmailbox.specs.Mailbox.{mailboxes}
 use Rattle.cmailbox.proofs.Forming.{formed}
-use borrow.Author.Rules.{rules}
 use Rattle.cmailbox.proofs.raftershim_mailbox_loop_frame.Goals as goal
 
 pub finished-requires : goal.finished-requires

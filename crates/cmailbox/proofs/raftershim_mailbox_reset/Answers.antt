@@ -3,7 +3,6 @@ use Rattle.mailbox.specs.Calls.{reset}
 use Rattle.boundary.proofs.Closing.{may_write, written}
 use Rattle.cmailbox.specs.Mailbox.{mailboxes}
 use Rattle.cmailbox.proofs.Forming.{formed}
-use borrow.Author.Rules.{rules}
 use Rattle.cmailbox.proofs.raftershim_mailbox_reset.Goals as goal
 
 pub finished-requires : goal.finished-requires

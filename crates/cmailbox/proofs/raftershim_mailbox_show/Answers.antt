@@ -2,7 +2,6 @@ use mathlib.Core.Path.{refl}
 use Rattle.boundary.proofs.Closing.{part_shown, show_empty, show_small, show_part}
 use Rattle.cmailbox.specs.Mailbox.{mailboxes}
 use Rattle.cmailbox.proofs.Forming.{formed}
-use borrow.Author.Rules.{rules}
 use Rattle.cmailbox.proofs.raftershim_mailbox_show.Goals as goal
 
 pub returns-then-len-eq0 : goal.returns-then-len-eq0

@@ -1,5 +1,4 @@
 use Rattle.line.proofs.Parts.{write_flow, write_other}
-use Rattle.std.proofs.Common.{rules}
 use Rattle.line.proofs.after_write.Goals as goal
 
 pub returns-then-n-eq11 : goal.returns-then-n-eq11

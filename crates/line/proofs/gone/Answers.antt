@@ -1,4 +1,4 @@
-use Rattle.std.proofs.Common.{sym, ◌∙◌, rules}
+use Rattle.std.proofs.Common.{sym, ◌∙◌}
 use Rattle.line.proofs.Parts.{gone_some, gone_own, gone_held, gone_none}
 use Rattle.line.proofs.gone.Goals as goal
 

@@ -1,5 +1,4 @@
 use Rattle.line.proofs.Parts.{flow_met}
-use Rattle.std.proofs.Common.{rules}
 use Rattle.line.proofs.is_go_or_stop.Goals as goal
 
 pub returns : goal.returns

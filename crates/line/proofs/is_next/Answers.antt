@@ -1,5 +1,4 @@
 use Rattle.line.proofs.Parts.{own_named, held_named, none_named}
-use Rattle.std.proofs.Common.{rules}
 use Rattle.line.proofs.is_next.Goals as goal
 
 pub returns-in-Own : goal.returns-in-Own

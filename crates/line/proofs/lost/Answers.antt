@@ -1,5 +1,4 @@
 use Rattle.line.proofs.Parts.{lost_met}
-use Rattle.std.proofs.Common.{rules}
 use Rattle.line.proofs.lost.Goals as goal
 
 pub returns : goal.returns

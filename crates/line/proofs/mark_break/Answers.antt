@@ -1,4 +1,4 @@
-use Rattle.std.proofs.Common.{arith, rules}
+use Rattle.std.proofs.Common.{arith}
 use Rattle.line.proofs.Breaks.{marked_met, unmarked_met}
 use Rattle.line.proofs.mark_break.Goals as goal
 

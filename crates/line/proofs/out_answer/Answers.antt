@@ -1,5 +1,4 @@
 use Rattle.line.proofs.Parts.{own_met, held_met, none_met}
-use Rattle.std.proofs.Common.{rules}
 use Rattle.line.proofs.out_answer.Goals as goal
 
 pub returns-in-Own : goal.returns-in-Own

@@ -1,5 +1,4 @@
 use Rattle.line.proofs.Parts.{resume_met}
-use Rattle.std.proofs.Common.{rules}
 use Rattle.line.proofs.resume.Goals as goal
 
 pub returns : goal.returns

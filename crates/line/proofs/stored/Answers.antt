@@ -1,5 +1,4 @@
 use Rattle.line.proofs.Parts.{stored_met}
-use Rattle.std.proofs.Common.{rules}
 use Rattle.line.proofs.stored.Goals as goal
 
 pub returns : goal.returns

@@ -1,4 +1,4 @@
-use Rattle.std.proofs.Common.{sym, ◌∙◌, rules}
+use Rattle.std.proofs.Common.{sym, ◌∙◌}
 use Rattle.line.proofs.Parts.{taken_flow, taken_stored, taken_lost}
 use Rattle.line.proofs.taken.Goals as goal
 

@@ -1,4 +1,4 @@
-use Rattle.std.proofs.Common.{length, sym, ap, rules}
+use Rattle.std.proofs.Common.{length, sym, ap}
 use Rattle.loopside.proofs.Parts.{adds_three, adds_one}
 use Rattle.loopside.proofs.added.Goals as goal
 

@@ -1,5 +1,4 @@
 use Rattle.loopside.proofs.Parts.{back_damaged, back_status, back_finished, back_next}
-use Rattle.std.proofs.Common.{rules}
 use Rattle.loopside.proofs.back.Goals as goal
 
 pub returns-in-Damaged : goal.returns-in-Damaged

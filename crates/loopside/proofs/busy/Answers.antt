@@ -1,5 +1,4 @@
 use Rattle.loopside.proofs.Parts.{busy_met}
-use Rattle.std.proofs.Common.{rules}
 use Rattle.loopside.proofs.busy.Goals as goal
 
 pub returns : goal.returns

@@ -1,5 +1,4 @@
 use Rattle.loopside.proofs.Parts.{clear_met}
-use Rattle.std.proofs.Common.{rules}
 use Rattle.loopside.proofs.clear.Goals as goal
 
 pub returns : goal.returns

@@ -1,5 +1,4 @@
 use Rattle.loopside.proofs.Parts.{command_clears, command_other}
-use Rattle.std.proofs.Common.{rules}
 use Rattle.loopside.proofs.command.Goals as goal
 
 pub returns-then-is_clear : goal.returns-then-is_clear

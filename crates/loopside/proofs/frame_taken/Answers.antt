@@ -1,4 +1,4 @@
-use Rattle.std.proofs.Common.{sym, ◌∙◌, rules}
+use Rattle.std.proofs.Common.{sym, ◌∙◌}
 use Rattle.loopside.proofs.Taken.{taken_back, taken_passed, taken_command, taken_ready, taken_identify, identify_met}
 use Rattle.loopside.proofs.frame_taken.Goals as goal
 

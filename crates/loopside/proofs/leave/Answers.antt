@@ -1,4 +1,4 @@
-use Rattle.std.proofs.Common.{ℕ, [], ◌∷◌, sym, ap, ◌∙◌, rules}
+use Rattle.std.proofs.Common.{ℕ, [], ◌∷◌, sym, ap, ◌∙◌}
 use Rattle.store.proofs.Promises.{puts_none, puts_more}
 use Rattle.loopside.proofs.Parts.{adds_three, adds_one}
 use Rattle.loopside.proofs.Taken.{left_met}

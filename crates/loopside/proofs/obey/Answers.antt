@@ -1,5 +1,4 @@
 use Rattle.loopside.proofs.Parts.{obey_met}
-use Rattle.std.proofs.Common.{rules}
 use Rattle.loopside.proofs.obey.Goals as goal
 
 pub returns : goal.returns

@@ -1,5 +1,4 @@
 use Rattle.loopside.proofs.Taken.{passed_left, passed_by}
-use Rattle.std.proofs.Common.{rules}
 use Rattle.loopside.proofs.pass_data.Goals as goal
 
 pub returns-then-s : goal.returns-then-s

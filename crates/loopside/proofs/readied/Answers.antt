@@ -1,5 +1,4 @@
 use Rattle.loopside.proofs.Parts.{ready_address, ready_data, ready_status, ready_finish, ready_pass, address_next}
-use Rattle.std.proofs.Common.{rules}
 use Rattle.loopside.proofs.readied.Goals as goal
 
 pub overflow_add-d : goal.overflow_add-d

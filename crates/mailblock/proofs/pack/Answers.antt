@@ -1,6 +1,5 @@
 use Rattle.codec.proofs.Copied.{packed_both}
 use Rattle.mailblock.specs.Packed.{layout}
-use borrow.Author.Rules.{rules}
 use Rattle.mailblock.proofs.pack.Goals as goal
 
 pub returns : goal.returns

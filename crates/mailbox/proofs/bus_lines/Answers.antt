@@ -1,6 +1,5 @@
 use mathlib.Core.Path.{ap}
 use mathlib.Core.Bool.{not}
-use borrow.Author.Rules.{rules}
 use mathlib.Core.Path.{refl}
 use Rattle.mailstate.proofs.Fits.{is_misfit, is_fit, bus_line}
 use Rattle.mailbox.specs.Calls.{checks_on, outcome, tobus_after, toloop_after, bus_lines}

@@ -1,4 +1,3 @@
-use borrow.Author.Rules.{rules}
 use Rattle.mailbox.proofs.Parts.{cell_marked}
 use Rattle.mailbox.proofs.cell_with.Goals as goal
 

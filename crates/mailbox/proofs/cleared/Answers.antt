@@ -1,4 +1,3 @@
-use borrow.Author.Rules.{rules}
 use Rattle.mailbox.proofs.Parts.{cleared_met}
 use Rattle.mailbox.proofs.cleared.Goals as goal
 

@@ -1,4 +1,3 @@
-use borrow.Author.Rules.{rules}
 use Rattle.mailbox.proofs.Parts.{command_clears, command_other}
 use mathlib.Core.Path.{sym, ◌∙◌}
 use Rattle.mailbox.proofs.commanded.Goals as goal

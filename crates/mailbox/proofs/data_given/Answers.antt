@@ -1,4 +1,3 @@
-use borrow.Author.Rules.{rules}
 use Rattle.mailbox.proofs.Parts.{data_none, data_met}
 use Rattle.mailbox.proofs.data_given.Goals as goal
 

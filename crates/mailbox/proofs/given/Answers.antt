@@ -1,4 +1,3 @@
-use borrow.Author.Rules.{rules}
 use Rattle.mailbox.proofs.Parts.{given_silent, given_status, given_data}
 use Rattle.mailbox.proofs.given.Goals as goal
 

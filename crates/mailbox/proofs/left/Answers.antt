@@ -1,4 +1,3 @@
-use borrow.Author.Rules.{rules}
 use Rattle.mailbox.proofs.Parts.{left_met, ignored_met}
 use Rattle.mailbox.proofs.left.Goals as goal
 

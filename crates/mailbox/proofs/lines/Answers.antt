@@ -1,4 +1,3 @@
-use borrow.Author.Rules.{rules}
 use Rattle.mailbox.proofs.Parts.{lines_met}
 use Rattle.mailbox.proofs.lines.Goals as goal
 

@@ -1,5 +1,4 @@
 use mathlib.Core.Bool.{not}
-use borrow.Author.Rules.{rules}
 use mathlib.Core.Path.{refl, ap, ◌∙◌}
 use Rattle.mailstate.proofs.Fits.{is_misfit, is_fit}
 use Rattle.mailbox.specs.BusSide.{done_with}

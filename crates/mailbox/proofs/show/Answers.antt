@@ -1,6 +1,5 @@
 use mathlib.Core.Path.{ap}
 use mathlib.Core.Bool.{not}
-use borrow.Author.Rules.{rules}
 use Rattle.mailstate.proofs.Fits.{is_misfit, is_fit, tobus_fits, toloop_fits}
 use Rattle.mailbox.proofs.Steps.{show_misfit, show_tobus, show_toloop, show_neither}
 use Rattle.mailbox.proofs.show.Goals as goal

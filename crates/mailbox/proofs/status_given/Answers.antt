@@ -1,4 +1,3 @@
-use borrow.Author.Rules.{rules}
 use Rattle.mailbox.proofs.Parts.{status_met}
 use Rattle.mailbox.proofs.status_given.Goals as goal
 

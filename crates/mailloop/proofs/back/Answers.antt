@@ -1,4 +1,3 @@
-use borrow.Author.Rules.{rules}
 use Rattle.mailloop.proofs.Parts.{back_damaged, back_status, back_finished, back_next}
 use Rattle.mailloop.proofs.back.Goals as goal
 

@@ -1,4 +1,3 @@
-use borrow.Author.Rules.{rules}
 use Rattle.mailloop.proofs.Parts.{busy_met}
 use Rattle.mailloop.proofs.busy.Goals as goal
 

@@ -1,4 +1,3 @@
-use borrow.Author.Rules.{rules}
 use Rattle.mailloop.proofs.Parts.{command_clears, command_other}
 use Rattle.mailloop.proofs.command.Goals as goal
 

@@ -1,4 +1,3 @@
-use borrow.Author.Rules.{rules}
 use mathlib.Core.Path.{sym, ◌∙◌}
 use Rattle.mailloop.proofs.Parts.{taken_back, taken_kept, taken_passed, taken_command, taken_ready, taken_identify}
 use Rattle.mailloop.proofs.frame_taken.Goals as goal

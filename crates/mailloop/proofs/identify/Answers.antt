@@ -1,4 +1,3 @@
-use borrow.Author.Rules.{rules}
 use Rattle.mailloop.proofs.Parts.{identify_met}
 use Rattle.mailloop.proofs.identify.Goals as goal
 

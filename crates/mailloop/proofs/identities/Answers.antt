@@ -1,4 +1,3 @@
-use borrow.Author.Rules.{rules}
 use Rattle.mailloop.proofs.Parts.{identities_device, identities_accessory, identities_neither}
 use Rattle.mailloop.proofs.identities.Goals as goal
 

@@ -1,4 +1,3 @@
-use borrow.Author.Rules.{rules}
 use Rattle.mailloop.proofs.Parts.{kept_back, kept_on}
 use Rattle.mailloop.proofs.keep.Goals as goal
 

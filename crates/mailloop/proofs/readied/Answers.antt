@@ -1,4 +1,3 @@
-use borrow.Author.Rules.{rules}
 use Rattle.mailloop.proofs.Parts.{ready_released, ready_address, ready_data, ready_status, ready_finish, ready_other, address_next}
 use Rattle.mailloop.proofs.readied.Goals as goal
 

@@ -1,4 +1,3 @@
-use borrow.Author.Rules.{rules}
 use Rattle.mailloop.proofs.Parts.{released_met}
 use Rattle.mailloop.proofs.released.Goals as goal
 

@@ -1,4 +1,3 @@
-use borrow.Author.Rules.{rules}
 use mathlib.Core.Path.{sym, ◌∙◌}
 use Rattle.branches.proofs.Branches.{cond_true, cond_false}
 use Rattle.mailloop.specs.Messages.{response_after}

@@ -1,4 +1,3 @@
-use borrow.Author.Rules.{rules}
 use Rattle.mailstate.proofs.Parts.{start_met}
 use Rattle.mailstate.proofs.start.Goals as goal
 

@@ -1,4 +1,3 @@
-use borrow.Author.Rules.{rules}
 use Rattle.mailstate.proofs.Parts.{fits_met}
 use Rattle.mailstate.proofs.state_fits.Goals as goal
 

@@ -1,4 +1,3 @@
-use borrow.Author.Rules.{rules}
 use Rattle.polls.proofs.Bits.{weight_met}
 use Rattle.polls.proofs.weight.Goals as goal
 

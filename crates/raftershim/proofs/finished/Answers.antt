@@ -1,6 +1,5 @@
 use mathlib.Core.Path.{sym, ◌∙◌}
 use Rattle.branches.proofs.Branches.{cond_true, cond_false}
-use borrow.Author.Rules.{rules}
 use Rattle.raftershim.proofs.finished.Goals as goal
 
 pub returns-then-is_refusal : goal.returns-then-is_refusal

@@ -3,7 +3,6 @@ use Rattle.bridge.specs.Calls.{ask_line_byte}
 use Rattle.boundary.proofs.Closing.{looked}
 use Rattle.raftershim.specs.Bridge.{bridges}
 use Rattle.raftershim.proofs.Forming.{formed}
-use borrow.Author.Rules.{rules}
 use Rattle.raftershim.proofs.raftershim_ask_line_byte.Goals as goal
 
 pub returns : goal.returns

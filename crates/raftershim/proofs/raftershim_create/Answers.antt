@@ -4,7 +4,6 @@ use Rattle.boundary.proofs.Closing.{wrong_length, create_written}
 use Rattle.boundary.proofs.Words.{no_room_alone}
 use Rattle.raftershim.specs.Bridge.{bridges}
 use Rattle.raftershim.proofs.Forming.{formed}
-use borrow.Author.Rules.{rules}
 use Rattle.raftershim.proofs.raftershim_create.Goals as goal
 
 pub returns-then-block-ne-LENGTH : goal.returns-then-block-ne-LENGTH

@@ -2,7 +2,6 @@ use Rattle.bridge.specs.Calls.{reset}
 use Rattle.boundary.proofs.Closing.{may_write, written_with}
 use Rattle.raftershim.specs.Bridge.{bridges}
 use Rattle.raftershim.proofs.Forming.{formed}
-use borrow.Author.Rules.{rules}
 use Rattle.raftershim.proofs.raftershim_reset.Goals as goal
 
 pub finished-requires : goal.finished-requires

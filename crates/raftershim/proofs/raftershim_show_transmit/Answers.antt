@@ -3,7 +3,6 @@ use Rattle.boundary.proofs.Closing.{part_shown, show_empty, show_small, show_par
 use Rattle.bridge.specs.Calls.{transmit}
 use Rattle.raftershim.specs.Bridge.{bridges}
 use Rattle.raftershim.proofs.Forming.{formed}
-use borrow.Author.Rules.{rules}
 use Rattle.raftershim.proofs.raftershim_show_transmit.Goals as goal
 
 pub returns-then-len-eq0 : goal.returns-then-len-eq0

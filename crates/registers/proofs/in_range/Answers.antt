@@ -1,4 +1,3 @@
-use borrow.Author.Rules.{rules}
 use Rattle.registers.specs.Bits.{in_range}
 use Rattle.registers.proofs.in_range.Goals as goal
 

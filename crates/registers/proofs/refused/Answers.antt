@@ -1,4 +1,3 @@
-use borrow.Author.Rules.{rules}
 use Rattle.registers.proofs.Ways.{gives_five, gives_six, gives_seven, gives_eight, gives_none}
 use Rattle.registers.proofs.refused.Goals as goal
 

@@ -1,4 +1,3 @@
-use borrow.Author.Rules.{rules}
 use Rattle.registers.specs.Writing.{written}
 use Rattle.registers.proofs.written.Goals as goal
 

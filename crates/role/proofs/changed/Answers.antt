@@ -1,4 +1,3 @@
-use borrow.Author.Rules.{rules}
 use Rattle.role.specs.Commands.{changed_role}
 use Rattle.role.proofs.changed.Goals as goal
 

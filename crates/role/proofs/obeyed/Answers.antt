@@ -1,4 +1,3 @@
-use borrow.Author.Rules.{rules}
 use Rattle.role.proofs.Composed.{obeys}
 use Rattle.role.proofs.obeyed.Goals as goal
 

@@ -1,4 +1,3 @@
-use borrow.Author.Rules.{rules}
 use Rattle.role.proofs.Composed.{listens, talks, others}
 use Rattle.role.proofs.order_of.Goals as goal
 

@@ -1,4 +1,3 @@
-use borrow.Author.Rules.{rules}
 use Rattle.branches.proofs.Branches.{branches}
 use Rattle.role.specs.ReadyFrames.{ready_of}
 use Rattle.role.proofs.ready_of.Goals as goal

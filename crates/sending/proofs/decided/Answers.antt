@@ -1,4 +1,3 @@
-use borrow.Author.Rules.{rules}
 use Rattle.sending.proofs.Chain.{decided_met}
 use Rattle.sending.proofs.decided.Goals as goal
 

@@ -1,4 +1,3 @@
-use borrow.Author.Rules.{rules}
 use mathlib.Core.Path.{ap, ◌∙◌}
 use Rattle.reading.specs.Received.{item_of}
 use Rattle.sending.proofs.Chain.{past}

@@ -1,4 +1,3 @@
-use borrow.Author.Rules.{rules}
 use Rattle.sending.proofs.Chain.{one_frame_met}
 use Rattle.sending.proofs.one_frame.Goals as goal
 

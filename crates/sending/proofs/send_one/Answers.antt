@@ -1,4 +1,3 @@
-use borrow.Author.Rules.{rules}
 use mathlib.Core.Path.{sym, ◌∙◌}
 use Rattle.reading.specs.declared.Decision.TheVariants.{End, Data}
 use Rattle.sending.proofs.Chain.{enough, end_met, data_met, wait_met, never_removed}

@@ -1,7 +1,6 @@
-use borrow.Author.Rules.{rules}
 use native.Mathlib.Omega.{arith}
 use mathlib.Core.Path.{sym, ap, ◌∙◌}
-use Rattle.sending.specs.Sending.{Left, is_removed}
+use Rattle.sending.specs.Sending.{is_removed}
 use Rattle.sending.proofs.Chain.{left_start, left_again, pair_enough}
 use Rattle.sending.proofs.skipped.Goals as goal
 

@@ -1,5 +1,4 @@
 use Rattle.status.specs.Status.{status_byte}
-use borrow.Author.Rules.{rules}
 use Rattle.status.proofs.status_byte.Goals as goal
 
 pub returns : goal.returns

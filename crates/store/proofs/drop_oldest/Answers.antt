@@ -1,4 +1,3 @@
-use borrow.Author.Rules.{rules}
 use Rattle.store.proofs.Laws.{drop_met}
 use Rattle.store.proofs.drop_oldest.Goals as goal
 

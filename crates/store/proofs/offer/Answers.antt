@@ -1,4 +1,3 @@
-use borrow.Author.Rules.{rules}
 use Rattle.store.proofs.Laws.{offered_room, offered_full}
 use Rattle.store.proofs.offer.Goals as goal
 

@@ -1,4 +1,3 @@
-use borrow.Author.Rules.{rules}
 use Rattle.store.proofs.Laws.{put_at, put_kept}
 use Rattle.store.proofs.put.Goals as goal
 

@@ -1,5 +1,4 @@
 use Rattle.talker.proofs.Parts.{assigned_met}
-use borrow.Author.Rules.{rules}
 use Rattle.talker.proofs.assigned.Goals as goal
 
 pub returns : goal.returns

@@ -1,5 +1,4 @@
 use Rattle.talker.proofs.Parts.{obeyed_active, obeyed_other}
-use borrow.Author.Rules.{rules}
 use Rattle.talker.proofs.obeyed.Goals as goal
 
 pub returns-then-t-ge2 : goal.returns-then-t-ge2

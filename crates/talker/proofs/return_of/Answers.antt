@@ -1,7 +1,5 @@
 use mathlib.Core.Path.{sym, ◌∙◌}
-use borrow.Author.Tests.{not-true, not-false}
 use Rattle.talker.proofs.Parts.{is_damaged, is_status, is_finished, is_next}
-use borrow.Author.Rules.{rules}
 use Rattle.talker.proofs.return_of.Goals as goal
 
 pub returns-then-not-same_apart : goal.returns-then-not-same_apart

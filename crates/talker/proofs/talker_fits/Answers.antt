@@ -1,5 +1,4 @@
 use Rattle.talker.proofs.Parts.{fits_met}
-use borrow.Author.Rules.{rules}
 use Rattle.talker.proofs.talker_fits.Goals as goal
 
 pub returns : goal.returns

@@ -1,5 +1,4 @@
 use Rattle.talker.proofs.Parts.{talking_met}
-use borrow.Author.Rules.{rules}
 use Rattle.talker.proofs.talking.Goals as goal
 
 pub returns : goal.returns

@@ -1,5 +1,4 @@
 use Rattle.transcript.proofs.Whole.{last_line}
-use borrow.Author.Rules.{rules}
 use Rattle.transcript.proofs.put_last.Goals as goal
 
 pub returns : goal.returns

@@ -1,6 +1,5 @@
 use native.Mathlib.Omega.{arith}
 use Rattle.transcript.proofs.Whole.{rest_lines}
-use borrow.Author.Rules.{rules}
 use Rattle.transcript.proofs.put_rest.Goals as goal
 
 pub overflow_add-second-2 : goal.overflow_add-second-2

@@ -1,7 +1,6 @@
 use native.Mathlib.Omega.{arith}
 use Rattle.laws.proofs.OneResult.{create_state}
 use Rattle.transcript.proofs.Whole.{run_refused, run_goes}
-use borrow.Author.Rules.{rules}
 use Rattle.transcript.proofs.put_run.Goals as goal
 
 pub put_refused-requires : goal.put_refused-requires

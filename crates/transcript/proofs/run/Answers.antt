@@ -1,5 +1,4 @@
 use Rattle.transcript.proofs.Whole.{whole, printed_refused, printed_run}
-use borrow.Author.Rules.{rules}
 use Rattle.transcript.proofs.run.Goals as goal
 
 pub returns-then-not-p : goal.returns-then-not-p

@@ -1,4 +1,3 @@
-use borrow.Author.Rules.{rules}
 use Rattle.way.proofs.Parts.{empty_met}
 use Rattle.way.proofs.empty.Goals as goal
 

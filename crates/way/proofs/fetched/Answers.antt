@@ -1,4 +1,3 @@
-use borrow.Author.Rules.{rules}
 use Rattle.way.proofs.Parts.{fetched_last, fetched_more}
 use Rattle.way.proofs.fetched.Goals as goal
 

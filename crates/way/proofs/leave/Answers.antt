@@ -1,4 +1,3 @@
-use borrow.Author.Rules.{rules}
 use Rattle.way.proofs.Parts.{left_first, left_more}
 use Rattle.way.proofs.leave.Goals as goal
 

@@ -1,5 +1,4 @@
 use Rattle.codec.specs.Blocks.{unpacked}
-use borrow.Author.Rules.{rules}
 use Rattle.block.proofs.reading.unpack.Goals as goal
 
 pub returns : goal.returns

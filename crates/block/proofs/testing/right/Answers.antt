@@ -1,5 +1,4 @@
 use Rattle.block.proofs.Tested.{right_met}
-use borrow.Author.Rules.{rules}
 use Rattle.block.proofs.testing.right.Goals as goal
 
 pub returns : goal.returns

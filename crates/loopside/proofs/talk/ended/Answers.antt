@@ -1,5 +1,4 @@
 use Rattle.loopside.proofs.Parts.{ended_met}
-use Rattle.std.proofs.Common.{rules}
 use Rattle.loopside.proofs.talk.ended.Goals as goal
 
 pub returns : goal.returns

@@ -1,5 +1,4 @@
 use Rattle.loopside.proofs.Parts.{rule_met}
-use Rattle.std.proofs.Common.{rules}
 use Rattle.loopside.proofs.talk.rule_of.Goals as goal
 
 pub returns : goal.returns

@@ -1,5 +1,4 @@
 use Rattle.loopside.proofs.Parts.{send_met}
-use Rattle.std.proofs.Common.{rules}
 use Rattle.loopside.proofs.talk.send_from.Goals as goal
 
 pub returns : goal.returns

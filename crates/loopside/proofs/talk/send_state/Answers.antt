@@ -1,5 +1,4 @@
 use Rattle.loopside.proofs.Parts.{send_nothing, send_frame}
-use Rattle.std.proofs.Common.{rules}
 use Rattle.loopside.proofs.talk.send_state.Goals as goal
 
 pub returns-in-Nothing : goal.returns-in-Nothing

@@ -1,5 +1,4 @@
 use Rattle.mailblock.specs.Packed.{state_at}
-use borrow.Author.Rules.{rules}
 use Rattle.mailblock.proofs.reading.hold_at.Goals as goal
 
 pub returns : goal.returns

@@ -1,6 +1,5 @@
 use Rattle.codec.specs.Blocks.{unpacked}
 use Rattle.mailblock.specs.Packed.{state_at}
-use borrow.Author.Rules.{rules}
 use Rattle.mailblock.proofs.reading.unpack.Goals as goal
 
 pub returns : goal.returns

@@ -1,5 +1,4 @@
 use Rattle.mailblock.proofs.Tested.{right_met}
-use borrow.Author.Rules.{rules}
 use Rattle.mailblock.proofs.testing.right.Goals as goal
 
 pub returns : goal.returns

@@ -1,4 +1,3 @@
-use borrow.Author.Rules.{rules}
 use Rattle.mailloop.proofs.Sending.{cell_of_end, cell_of_other}
 use Rattle.mailloop.proofs.talk.cell_of.Goals as goal
 

@@ -1,4 +1,3 @@
-use borrow.Author.Rules.{rules}
 use Rattle.mailloop.proofs.Sending.{ended_met}
 use Rattle.mailloop.proofs.talk.ended.Goals as goal
 

@@ -1,4 +1,3 @@
-use borrow.Author.Rules.{rules}
 use Rattle.mailloop.proofs.Sending.{frame_marked, frame_unmarked}
 use Rattle.mailloop.proofs.talk.frame_of.Goals as goal
 

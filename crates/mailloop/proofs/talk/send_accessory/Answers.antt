@@ -1,4 +1,3 @@
-use borrow.Author.Rules.{rules}
 use Rattle.mailloop.proofs.Sending.{accessory_sent}
 use Rattle.mailloop.proofs.talk.send_accessory.Goals as goal
 

@@ -1,4 +1,3 @@
-use borrow.Author.Rules.{rules}
 use Rattle.mailloop.proofs.Sending.{id_ended, id_sent}
 use Rattle.mailloop.proofs.talk.send_id.Goals as goal
 

@@ -1,4 +1,3 @@
-use borrow.Author.Rules.{rules}
 use Rattle.mailloop.proofs.Sending.{next_waits, next_of_id}
 use Rattle.mailloop.proofs.talk.send_next.Goals as goal
 

@@ -1,4 +1,3 @@
-use borrow.Author.Rules.{rules}
 use Rattle.mailloop.proofs.Sending.{status_sent}
 use Rattle.mailloop.proofs.talk.send_status.Goals as goal
 

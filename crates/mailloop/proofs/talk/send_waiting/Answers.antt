@@ -1,4 +1,3 @@
-use borrow.Author.Rules.{rules}
 use Rattle.mailloop.proofs.Sending.{nothing_waits, oldest_sent}
 use Rattle.mailloop.proofs.talk.send_waiting.Goals as goal
 

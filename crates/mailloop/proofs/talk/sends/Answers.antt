@@ -1,4 +1,3 @@
-use borrow.Author.Rules.{rules}
 use Rattle.mailloop.proofs.Sending.{sends_met}
 use Rattle.mailloop.proofs.talk.sends.Goals as goal
 

@@ -1,4 +1,3 @@
-use borrow.Author.Rules.{rules}
 use Rattle.mailloop.proofs.Sending.{serviced_set, serviced_kept}
 use Rattle.mailloop.proofs.talk.serviced.Goals as goal
 

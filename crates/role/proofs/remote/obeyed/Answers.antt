@@ -1,4 +1,3 @@
-use borrow.Author.Rules.{rules}
 use Rattle.role.specs.Remote.{obeyed_remote}
 use Rattle.role.proofs.remote.obeyed.Goals as goal
 

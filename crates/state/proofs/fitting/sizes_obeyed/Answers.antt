@@ -1,5 +1,4 @@
 use Rattle.state.proofs.Parts.{sizes_large, sizes_met}
-use borrow.Author.Rules.{rules}
 use Rattle.state.proofs.fitting.sizes_obeyed.Goals as goal
 
 pub returns-then-m-gt1024 : goal.returns-then-m-gt1024

@@ -1,5 +1,4 @@
 use Rattle.state.proofs.Parts.{start_met}
-use borrow.Author.Rules.{rules}
 use Rattle.state.proofs.fitting.start.Goals as goal
 
 pub returns : goal.returns

@@ -1,5 +1,4 @@
 use Rattle.state.proofs.Parts.{fits_met}
-use borrow.Author.Rules.{rules}
 use Rattle.state.proofs.fitting.state_fits.Goals as goal
 
 pub returns : goal.returns

@@ -1,5 +1,4 @@
 use Rattle.state.proofs.Parts.{asking_met}
-use borrow.Author.Rules.{rules}
 use Rattle.state.proofs.requests.asking.Goals as goal
 
 pub returns : goal.returns

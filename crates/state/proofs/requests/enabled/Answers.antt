@@ -1,5 +1,4 @@
 use Rattle.state.proofs.Parts.{enabled_met}
-use borrow.Author.Rules.{rules}
 use Rattle.state.proofs.requests.enabled.Goals as goal
 
 pub returns : goal.returns

@@ -1,6 +1,5 @@
 use mathlib.Core.Path.{sym, ◌∙◌}
 use Rattle.state.proofs.Serviced.{serviced_on, serviced_off}
-use borrow.Author.Rules.{rules}
 use Rattle.state.proofs.requests.serviced.Goals as goal
 
 pub returns-then-shows : goal.returns-then-shows

@@ -1,5 +1,4 @@
 use Rattle.state.proofs.Parts.{settle_met}
-use borrow.Author.Rules.{rules}
 use Rattle.state.proofs.requests.settle.Goals as goal
 
 pub returns : goal.returns

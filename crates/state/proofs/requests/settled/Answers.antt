@@ -1,5 +1,4 @@
 use Rattle.state.proofs.Parts.{settled_met}
-use borrow.Author.Rules.{rules}
 use Rattle.state.proofs.requests.settled.Goals as goal
 
 pub returns : goal.returns

@@ -1,5 +1,4 @@
 use Rattle.state.proofs.Parts.{shows_met}
-use borrow.Author.Rules.{rules}
 use Rattle.state.proofs.requests.shows.Goals as goal
 
 pub returns : goal.returns

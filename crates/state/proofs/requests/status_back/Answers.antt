@@ -1,5 +1,4 @@
 use Rattle.state.proofs.Parts.{back_met}
-use borrow.Author.Rules.{rules}
 use Rattle.state.proofs.requests.status_back.Goals as goal
 
 pub returns : goal.returns

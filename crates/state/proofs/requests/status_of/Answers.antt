@@ -1,5 +1,4 @@
 use Rattle.state.proofs.Parts.{status_met}
-use borrow.Author.Rules.{rules}
 use Rattle.state.proofs.requests.status_of.Goals as goal
 
 pub returns : goal.returns

@@ -1,5 +1,4 @@
 use Rattle.state.proofs.Parts.{sent_met}
-use borrow.Author.Rules.{rules}
 use Rattle.state.proofs.requests.status_sent.Goals as goal
 
 pub returns : goal.returns

@@ -1,6 +1,5 @@
 use Rattle.transcript.specs.Input.{second_of}
 use Rattle.transcript.proofs.Parts.{too_short, too_many, goes_on}
-use borrow.Author.Rules.{rules}
 use Rattle.transcript.proofs.input.second_of.Goals as goal
 
 pub returns-then-at-x : goal.returns-then-at-x

@@ -1,6 +1,5 @@
 use Rattle.transcript.specs.Input.{sections_of}
 use Rattle.transcript.proofs.Parts.{too_short, too_many, goes_on}
-use borrow.Author.Rules.{rules}
 use Rattle.transcript.proofs.input.sections_of.Goals as goal
 
 pub returns-then-x-lt2 : goal.returns-then-x-lt2

@@ -1,6 +1,5 @@
 use Rattle.transcript.specs.Input.{third_of}
 use Rattle.transcript.proofs.Parts.{too_short, too_many, goes_on, ends_else, ends_there}
-use borrow.Author.Rules.{rules}
 use Rattle.transcript.proofs.input.third_of.Goals as goal
 
 pub returns-then-at-x : goal.returns-then-at-x

@@ -1,11 +1,7 @@
 use mathlib.Core.Bool.{not}
-use borrow.Author.Rules.{rules}
-use Prim.Native.Nat.{◌+◌, ◌≤◌}
 use native.Mathlib.Omega.{arith}
-use mathlib.Core.Path.{◌≡◌, ap}
+use mathlib.Core.Path.{ap}
 use lib.ListN.{length}
-use Rattle.bridge.specs.Calls.{world}
-use Rattle.transcript.specs.Transcript.{line_out}
 use Rattle.transcript.proofs.Turns.{line_stops, line_goes, count_ends}
 use Rattle.transcript.proofs.passing.count_line.Goals as goal
 

@@ -1,10 +1,6 @@
 use borrow.Author.Rules.{rules}
-use Prim.Native.Nat.{◌+◌, ◌≤◌, ◌<◌}
 use native.Mathlib.Omega.{arith}
-use mathlib.Core.Path.{◌≡◌, refl}
-use lib.ListN.{length}
-use Rattle.bridge.specs.Calls.{world}
-use Rattle.transcript.specs.Transcript.{line_bytes_in}
+use mathlib.Core.Path.{refl}
 use Rattle.transcript.proofs.Turns.{line_in_again, line_in_ends}
 use Rattle.transcript.proofs.passing.line_bytes_in.Goals as goal
 

@@ -1,8 +1,7 @@
 use borrow.Author.Rules.{rules}
 use native.Mathlib.Omega.{arith}
-use mathlib.Core.Path.{◌≡◌, refl}
-use lib.ListN.{length}
-use Rattle.transcript.proofs.Turns.{rest_start, Offering, offer_again, offer_ends}
+use mathlib.Core.Path.{refl}
+use Rattle.transcript.proofs.Turns.{rest_start, offer_again, offer_ends}
 use Rattle.transcript.proofs.passing.offer_frames.Goals as goal
 
 pub loop-left-init : goal.loop-left-init

@@ -1,13 +1,7 @@
 use mathlib.Core.Path.{ap}
 use mathlib.Core.Bool.{not}
-use borrow.Author.Rules.{rules}
-use Prim.Native.Nat.{◌+◌, ◌*◌, ◌≤◌}
 use native.Mathlib.Omega.{arith}
-use lib.ListN.{length}
-use Rattle.bridge.specs.Calls.{world}
-use Rattle.transcript.specs.Text.{bytes_text}
-use Rattle.transcript.specs.Transcript.{line_out}
-use Rattle.transcript.proofs.Turns.{Rest, rest_start, bytes_end, bytes_again, line_stops, line_goes, line_none}
+use Rattle.transcript.proofs.Turns.{rest_start, bytes_end, bytes_again, line_stops, line_goes, line_none}
 use Rattle.transcript.proofs.passing.put_line.Goals as goal
 
 pub loop-left-init : goal.loop-left-init

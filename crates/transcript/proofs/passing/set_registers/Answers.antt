@@ -1,10 +1,5 @@
-use borrow.Author.Rules.{rules}
-use Prim.Native.Nat.{◌+◌, ◌*◌, ◌≤◌, ◌<◌}
 use native.Mathlib.Omega.{arith}
-use mathlib.Core.Path.{◌≡◌, refl}
-use lib.ListN.{length}
-use Rattle.bridge.specs.Calls.{world}
-use Rattle.transcript.specs.Transcript.{set_registers}
+use mathlib.Core.Path.{refl}
 use Rattle.transcript.proofs.Turns.{set_again, set_stops, set_ends}
 use Rattle.transcript.proofs.passing.set_registers.Goals as goal
 

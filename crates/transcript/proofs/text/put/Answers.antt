@@ -1,5 +1,4 @@
 use Rattle.transcript.proofs.Writing.{wrote_one}
-use borrow.Author.Rules.{rules}
 use Rattle.transcript.proofs.text.put.Goals as goal
 
 pub returns : goal.returns

@@ -3,7 +3,6 @@ use Rattle.answers.specs.declared.Answer.{Answer}
 use Rattle.answers.specs.Answers.{said}
 use Rattle.transcript.specs.Text.{answer_text}
 use Rattle.transcript.proofs.Writing.{silent, of_frame, of_refusal}
-use borrow.Author.Rules.{rules}
 use Rattle.transcript.proofs.text.put_answer.Goals as goal
 
 pub returns-in-Done : goal.returns-in-Done

@@ -1,5 +1,4 @@
 use Rattle.transcript.proofs.Writing.{byte_text}
-use borrow.Author.Rules.{rules}
 use Rattle.transcript.proofs.text.put_byte.Goals as goal
 
 pub returns : goal.returns

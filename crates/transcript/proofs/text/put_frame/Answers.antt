@@ -1,6 +1,5 @@
 use mathlib.Core.Path.{◌∙◌}
 use Rattle.transcript.proofs.Writing.{frame_line}
-use borrow.Author.Rules.{rules}
 use Rattle.transcript.proofs.text.put_frame.Goals as goal
 
 pub returns : goal.returns

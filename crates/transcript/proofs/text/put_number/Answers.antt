@@ -1,5 +1,4 @@
 use Rattle.transcript.proofs.Writing.{number_one, number_two, number_three}
-use borrow.Author.Rules.{rules}
 use Rattle.transcript.proofs.text.put_number.Goals as goal
 
 pub returns-then-n-lt10 : goal.returns-then-n-lt10

@@ -1,5 +1,4 @@
 use Rattle.transcript.proofs.Writing.{refusal_line}
-use borrow.Author.Rules.{rules}
 use Rattle.transcript.proofs.text.put_refused.Goals as goal
 
 pub returns : goal.returns
