@@ -17,14 +17,22 @@ def read(path):
         return file.read()
 
 
+def rows():
+    """The lines of crates.txt for a crate: its name, the words that say what it is, and the names it depends on."""
+    for line in read("crates.txt").split("\n"):
+        said, colon, rest = line.split("#")[0].partition(":")
+        if colon and said.split():
+            yield said.split()[0], said.split()[1:], rest.split()
+
+
 def crates():
     """Each crate of crates.txt with the names it depends on, in the file's order."""
-    found = {}
-    for line in read("crates.txt").split("\n"):
-        name, colon, rest = line.split("#")[0].partition(":")
-        if colon:
-            found[name.strip()] = rest.split()
-    return found
+    return {name: needs for name, _, needs in rows()}
+
+
+def static_libraries():
+    """The crates that are built as static libraries, for callers that are not Rattle."""
+    return {name for name, kind, _ in rows() if "staticlib" in kind}
 
 
 def layers():

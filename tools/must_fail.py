@@ -1,12 +1,12 @@
-"""Tries the must-fail edits of crates/NAME/edits, each over what is already proved of its crate.
+"""Tries the must-fail edits of crates/NAME/edits and crates/NAME/must-fail, each over what is already proved of its crate.
 
 Usage: python3 tools/must_fail.py [--write]             those that no entry of tools/seen-refused.txt holds of, and a share of the others
        python3 tools/must_fail.py --all [--write]       all of them
        python3 tools/must_fail.py NAME .. [--write]     all those of a crate, or one: CRATE/LABEL
        python3 tools/must_fail.py --places              tries none, and sees in a second whether the text that each changes is there
-(after rt ci or rt check, which prove the crates)
-An edit has the form of those in crates/NAME/must-fail, which rt ci tries from nothing. Here a crate is checked once in full, and
-each edit then checks again only what rests on the line it changes, so that an edit takes seconds.
+(after rt ci, whose libraries serve here, or rt check; where a library is missing or of another text, rt lib builds it)
+rt ci tries those of must-fail itself. Here a crate is checked once in full, and each edit then checks again only what rests on the line
+it changes, in a copy of the crate in a folder of its own, so that an edit takes seconds.
 The log of an edit is target/must-fail/NAME/LABEL/.log, where tools/must_fail_logs.py reads it, and beside it what text it is of.
 With --write, and if every edit that was tried is refused with a log that shows a fact, the file of what was seen refused is written;
 tools/seen.py says what stands in it. The share that is tried though an entry holds is chosen by the hash of the tree: a twelfth of what this
@@ -14,23 +14,25 @@ toolchain refused, and a sixth of what only another one did.
 """
 import glob
 import os
-import queue
 import shutil
 import subprocess
 import sys
+import tempfile
+import threading
 import time
 from concurrent.futures import ThreadPoolExecutor
 
 sys.dont_write_bytecode = True
+import kit
 import listing
 import must_fail_logs
 import seen
 
 ROOT = os.getcwd()
-WORK = os.path.join(ROOT, "target", "edits")
 JOBS = min(os.cpu_count() or 1, 4)
 SHARES = 12
 SHARES_ELSEWHERE = 6
+EDITS = ("edits", "must-fail")
 
 
 def replaced(text, old, new):
@@ -63,10 +65,15 @@ def apply_edit(edit, crate_dir):
             file.write(text)
 
 
+def every_edit():
+    """The paths of all edits."""
+    return sorted(path for folder in EDITS for path in glob.glob(f"crates/*/{folder}/*.edit"))
+
+
 def misplaced():
-    """Edits, rt's own too, whose texts do not stand in their crates as they say."""
+    """Edits whose texts do not stand in their crates as they say."""
     wrong = []
-    for edit in sorted(glob.glob("crates/*/edits/*.edit") + glob.glob("crates/*/must-fail/*.edit")):
+    for edit in every_edit():
         try:
             changed(edit, os.path.join("crates", edit.split(os.sep)[1]))
         except (ValueError, OSError) as fault:
@@ -74,83 +81,101 @@ def misplaced():
     return wrong
 
 
-def make_room(number):
-    """A copy of the repository in which one check at a time can change a crate."""
-    room = os.path.join(WORK, f"room{number}")
-    os.makedirs(os.path.join(room, "target", "log"))
-    shutil.copy("crates.txt", room)
-    shutil.copytree("crates", os.path.join(room, "crates"))
-    for part in ("rlib", "stamp"):
-        shutil.copytree(os.path.join("target", part), os.path.join(room, "target", part), copy_function=os.link)
-    return room
+def linked(source, target):
+    """Copies a folder of what was proved: such files are replaced and never changed, so a link serves where one can be made."""
+
+    def copy(one, other):
+        try:
+            return os.link(one, other) if one.endswith(".oantt") else shutil.copy2(one, other)
+        except OSError:
+            return shutil.copy2(one, other)
+
+    shutil.copytree(source, target, copy_function=copy)
 
 
-def check(room, crate, log):
-    """Checks the crate of a room over its incremental folder; its exit status."""
-    with open(log, "w", encoding="utf-8") as out:
-        return subprocess.run(seen.PROVER + ["dev", crate], cwd=room, stdout=out, stderr=subprocess.STDOUT, check=False).returncode
+class Crate:
+    """A crate whose edits are tried: a folder for copies of it, the compiler's words, and how many edits are still to be tried."""
+
+    def __init__(self, name, work, home, due):
+        self.name, self.home, self.due = name, home, due
+        self.folder, self.seed = os.path.join(work, name), os.path.join(work, name, "proved")
+        self.words, self.lock = kit.words(name, home), threading.Lock()
+
+    def copied(self, label):
+        """A copy of the crate."""
+        room = os.path.join(self.folder, label)
+        for part in ("src", "specs", "proofs"):
+            if os.path.isdir(f"crates/{self.name}/{part}"):
+                shutil.copytree(f"crates/{self.name}/{part}", f"{room}/{part}")
+        return room
+
+    def check(self, room, kept, log):
+        """Checks a copy of the crate over what is proved in a folder, which then holds what this check proved; its exit status."""
+        words = [os.path.join(self.home, *kit.COMPILER), "check", *self.words, "--incremental", kept]
+        with open(log, "w", encoding="utf-8") as out:
+            return subprocess.run(words, cwd=room, stdout=out, stderr=subprocess.STDOUT, stdin=subprocess.DEVNULL, check=False).returncode
+
+    def prove(self):
+        """Checks the crate as it is, and keeps what is proved for its edits."""
+        log, begun = os.path.join(ROOT, "target", "edits", f"{self.name}.log"), f"crates/{self.name}/out/incremental"
+        linked(begun, self.seed) if os.path.isdir(begun) else os.makedirs(self.seed)
+        proved = self.check(self.copied("as-it-is"), self.seed, log) == 0
+        if not proved:
+            print(f"{self.name} is not proved without any edit: target/edits/{self.name}.log", flush=True)
+        return proved
+
+    def judged(self, edit, label, log):
+        """Tries an edit on a copy of the crate: whether the prover refuses it, and what to say."""
+        room = self.copied(label)
+        try:
+            apply_edit(edit, room)
+            linked(self.seed, f"{room}/proved")
+            status = self.check(room, f"{room}/proved", log)
+            refused = status == 1 and "\nlogic=not-proved" in listing.read(log)
+            return refused, "refused, as it must be" if refused else f"NOT REFUSED (exit {status})"
+        except (ValueError, OSError) as fault:
+            return False, f"BAD EDIT: {fault}"
+        finally:
+            shutil.rmtree(room)
+            self.done()
+
+    def done(self):
+        """Counts an edit as tried; after the last one nothing of the crate is kept."""
+        with self.lock:
+            self.due -= 1
+            if not self.due:
+                shutil.rmtree(self.folder, ignore_errors=True)
 
 
-def prove_once(rooms, crate):
-    """Checks the crate as it is, and keeps its incremental folder for the edits."""
-    room = rooms.get()
-    log = os.path.join(WORK, f"{crate}.log")
-    proved = check(room, crate, log) == 0
-    if proved:
-        shutil.move(os.path.join(room, "target", "inc", crate), os.path.join(WORK, "inc", crate))
-    else:
-        print(f"{crate} is not proved without any edit: target/edits/{crate}.log")
-    rooms.put(room)
-    return proved
-
-
-def judged(edit, crate, room, log):
-    """Applies an edit in a room and checks its crate there: whether the prover refuses it, and what to say."""
-    try:
-        apply_edit(edit, os.path.join(room, "crates", crate))
-        status = check(room, crate, log)
-        refused = status == 1 and "\nlogic=not-proved" in open(log, encoding="utf-8").read()
-        return refused, "refused, as it must be" if refused else f"NOT REFUSED (exit {status})"
-    except (ValueError, OSError) as fault:
-        return False, f"BAD EDIT: {fault}"
-
-
-def try_edit(rooms, key, edit, texts):
+def try_edit(crate, key, edit, texts):
     """Whether the prover refuses the edit. Its log gets the hashes of the text that it is of."""
-    crate, label = key
-    where = os.path.join(ROOT, "target", "must-fail", crate, label)
+    where = os.path.join(ROOT, "target", "must-fail", *key)
     shutil.rmtree(where, ignore_errors=True)
     os.makedirs(where)
-    room = rooms.get()
     began = time.monotonic()
-    crate_dir, inc = os.path.join(room, "crates", crate), os.path.join(room, "target", "inc", crate)
-    shutil.copytree(os.path.join(WORK, "inc", crate), inc)
-    refused, said = judged(edit, crate, room, os.path.join(where, ".log"))
-    shutil.rmtree(inc)
-    shutil.rmtree(crate_dir)
-    shutil.copytree(os.path.join("crates", crate), crate_dir)
-    rooms.put(room)
+    refused, said = crate.judged(edit, key[1], os.path.join(where, ".log"))
     if refused:
         with open(os.path.join(where, ".text"), "w", encoding="utf-8") as file:
-            file.write(f"{texts.rests(crate)} {seen.of_file(edit)}")
-    print(f"edit {crate}/{label}: {said} ({time.monotonic() - began:.0f} s)", flush=True)
+            file.write(f"{texts.rests(key[0])} {seen.of_file(edit)}")
+    print(f"edit {'/'.join(key)}: {said} ({time.monotonic() - began:.0f} s)", flush=True)
     return refused
 
 
 def try_all(edits, texts):
     """Tries these edits; those that are refused."""
-    shutil.rmtree(WORK, ignore_errors=True)
-    os.makedirs(os.path.join(WORK, "inc"))
-    crates = sorted({crate for crate, _ in edits})
-    for crate in crates:
-        texts.rests(crate)
-    rooms = queue.Queue()
-    for number in range(JOBS if edits else 0):
-        rooms.put(make_room(number))
-    with ThreadPoolExecutor(JOBS) as pool:
-        proved = dict(zip(crates, pool.map(lambda crate: prove_once(rooms, crate), crates)))
+    names = sorted({name for name, _ in edits})
+    for name in names:
+        texts.rests(name)
+        said = kit.prepare(name, texts)
+        if said:
+            sys.exit(said)
+    os.makedirs(os.path.join("target", "edits"), exist_ok=True)
+    home = kit.home() if names else ""
+    with tempfile.TemporaryDirectory(prefix="must-fail-") as work, ThreadPoolExecutor(JOBS) as pool:
+        crates = {name: Crate(name, work, home, sum(name == crate for crate, _ in edits)) for name in names}
+        proved = dict(zip(names, pool.map(lambda name: crates[name].prove(), names)))
         tried = [key for key in sorted(edits) if proved[key[0]]]
-        refused = pool.map(lambda key: try_edit(rooms, key, edits[key], texts), tried)
+        refused = pool.map(lambda key: try_edit(crates[key[0]], key, edits[key], texts), tried)
         return {key for key, good in zip(tried, refused) if good}
 
 
@@ -188,7 +213,7 @@ def write_seen(entries, held, edits, texts):
     for crate, label in edits:
         text = must_fail_logs.log_of(crate, label)
         faults += must_fail_logs.shows_nothing(f"{crate}/{label}", text)
-        broken = must_fail_logs.broken(crate, text) & must_fail_logs.public_functions(crate)
+        broken = must_fail_logs.broken(text) & must_fail_logs.public_functions(crate)
         kept[crate, label] = (texts.rests(crate), seen.of_file(edits[crate, label]), texts.toolchain, broken)
     if not faults:
         seen.write(kept)
@@ -202,8 +227,8 @@ def wrong_entries(entries, right, edits):
 
 
 def same_labels(edits):
-    """Edits whose logs would lie over those of rt's own."""
-    return [f"{edit}: rt's own edits of the crate have one of this label" for edit in edits.values() if os.path.exists(edit.replace("/edits/", "/must-fail/"))]
+    """Edits whose logs would lie over those of the folder must-fail."""
+    return [f"{edit}: rt's own edits of the crate have one of this label" for edit in edits if "/edits/" in edit and os.path.exists(edit.replace("/edits/", "/must-fail/"))]
 
 
 def main():
@@ -213,7 +238,7 @@ def main():
         print("".join(f"{fault}\n" for fault in wrong) + f"{len(wrong)} edits have lost their place")
         return 1 if wrong else 0
     began, texts = time.monotonic(), seen.Texts()
-    edits = {(path.split(os.sep)[1], os.path.splitext(os.path.basename(path))[0]): path for path in glob.glob("crates/*/edits/*.edit")}
+    edits = {must_fail_logs.key(path): path for path in every_edit()}
     entries, right = seen.read()
     faults = wrong_entries(entries, right, edits) if "--write" not in sys.argv else []
     held = seen.holding(entries, edits, texts)
@@ -221,7 +246,7 @@ def main():
     tried = {key: edits[key] for key in chosen(edits, held, others, sys.argv[1:])}
     refused = try_all(tried, texts)
     bad = len(tried) - len(refused)
-    faults += same_labels(edits)
+    faults += same_labels(every_edit())
     if "--write" in sys.argv and not bad:
         faults += write_seen(entries, held, tried, texts)
     print("".join(f"{fault}\n" for fault in faults), end="")

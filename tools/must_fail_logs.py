@@ -1,9 +1,9 @@
 """Holds every must-fail edit to a log whose first error is a fact that no longer holds, and every contract to two edits that break it.
 
-Usage: python3 tools/must_fail_logs.py [--print | --promises] [CRATE ..]   (after rt ci and tools/must_fail.py, which write the logs)
-An edit that only makes a proof file unfit for the code (a need of another name, another number of needs) proves nothing.
+Usage: python3 tools/must_fail_logs.py [--print | --promises] [CRATE ..]   (after tools/must_fail.py, which writes the logs)
+An edit that only makes a proof file unfit for the code (a goal of another name, another number of goals) proves nothing.
 An edit breaks the contract of a public function if the prover refuses the proof of that function after it, or of what that proof rests on.
-An edit of crates/NAME/edits that was not tried in this run stands by its entry in tools/seen-refused.txt, which says what it breaks. A log
+That a function calls another whose proof is refused breaks nothing of its own. An edit that was not tried in this run stands by its entry in tools/seen-refused.txt, which says what it breaks. A log
 is read only if it is of the text as it is. Laws are not counted here: they have refutations of wrong products instead of edits.
 --print shows the first error of each log, --promises how many edits break each contract.
 """
@@ -17,13 +17,13 @@ import listing
 import seen
 
 UNFIT = re.compile(
-    r"that can be named from here|expected type `tie\.|not a `×` type|is not a function|too many arguments|BAD EDIT"
-    r"|unexpected|parse error|not in scope|cannot be resolved|has no field|no occurrence of the path"
+    r"that can be named from here|not a `×` type|is not a function|too many arguments|BAD EDIT|error\[[\w-]+\]"
+    r"|unexpected|parse error|not in scope|cannot be resolved|has no field|has no `|is no name|no occurrence of the path"
+    r"|operand is missing|expected the end|cannot continue"
     r"|is a declared record, built with|a λ needs a type here|binders, but its type has room"
 )
-ERROR = re.compile(r"error:|it is not proved that")
-IN_FUNCTION = re.compile(r"/proofs/(?:\w+/)?(\w+)/\w+\.antt:\d+:\d+: error:")
-IN_CODE = re.compile(r"/src/([\w/]+\.rt):(\d+):(\d+): it is not proved that")
+ERROR = re.compile(r"error(?:\[[\w-]+\])?:|it is not proved that")
+REFUSED = re.compile(r"^fn (\S+): (?:not proved|no proof)(?!: it calls )", re.M)
 
 
 def log_path(crate, label, part=".log"):
@@ -60,14 +60,6 @@ def shows_nothing(edit, text):
     return [f"{edit}: the edit only made the proof unfit for the code: {found[:200]}"] if UNFIT.search(found) else []
 
 
-def function_at(path, line, column):
-    """The function of a source file that this place belongs to, or that begins there with its attributes."""
-    lines = listing.read(path).split("\n")
-    if column == 1:
-        return re.search(r"\bfn (\w+)", "\n".join(lines[line - 1 :])).group(1)
-    return re.findall(r"\bfn (\w+)", "\n".join(lines[:line]))[-1]
-
-
 def public_functions(crate):
     """The functions of a library that other crates can name: those of its root and of the modules that the root makes public."""
     root = f"crates/{crate}/src/lib.rt"
@@ -78,10 +70,9 @@ def public_functions(crate):
     return {function.name for path in paths for function in listing.functions(path) if function.public}
 
 
-def broken(crate, text):
-    """The functions of a crate whose proofs a log refuses."""
-    names = {name for line in text.split("\n") for name in IN_FUNCTION.findall(line)}
-    return names | {function_at(f"crates/{crate}/src/{file}", int(line), int(column)) for file, line, column in IN_CODE.findall(text)}
+def broken(text):
+    """The functions whose proofs a log refuses, those of closures for the function that they stand in."""
+    return {[part for part in path.split("::") if re.fullmatch(r"\w+", part)][-1] for path in REFUSED.findall(text)}
 
 
 def asked():
@@ -89,11 +80,16 @@ def asked():
     return [word for word in sys.argv[1:] if not word.startswith("--")] or list(listing.crates())
 
 
+def key(path):
+    """The crate and the label of an edit, by its path."""
+    return path.split(os.sep)[1], os.path.splitext(os.path.basename(path))[0]
+
+
 def edits():
     """Each edit's crate, label and path."""
     for edit in sorted(glob.glob("crates/*/must-fail/*.edit") + glob.glob("crates/*/edits/*.edit")):
-        if edit.split(os.sep)[1] in asked():
-            yield edit.split(os.sep)[1], os.path.splitext(os.path.basename(edit))[0], edit
+        if key(edit)[0] in asked():
+            yield *key(edit), edit
 
 
 def judged():
@@ -102,10 +98,10 @@ def judged():
     breaks, bad, stand = {}, [], 0
     for crate, label, edit in edits():
         entry = entries.get((crate, label), ())
-        if os.path.basename(os.path.dirname(edit)) == "must-fail" or is_fresh(crate, label, edit, texts):
+        if is_fresh(crate, label, edit, texts):
             text = log_of(crate, label)
             bad += shows_nothing(edit, text)
-            breaks[edit] = broken(crate, text)
+            breaks[edit] = broken(text)
             if "--print" in sys.argv:
                 print(f"{edit}: {first_error(text)[:300]}")
         elif entry[:2] == (texts.rests(crate), seen.of_file(edit)):

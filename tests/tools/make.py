@@ -1,16 +1,15 @@
 """Faults that archives/make.sh and the crate's build script must find, with a kit that only writes down what its clang was told."""
 import os
-import platform
 
 from planting import Missed, Room
 
-BIN = f"kit/on/{platform.machine()}/toolchain/bin"
+BIN = "kit/toolchain/bin"
 M0 = "thumbv6m-none-eabi"
 MAKE = ["sh", "archives/make.sh", M0]
 SOURCE = "crates/one/src/lib.rt"
 OTHER = "crates/two/src/lib.rt"
 BELOW = "crates/below/specs/Lib.antt"
-IGNORED = "'x86-64' is not a recognized processor for this target (ignoring processor)"
+IGNORED = "'x86-64-v2' is not a recognized processor for this target (ignoring processor)"
 
 CLANG = """#!/bin/sh
 words=$*
@@ -20,17 +19,27 @@ echo "$words" > "$2"
 """
 RT = """#!/bin/sh
 case $1 in
-    doc) echo "$PWD/kit/docs/START-HERE.md" ;;
+    doc) echo "${0%/bin/rt}/kit/START-HERE.md" ;;
     version) echo kit ;;
-    staticlib)
-        [ -z "${UNPROVED-}" ] || { echo 'a crate is not proved'; exit 1; }
-        echo "$2" >> proofs
-        rm -rf lowered
-        mkdir -p target/staticlib lowered
-        cd lowered
-        [ "$2" = "${WITHOUT-}" ] || echo module > module.bc
-        "$RATTLE_HOME/on/$(uname -m)/toolchain/bin/clang" -c -x ir module.bc -o module.o ;;
+    lib) ;;
 esac
+"""
+RATTLE = """#!/bin/sh
+[ -z "${UNPROVED-}" ] || { echo 'a crate is not proved'; exit 1; }
+room=${0%/kit/bin/rattle}
+while [ $# -gt 0 ]; do
+    case $1 in
+        --toolchain) toolchain=$2 ;;
+        --crate-name) crate=$2 ;;
+    esac
+    shift
+done
+echo "$crate" >> "$room/proofs"
+rm -rf "$room/lowered"
+mkdir "$room/lowered"
+cd "$room/lowered"
+[ "$crate" = "${WITHOUT-}" ] || echo module > module.bc
+"$toolchain/bin/clang" --target=x86 --sysroot="$toolchain" -march=x86-64 -mllvm -careful -Werror -c -x ir module.bc -o module.o -fPIC -O3
 """
 
 
@@ -44,10 +53,12 @@ def furnished(room):
     """Puts the kit, its command and three crates into the room, of which two make the archive; the paths with and without the command."""
     program(room, f"{BIN}/clang", CLANG)
     os.symlink("/usr/bin/llvm-ar", room.at(f"{BIN}/llvm-ar"))
+    room.write("kit/toolchain/lib/libc.a", "")
+    program(room, "kit/bin/rattle", RATTLE)
     program(room, "bin/rt", RT)
     for path in (SOURCE, OTHER, BELOW):
         room.write(path, "one")
-    room.write("crates.txt", "below:\none: below\ntwo:\n")
+    room.write("crates.txt", "below:\none staticlib: below\ntwo staticlib:\n")
     room.write("archives/crates", "# crates\none include/one.h\ntwo include/two.h\n")
     return f"{room.at('bin')}:/usr/bin:/bin", "/usr/bin:/bin"
 
@@ -56,7 +67,7 @@ def making(room, path):
     """The script: one proof of a crate serves every target, until a source of it or below it changes; what clang says is an error."""
     room.passes(MAKE, f"target/staticlib/{M0}/libraftershim.a", PATH=path)
     for crate in ("one", "two"):
-        told = f"llvm-ar p target/staticlib/{M0}/libraftershim.a {crate}.o | grep -e '--target={M0} .* -O3 .* -c -x ir .*/{crate}.bc'"
+        told = f"llvm-ar p target/staticlib/{M0}/libraftershim.a {crate}.o | grep -e '^--target={M0} .* -O3 -mllvm -careful -Werror .* -c -x ir .*/{crate}.bc'"
         room.passes(["sh", "-c", told])
     counted = ["sh", "-c", "sh archives/make.sh all > said && echo $(wc -l < said) archives, proofs of $(paste -sd ' ' proofs)"]
     room.passes(counted, "7 archives, proofs of one two\n", PATH=path)
@@ -87,7 +98,7 @@ def building(room, path, without):
 
 def run():
     """Plants every fault; how many."""
-    with Room("archives", "rust/raftershim/build.rs") as room:
+    with Room("archives", "tools", "rust/raftershim/build.rs") as room:
         path, without = furnished(room)
         making(room, path)
         building(room, path, without)

@@ -1,18 +1,19 @@
 """Faults of must-fail edits, their logs and the file of what was seen refused that tools/must_fail.py and must_fail_logs.py must find."""
-import os
 import shutil
 
-from planting import ROOT, Missed, Room
+import prover
+from planting import Missed, Room
 
 TRY = ["python3", "tools/must_fail.py"]
 LOGS = ["python3", "tools/must_fail_logs.py"]
-STUB = {"MUST_FAIL_PROVER": f"python3 -I -S {os.path.join(ROOT, 'tests/tools/prover.py')}"}
+KIT = ["python3", "tools/kit.py"]
+STUB = {}
 SEEN = "tools/seen-refused.txt"
 LOW = "crates/low/src/lib.rt"
 HIGH = "crates/high/src/lib.rt"
 CODE = "pub mod deep;\npub fn one() -> u8 {\n    7\n}\npub fn two() -> u8 {\n    8\n}\n"
 DEEP = "pub fn three() -> u8 {\n    9\n}\n"
-SHOWN = "/crates/{0}/proofs/{1}/Proof.antt:1:1: error: the two sides differ\nlogic=not-proved\n"
+SHOWN = "./proofs/{1}/Answers.antt:1:1: error: the two sides differ\nfn {0}::{1}: not proved\nlogic=not-proved\n"
 
 
 def edit(new, old="    7"):
@@ -21,24 +22,22 @@ def edit(new, old="    7"):
 
 
 def build(room):
-    """Two crates with two functions in the root and one in a public module, three edits each, and rt's own edits of `two` with their logs."""
-    room.write("crates.txt", "low:\nhigh: low\n")
-    for part in ("rlib", "stamp"):
-        room.write(f"target/{part}/x", "")
+    """A kit, and two crates with two functions in the root and one in a public module, three edits each, and two of `two` in must-fail."""
+    STUB.update(prover.furnish(room))
+    room.write("crates.txt", "low:\nhigh staticlib: low\n")
     for crate in ("low", "high"):
         room.write(f"crates/{crate}/src/lib.rt", CODE)
         room.write(f"crates/{crate}/src/deep.rt", DEEP)
         for number in range(3):
             room.write(f"crates/{crate}/edits/e{number}.edit", edit(f"wrong {number}"))
         for number in range(2):
-            room.write(f"crates/{crate}/must-fail/m{number}.edit", edit("0", "    8"))
-            room.write(f"target/must-fail/{crate}/m{number}/.log", SHOWN.format(crate, "two"))
+            room.write(f"crates/{crate}/must-fail/m{number}.edit", edit("second", "    8"))
 
 
 def trying(room):
     """Edits that are not refused, or cannot be tried."""
     first = "crates/low/edits/e0.edit"
-    room.passes(TRY + ["--all"], "6 edits tried, 6 refused, 0 not", **STUB)
+    room.passes(TRY + ["--all"], "10 edits tried, 10 refused, 0 not", **STUB)
     all_of = TRY + ["low/e0"]
     room.finds(all_of, "edit low/e0: NOT REFUSED (exit 0)", (first, edit("right")), **STUB)
     room.finds(all_of, "edit low/e0: NOT REFUSED (exit 2)", (first, edit("crash")), **STUB)
@@ -55,6 +54,7 @@ def trying(room):
     room.finds(TRY + ["lower"], "no crate with edits and no edit: lower", **STUB)
     room.finds(all_of + ["--write"], "unfit for the code", (first, edit("unfit")), **STUB)
     room.finds(all_of + ["--write"], "no error in its log", (first, edit("silent")), **STUB)
+    room.finds(TRY + ["high/e0"], "low, which high needs, is not proved", STUB_UNPROVED="1", **STUB)
     changes = {**STUB, "STUB_CHANGES": room.at(LOW)}
     room.finds(all_of + ["--write"], "low was changed while its edits were tried", (LOW, CODE), **changes)
     if room.text(SEEN) is not None:
@@ -63,15 +63,15 @@ def trying(room):
 
 def standing(room):
     """Entries that hold, and what makes them hold no longer."""
-    room.passes(TRY + ["--all", "--write"], "6 edits tried", **STUB)
-    room.passes(TRY, "1 edits tried, 1 refused, 0 not; 5 stand by", **STUB)
+    room.passes(TRY + ["--all", "--write"], "10 edits tried", **STUB)
+    room.passes(TRY, "1 edits tried, 1 refused, 0 not; 9 stand by", **STUB)
     room.write("docs/note.md", "A document changes nothing.\n")
     room.passes(TRY, "1 edits tried", **STUB)
     for change, said in (
-        ((HIGH, CODE + "// more\n"), ("3 edits tried", "4 edits tried")),
-        (("crates/high/proofs/New.antt", "-- more\n"), ("3 edits tried", "4 edits tried")),
-        ((LOW, CODE + "// more\n"), ("6 edits tried",)),
-        (("crates.txt", "low: std\nhigh: low\n"), ("6 edits tried",)),
+        ((HIGH, CODE + "// more\n"), ("6 edits tried",)),
+        (("crates/high/proofs/New.antt", "-- more\n"), ("6 edits tried",)),
+        ((LOW, CODE + "// more\n"), ("10 edits tried",)),
+        (("crates.txt", "low: std\nhigh: low\n"), ("10 edits tried",)),
         (("crates/low/edits/e2.edit", edit("wrong again")), ("1 edits tried", "2 edits tried")),
     ):
         kept = room.text(change[0])
@@ -87,11 +87,11 @@ def standing(room):
 def toolchains(room):
     """Entries of another toolchain: they hold of the text, a larger share of them is tried, and one that is tried is of the toolchain that did."""
     kept, other = room.text(SEEN), {**STUB, "STUB_VERSION": "of another toolchain"}
-    room.passes(TRY, "5 stand by tools/seen-refused.txt, 0 of them by another toolchain", **STUB)
-    room.passes(TRY, "1 edits tried, 1 refused, 0 not; 5 stand by tools/seen-refused.txt, 5 of them by another toolchain", **other)
-    room.passes(TRY + ["high", "--write"], "3 stand by tools/seen-refused.txt, 3 of them by another toolchain", **other)
-    room.passes(TRY + ["high"], "3 stand by tools/seen-refused.txt, 0 of them by another toolchain", **STUB)
-    room.passes(TRY + ["low"], "3 stand by tools/seen-refused.txt, 3 of them by another toolchain", **STUB)
+    room.passes(TRY, "9 stand by tools/seen-refused.txt, 0 of them by another toolchain", **STUB)
+    room.passes(TRY, "1 edits tried, 1 refused, 0 not; 9 stand by tools/seen-refused.txt, 9 of them by another toolchain", **other)
+    room.passes(TRY + ["high", "--write"], "5 stand by tools/seen-refused.txt, 5 of them by another toolchain", **other)
+    room.passes(TRY + ["high"], "5 stand by tools/seen-refused.txt, 0 of them by another toolchain", **STUB)
+    room.passes(TRY + ["low"], "5 stand by tools/seen-refused.txt, 5 of them by another toolchain", **STUB)
     room.write(SEEN, kept)
     edits = "import sys; sys.path.insert(0, 'tools'); import must_fail; e = {('c', str(n)): '' for n in range(48)}"
     for tests in (
@@ -109,28 +109,55 @@ def entries(room):
         room.finds(TRY, "its sum is not that of its entries", (SEEN, changed), **STUB)
     room.finds(TRY, "no edit low/e2", ("crates/low/edits/e2.edit", None), **STUB)
     room.finds(TRY, "edit low/e6: NOT REFUSED", ("crates/low/edits/e6.edit", edit("right")), **STUB)
-    for crate, number in ((crate, number) for crate in ("low", "high") for number in range(3)):
-        shutil.rmtree(room.at(f"target/must-fail/{crate}/e{number}"))
+    shutil.rmtree(room.at("target/must-fail"))
     room.finds(LOGS, "e0.edit: neither a log of this text nor an entry", (SEEN, text.replace(line, line + " two", 1)), **STUB)
 
 
 def logs(room):
     """Logs that show nothing, that are of another text or missing, and contracts that too few edits break."""
-    room.passes(LOGS, "10 must-fail edits, 6 by tools/seen-refused.txt, 0 that show nothing", **STUB)
-    room.finds(LOGS, "m0.edit: no error in its log", ("target/must-fail/low/m0/.log", None), **STUB)
-    room.finds(LOGS, "m0.edit: no error in its log", ("target/must-fail/low/m0/.log", "logic=proved\n"), **STUB)
-    only = "x: error: `f` was not admitted (it was rejected), so this cannot be checked\n"
-    room.finds(LOGS, "m0.edit: no error in its log", ("target/must-fail/low/m0/.log", only), **STUB)
-    unfit = "error: `returns` has no `Need-x` that can be named from here\n" + SHOWN.format("low", "two")
-    room.finds(LOGS, "m0.edit: the edit only made the proof unfit", ("target/must-fail/low/m0/.log", unfit), **STUB)
-    room.finds(LOGS, "low: two is broken by 1 edits", ("target/must-fail/low/m0/.log", SHOWN.format("low", "one")), **STUB)
+    log = "target/must-fail/low/m0/.log"
+    room.passes(LOGS, "10 must-fail edits, 10 by tools/seen-refused.txt, 0 that show nothing", **STUB)
     room.finds(LOGS, "high: four is broken by 0 edits", ("crates/high/src/deep.rt", DEEP + "pub fn four() {}\n"), **STUB)
     room.finds(LOGS, "low/edits/e6.edit: neither a log of this text nor an entry", ("crates/low/edits/e6.edit", edit("wrong")), **STUB)
+    room.finds(LOGS, "low/must-fail/m6.edit: neither a log of this text nor an entry", ("crates/low/must-fail/m6.edit", edit("wrong")), **STUB)
     room.finds(LOGS, "high/edits/e0.edit: neither a log of this text nor an entry", (LOW, CODE + "// more\n"), **STUB)
     room.passes(TRY + ["low"], **STUB)
-    room.passes(LOGS, "10 must-fail edits, 3 by tools/seen-refused.txt, 0 that show nothing", **STUB)
-    room.finds(LOGS, "low/edits/e0.edit: the edit only", ("target/must-fail/low/e0/.log", unfit), **STUB)
+    room.passes(LOGS, "10 must-fail edits, 5 by tools/seen-refused.txt, 0 that show nothing", **STUB)
+    room.finds(LOGS, "m0.edit: no error in its log", (log, None), **STUB)
+    room.finds(LOGS, "m0.edit: no error in its log", (log, "logic=proved\n"), **STUB)
+    only = "x: error: `f` was not admitted (it was rejected), so this cannot be checked\n"
+    room.finds(LOGS, "m0.edit: no error in its log", (log, only), **STUB)
+    for said in ("error: `returns` has no `Need-x` that can be named from here\n", "./proofs/two/Answers.antt:1:1: error: `goal` has no `left`\n"):
+        room.finds(LOGS, "m0.edit: the edit only made the proof unfit", (log, said + SHOWN.format("low", "two")), **STUB)
+        room.finds(LOGS, "low/edits/e0.edit: the edit only", ("target/must-fail/low/e0/.log", said), **STUB)
+    room.finds(LOGS, "low: two is broken by 1 edits", (log, SHOWN.format("low", "one")), **STUB)
+    caller = SHOWN.format("low", "one") + "fn low::two: no proof: it calls `low::one`, which is not proved\n"
+    room.finds(LOGS, "low: two is broken by 1 edits", (log, caller), **STUB)
     room.finds(LOGS, "low/edits/e0.edit: neither a log of this text nor an entry", (LOW, CODE + "// more\n"), **STUB)
+
+
+def libraries(room):
+    """Libraries that rt ci built, which serve as long as they and their text are as they were; else rt lib builds them anew."""
+    format_of = "crates/low/out/rlib/low.rlib/format"
+    count = ["sh", "-c", "python3 tools/kit.py high > words && echo built: $(cat kit/built)"]
+    shutil.rmtree(room.at("crates/low/out"))
+    room.passes(KIT + ["--before"], **STUB)
+    room.write(format_of, "by rt ci")
+    room.passes(KIT + ["--proved"], **STUB)
+    room.write("kit/built", "")
+    room.passes(count, "built:\n", **STUB)
+    for change in ((LOW, CODE + "// more\n"), (format_of, "by another")):
+        kept = room.text(change[0])
+        room.write(*change)
+        room.passes(count, "built: low\n", **STUB)
+        room.write(change[0], kept)
+        room.write(format_of, "by rt ci")
+        room.write("kit/built", "")
+    room.passes(count, "built:\n", **STUB)
+    room.passes(KIT + ["--before"], **STUB)
+    room.passes(KIT + ["--proved"], **STUB)
+    room.passes(count, "built: low\n", **STUB)
+    room.passes(["grep", "-qx", "staticlib", "words"])
 
 
 def run():
@@ -139,6 +166,6 @@ def run():
         if room.text(SEEN) is not None:
             room.write(SEEN, None)
         build(room)
-        for part in (trying, standing, entries, logs):
+        for part in (trying, standing, entries, logs, libraries):
             part(room)
         return room.count
