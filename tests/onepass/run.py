@@ -1,26 +1,16 @@
 """Runs the program onepass on stored inputs and holds what it prints to the stored outputs.
 
-Usage: python3 tests/onepass/run.py [PROGRAM]    (after rt check onepass or rt ci, which build it; PROGRAM stands in for it)
+Usage: python3 tests/onepass/run.py [PROGRAM]    (after rt ci, or rt run in its folder, which build it; PROGRAM stands in for it)
 An input is a file of hexadecimal digits, where # starts a comment; its output stands beside it. Every shortened copy of the paper's
 input is tried too, and must print refused 9 alone.
 """
 import glob
 import os
-import platform
 import subprocess
 import sys
 
 HERE = os.path.dirname(os.path.abspath(__file__))
-PROGRAM = os.path.join(HERE, "..", "..", "target", "bin", "onepass")
-
-
-def runner():
-    """The program is for x86-64: the kit's loader runs it over the kit's C library, on another processor under the kit's emulator."""
-    guide = subprocess.run(["rt", "doc"], check=True, stdout=subprocess.PIPE, encoding="utf-8").stdout
-    tools = os.path.join(guide.split("/docs/")[0], "on", platform.machine(), "toolchain")
-    emulator = os.path.join(tools, "bin", "qemu-x86_64")
-    loader = [os.path.join(tools, "lib", "ld-linux-x86-64.so.2"), "--library-path", os.path.join(tools, "lib")]
-    return [emulator, *loader] if os.path.exists(emulator) else loader
+PROGRAM = os.path.join(HERE, "..", "..", "crates", "onepass", "out", "onepass")
 
 
 def read_hex(path):
@@ -28,7 +18,7 @@ def read_hex(path):
 
 
 def main():
-    command = sys.argv[1:] or runner() + [PROGRAM]
+    command = sys.argv[1:] or [PROGRAM]
     cases = []
     for path in sorted(glob.glob(os.path.join(HERE, "*.hex"))):
         wanted = open(path[:-4] + ".out", "rb").read() if os.path.exists(path[:-4] + ".out") else b"no output is stored"
