@@ -66,8 +66,6 @@ def note_before():
     os.makedirs("target", exist_ok=True)
     with open(BEFORE, "w", encoding="utf-8") as file:
         file.write("".join(f"{crate}\n" for crate in listing.crates() if os.path.exists(library(crate))))
-    if os.path.exists(PROVED):
-        os.remove(PROVED)
 
 
 def note_proved():
