@@ -10,7 +10,8 @@ Usage: python3 tools/contracts.py [LOG]
 - The layer that carries frames opens no definition of a store, and brings in of it only its declared types, its promises, the definitions
   that its contracts and promises name, and the module that passes the promises' proofs on. No crate below it passes on anything of a store.
   A store with specs has its promises in specs/Promises.antt; one without specs defines nothing, so there is nothing of it to bring in.
-LOG is what `rt ci` printed. With it, only the crates of `ASSUMED` may rest on axioms, and only on those named there.
+LOG is what `rt ci` printed. With it, only the crates of `ASSUMED` may rest on axioms, which are C functions of the kit's libraries named
+there. Of a crate that rt ci took from an earlier run on the same machine it says nothing more.
 """
 import glob
 import os
@@ -22,29 +23,34 @@ import listing
 
 LAYERS = ("base", "store", "state", "frames", "laws", "uses", "program")
 
-# the library's names that contracts and definitions are written in, and the module that gives each
+# the library's names that contracts and definitions are written in, and the module that declares each
 HOME = {
-    "Prim.Native.Nat": "ℕ zero suc _+_ _-_ _*_ _/_ _%_ _^_ _<_ _≤_ min",
-    "mathlib.Core.Path": "_≡_",
-    "mathlib.Core.Bool": "Bool true false cond not _&&_ _||_",
-    "mathlib.Core.List": "List [] _∷_ _++_ map",
-    "mathlib.Core.Logic": "_⊎_",
-    "lib.ListN": "length take drop getD set replicate",
+    "Prim.Native.Nat": "ℕ zero suc ◌+◌ ◌-◌ ◌*◌ ◌/◌ ◌%◌ ◌^◌ ◌<◌ ◌≤◌ min",
+    "mathlib.Core.Path": "◌≡◌",
+    "mathlib.Core.Bool": "Bool true false cond not ◌&&◌ ◌||◌",
+    "mathlib.Core.List": "List [] ◌∷◌ ◌++◌ map",
+    "mathlib.Core.Logic": "◌⊎◌",
+    "lib.ListN": "length take drop get_or set replicate",
     "lib.Dec": "eqb leb ltb",
+    "Rattle.core.specs.Bool": "◌==◌ nat_eq nat_le nat_lt",
+    "Rattle.core.specs.List": "slice_index slice_index_or slice_set",
 }
+# the modules that pass them all on
+PASSING = {"Rattle.core.specs.Prelude", "Rattle.std.specs.Prelude", "Rattle.std.proofs.Common"}
 NAMES = {name: module for module, names in HOME.items() for name in names.split()}
-WORDS = {name.strip("_") for name in NAMES} | {"×", "Unit", "⊥", "now"}
+WORDS = {name.strip("◌") for name in NAMES} | {"×", "Unit", "⊥", "result"}
 
-# the functions of libc that the programs assume
-ASSUMED = {"examples": {"libc::read", "libc::write"}, "onepass": {"libc::read", "libc::write"}}
+# the kit's libraries whose C functions the programs assume
+ASSUMED = {"examples": {"libc", "os", "std"}, "onepass": {"libc", "os", "std"}}
 
 USE = re.compile(r"^\s*(?:pub )?(?:ghost )?use ([^\s{;]+)\.\{([^}]*)\}", re.M)
 ALIAS = re.compile(r"^\s*(?:pub )?(?:ghost )?use \S+ as ([^\s;]+)", re.M)
 DECLARED = re.compile(r"^ *(?:abbrev |unfoldable |pub |record |data |infix\S* \d+ )+([^\s:(){}]+)(?= |:)|^([^\s:(){}]+)(?= :)", re.M)
 AXIOM = re.compile(r"^\s*(?:(?:pub|abbrev|unfoldable|ghost) )*(?:axiom|postulate)\b", re.M)
 UNFOLDING = re.compile(r"^( *).*\bunfolding\b(.*(?:\s*\n\1 +\S.*)*)", re.M)
-PROVED = re.compile(r"^rt: (\w+) proved", re.M)
-AXIOMS = re.compile(r"^axioms \w+: (.*?) \(\d+ of the", re.M)
+PROVED = re.compile(r"^== (\w+)\n(.*?)^rt: \1 proved$", re.M | re.S)
+KEPT = re.compile(r"^rt: (\w+) is kept: an earlier run on this machine proved the same files", re.M)
+AXIOMS = re.compile(r"^axioms (\w+): (?!none reached)(.*?) \(\d+ of the", re.M)
 
 
 def misplaced():
@@ -76,11 +82,10 @@ def unpromised(path, product):
         at = f"{path}: {function.name}"
         wrong += [f"{at} has a requires"] if product and function.clauses["requires"] else []
         wrong += [] if said else [f"{at} has no ensures"]
-        result = re.match(r"\{ λ (\S+?)\. ", said)
-        if said and function.returns and not (result and re.search(rf"(?<![\w.′'-]){re.escape(result.group(1))}(?![\w′'-])", said[result.end() :])):
+        if said and function.returns and not re.search(r"(?<![\w.'])result(?![\w'])", said):
             wrong.append(f"{at} promises nothing of its result")
         for name in function.lent() if said else []:
-            if not re.search(rf"(?<!length \()now \({re.escape(name)} \.exit\)", said):
+            if not re.search(rf"(?<!length )(?<!length \()(?<![\w.']){re.escape(name)}\.new\b", said):
                 wrong.append(f"{at} does not say what the bytes of {name} are after it")
     return wrong
 
@@ -91,9 +96,9 @@ def own_meaning(path):
     for module, names in USE.findall(text):
         for name in (n.strip() for n in names.split(",")):
             old, _, new = name.partition(" as ")
-            if new and (old in NAMES or new.strip("_ ") in WORDS) or NAMES.get(old, module) != module:
+            if new and (old in NAMES or new.strip("◌ ") in WORDS) or old in NAMES and module not in PASSING | {NAMES[old]}:
                 wrong.append(f"{path}: {name} is taken from {module}")
-    taken = set(ALIAS.findall(text)) | {(one or other).strip("_") for one, other in DECLARED.findall(text)}
+    taken = set(ALIAS.findall(text)) | {(one or other).strip("◌") for one, other in DECLARED.findall(text)}
     wrong += [f"{path}: {name} is a name of the library" for name in sorted(taken & WORDS)]
     wrong += [f"{path}: an axiom" for _ in AXIOM.finditer(text)]
     return wrong
@@ -117,8 +122,8 @@ def promised(store):
 
 def beyond(path, store, allowed):
     """What a file of the layer that carries frames opens of a store, or brings in of it beyond what the store promises."""
-    text, own = listing.read(path), f"Rattle·{store}"
-    opened = {word.split(".")[-1] for _, names in UNFOLDING.findall(text) for word in names.split()}
+    text, own = listing.read(path), f"Rattle.{store}"
+    opened = {word for _, names in UNFOLDING.findall(text) for word in re.split(r"[\s.,:()\[\]{}]+", names)}
     wrong = [f"{path}: {name} of {store} is opened" for name in sorted(opened & declared(listing.texts(store, ("specs",))))]
     for module, names in USE.findall(text):
         if module.startswith(f"{own}.specs.declared.") or module in (f"{own}.specs.Promises", f"{own}.proofs.Promises"):
@@ -127,13 +132,14 @@ def beyond(path, store, allowed):
             wrong += [f"{path}: no contract of {store} names {name.strip()}" for name in names.split(",") if name.strip() not in allowed]
         elif module.startswith(f"{own}."):
             wrong.append(f"{path}: {module} is no promise of {store}")
-    wrong += [f"{path}: {own} is named outside a list of names" for _ in re.finditer(re.escape(own) + r"\.", USE.sub("", text))]
+    outside = re.escape(own) + rf"\.|\b{store}::(?:specs|proofs)::(?!Promises::|declared::)"
+    wrong += [f"{path}: {own} is named outside a list of names" for _ in re.finditer(outside, USE.sub("", text))]
     return wrong
 
 
 def passed_on(path, store):
     """What a file passes on of a store."""
-    return [f"{path}: {found} is passed on" for found in re.findall(rf"^\s*pub (?:ghost )?use (Rattle·{store}\.\S*)", listing.read(path), re.M)]
+    return [f"{path}: {found} is passed on" for found in re.findall(rf"^\s*pub (?:ghost )?use (Rattle\.{store}\.\S*)", listing.read(path), re.M)]
 
 
 def frames_apart():
@@ -153,13 +159,12 @@ def frames_apart():
 
 def assumed(path):
     """Crates that the log shows to rest on axioms that are not theirs to assume, and crates that it does not show."""
-    wrong, start, seen, text = [], 0, set(), listing.read(path)
-    for proved in PROVED.finditer(text):
-        part, start = text[start : proved.start()], proved.end()
-        seen.add(proved.group(1))
-        names = {n.strip() for found in AXIOMS.findall(part) for n in found.split(",")}
-        if names != ASSUMED.get(proved.group(1), set()) or ("axioms=" in part) != bool(names):
-            wrong.append(f"{path}: {proved.group(1)} rests on {', '.join(sorted(names)) or 'axioms that have no names'}")
+    text, wrong = listing.read(path), []
+    for crate, said in PROVED.findall(text):
+        names = {library: found for library, found in AXIOMS.findall(said)}
+        if not names.keys() <= ASSUMED.get(crate, set()) or ("axioms=" in said) != bool(names):
+            wrong.append(f"{path}: {crate} rests on {', '.join(sorted(names.values())) or 'axioms that have no names'}")
+    seen = {crate for crate, _ in PROVED.findall(text)} | set(KEPT.findall(text))
     return wrong + [f"{path}: {crate} is not proved in it" for crate in listing.crates() if crate not in seen]
 
 

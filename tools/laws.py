@@ -114,8 +114,8 @@ class Laws:
     def own_meaning(self):
         """Files of the crate in which Breaks or a law's name means something of their own."""
         product, faults = self.product, []
-        home = {law: f"Rattle·{product.laws}.specs." for law in self.families}
-        home |= {name: f"Rattle·{product.wrong}·specs.specs.{product.broken}" for name in ("Breaks", "BreaksAs", "BreaksTelling")}
+        home = {law: f"Rattle.{product.laws}.specs." for law in self.families}
+        home |= {name: f"Rattle.{product.wrong}.specs.{product.broken}" for name in ("Breaks", "BreaksAs", "BreaksTelling")}
         for path in sorted(glob.glob(f"{product.proofs()}/*.antt") + glob.glob(f"{product.specs()}/*.antt")):
             text = REMARK.sub("", listing.read(path))
             for module, names in USE.findall(text):

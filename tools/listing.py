@@ -86,8 +86,8 @@ class Function:
 
     def rest(self, text, at):
         """Reads the return type and the clauses from this place on; the type, and the place of the body or of what stands in its place."""
-        clause = re.compile(r"\s*\b(" + "|".join(CLAUSES) + r")\s*(?=\{)")
-        returns = re.compile(r"(?:(?!\b(?:" + "|".join(CLAUSES) + r")\s*\{)(?:\[[^\]]*\]|[^{;\[]))*").match(text, at)
+        clause = re.compile(r"\s*\b(" + "|".join(CLAUSES) + r")\b\*?\s*(?:\w+\s*)?(?=\{)")
+        returns = re.compile(r"(?:(?!\b(?:" + "|".join(CLAUSES) + r")\b\*?\s*(?:\w+\s*)?\{)(?:\[[^\]]*\]|[^{;\[]))*").match(text, at)
         said, at = returns.group(0).strip(), returns.end()
         while found := clause.match(text, at):
             at = closing(text, found.end())

@@ -32,7 +32,7 @@ class Product(NamedTuple):
         return f"crates/{self.wrong}/proofs"
 
 
-WAYS = {"toBus": "to the bus", "toLoop": "to the loop"}
+WAYS = {"to_bus": "to the bus", "to_loop": "to the loop"}
 PRODUCTS = (
     Product("bridge", "bridges", "laws", "wrong", "Broken", "Event", {}, "docs/promises/laws"),
     Product("mailbox", "mailboxes", "maillaws", "mailwrong", "BrokenMail", "Direction", WAYS, "docs/promises/mailbox-laws"),

@@ -9,7 +9,7 @@ TOOL = ["python3", "tools/contracts.py"]
 SHIM = "crates/raftershim/src/lib.rt"
 BRIDGE = "crates/bridge/src/lib.rt"
 CHAIN = "crates/sending/proofs/Chain.antt"
-PROMISE = r"    ensures \{.*?⌝ \}\n"
+PROMISE = r"    ensures \w* ?\{.*? \}\n(?=\{\n|    (?:ensures|requires)\b)"
 
 
 def contracts(room):
@@ -18,15 +18,21 @@ def contracts(room):
     reset = re.search(rf"raftershim_reset\([^\n]*\n({PROMISE})", text, re.S).group(1)
     room.finds(TOOL, "raftershim_reset has no ensures", (SHIM, reset, ""))
     room.finds(TOOL, "raftershim_reset has no ensures", (SHIM, reset, re.sub(r"^ *", "    // ", reset.rstrip(), flags=re.M) + "\n"))
-    asks = "    requires { ⌜ length (now rx) ≡ 8 ⌝ }\n"
-    room.finds(TOOL, "raftershim_reset has a requires", (SHIM, reset, asks + reset))
-    room.finds(TOOL, "raftershim_reset promises nothing of its result", (SHIM, reset, reset.replace(" r ", " 0 ")))
+    for asks in ("    requires { length rx.now ≡ 8 }\n", "    requires eight { length rx.now ≡ 8 }\n"):
+        room.finds(TOOL, "raftershim_reset has a requires", (SHIM, reset, asks + reset))
+    named = reset.replace("ensures {", "ensures answered {") + "    ensures more { 0 ≡ 0 }\n"
+    kept = room.text(SHIM)
+    room.write(SHIM, kept.replace(reset, named, 1))
+    room.passes(TOOL, "0 faults")
+    room.write(SHIM, kept)
+    room.finds(TOOL, "raftershim_reset promises nothing of its result", (SHIM, reset, reset.replace("result ", "0 ")))
+    room.finds(TOOL, "raftershim_reset promises nothing of its result", (SHIM, reset, named.replace("result ", "the_result ")))
     for call, name in re.findall(r'pub extern "C" fn (raftershim_\w+)\([^)]*?\b(\w+): &mut', text):
         said = re.search(rf"fn {call}\b.*?\n({PROMISE})", text, re.S).group(1)
-        after, before = f"now ({name} .exit)", f"now ({name} .entry)"
+        after, before = f"{name}.new", f"{name}.old"
         fault = f"{call} does not say what the bytes of {name} are"
         room.finds(TOOL, fault, (SHIM, said, said.replace(after, before)))
-        room.finds(TOOL, fault, (SHIM, said, said.replace(f"({after})", f"(length ({after}))")))
+        room.finds(TOOL, fault, (SHIM, said, said.replace(after, f"(length {after})")))
     room.finds(TOOL, "late has no ensures", (BRIDGE, "// Makes a state", "pub fn late(x: &'static [u8]) -> [u8; 2]\n{\n    [0u8; 2]\n}\n\n// Makes a state"))
     room.finds(TOOL, "late has no ensures", ("crates/frame/src/deep/late.rt", "pub unsafe fn late(x: u8) -> u8 {\n    x\n}\n"))
 
@@ -52,7 +58,7 @@ def every_function(room):
 
 def layers(room):
     """Crates without a layer, in two, in a wrong one; a new product."""
-    new = [("crates/courier/src/lib.rt", "pub fn fetch(x: u8) -> u8\n    requires { ⌜ x < 8 ⌝ }\n    ensures { λ r. ⌜ r ≡ x ⌝ }\n{\n    x\n}\n")]
+    new = [("crates/courier/src/lib.rt", "pub fn fetch(x: u8) -> u8\n    requires { x < 8 }\n    ensures { result ≡ x }\n{\n    x\n}\n")]
     line = ("crates.txt", "bridge: ", "courier: branches\nbridge: ")
     room.finds(TOOL, "courier stands in 0 layers", line, *new)
     room.finds(TOOL, "courier has no line of its own", *new)
@@ -74,32 +80,37 @@ def names(room):
     for line, said in (
         ("use lib.Other.{length}\n", "length is taken from lib.Other"),
         ("  use lib.Other.{length}\n", "length is taken from lib.Other"),
-        ("use lib.ListN.{drop as take}\n", "drop as take is taken from lib.ListN"),
+        ("use Rattle.store.specs.Ring.{◌≡◌}\n", "◌≡◌ is taken from Rattle.store.specs.Ring"),
+        ("use Rattle.std.specs.Prelude.{drop as take}\n", "drop as take is taken from Rattle.std.specs.Prelude"),
         ("use lib.Other.{first as take}\n", "first as take is taken from lib.Other"),
-        ("use lib.ListN.{take as first}\n", "take as first is taken from lib.ListN"),
+        ("use lib.Other.{◌~◌ as ◌≡◌}\n", "◌~◌ as ◌≡◌ is taken from lib.Other"),
+        ("use Rattle.std.specs.Prelude.{take as first}\n", "take as first is taken from Rattle.std.specs.Prelude"),
         ("use lib.Other as length\n", "length is a name of the library"),
         ("abbrev pub ltb : ℕ → ℕ → Bool\n", "ltb is a name of the library"),
+        ("pub ◌<◌ : ℕ → ℕ → Type 0\n", "< is a name of the library"),
+        ("abbrev pub result : ℕ\n", "result is a name of the library"),
         ("axiom easy : ⊥\n", "an axiom"),
         ("pub postulate easy : ⊥\n", "an axiom"),
     ):
         text = room.text(spec)
         room.finds(TOOL, said, (spec, text[:first] + line + text[first:]))
-    room.finds(TOOL, "_≡_ is taken from lib.Other", (BRIDGE, "mathlib.Core.Path.{_≡_}", "lib.Other.{_≡_}"))
+    prelude = "ghost use Rattle.std.specs.Prelude.{"
+    room.finds(TOOL, "◌≡◌ is taken from lib.Other", (BRIDGE, prelude, "ghost use lib.Other.{◌≡◌};\n" + prelude))
 
 
 def stores(room):
     """What the layer that carries frames knows of the store."""
-    brought = "use Rattle·store.proofs.Promises.{"
-    room.finds(TOOL, "Rattle·store.proofs.Laws is no promise of store", (CHAIN, brought, "use Rattle·store.proofs.Laws.{"))
-    room.finds(TOOL, "Rattle·store.specs.Ring.Basis is no promise", (CHAIN, brought, "use Rattle·store.specs.Ring.Basis.{held-at}\n" + brought))
+    brought = "use Rattle.store.proofs.Promises.{"
+    room.finds(TOOL, "Rattle.store.proofs.Laws is no promise of store", (CHAIN, brought, "use Rattle.store.proofs.Laws.{"))
+    room.finds(TOOL, "Rattle.store.specs.Ring.Basis is no promise", (CHAIN, brought, "use Rattle.store.specs.Ring.Basis.{held_at}\n" + brought))
     hidden = ("crates/store/specs/Ring.antt", "\n-- all places", "\npub hidden : ℕ\nhidden = 7\n\n-- all places")
-    room.finds(TOOL, "no contract of store names hidden", hidden, (CHAIN, "use Rattle·store.specs.Ring.{", "use Rattle·store.specs.Ring.{hidden, "))
-    room.finds(TOOL, "Rattle·store is named outside", (CHAIN, brought, "use Rattle·store.proofs.Laws as laws\n" + brought))
-    room.finds(TOOL, "Rattle·store is named outside", (CHAIN, "\n\n", "\n\nx = Rattle·store.proofs.Laws.held-at\n\n"))
-    room.finds(TOOL, "dropRing of store is opened", (CHAIN, "unfolding sendHeld", "unfolding sendHeld dropRing"))
-    room.finds(TOOL, "dropRing of store is opened", (CHAIN, "unfolding sendHeld", "unfolding sendHeld\n    dropRing"))
-    room.finds(TOOL, "dropRing of store is opened", (CHAIN, "unfolding sendHeld", "unfolding store.specs.Ring.dropRing"))
-    passed = "use Rattle·store.proofs.Laws.{"
+    room.finds(TOOL, "no contract of store names hidden", hidden, (CHAIN, "use Rattle.store.specs.Ring.{", "use Rattle.store.specs.Ring.{hidden, "))
+    room.finds(TOOL, "Rattle.store is named outside", (CHAIN, brought, "use Rattle.store.proofs.Laws as laws\n" + brought))
+    room.finds(TOOL, "Rattle.store is named outside", (CHAIN, "\n\n", "\n\nx = Rattle.store.proofs.Laws.held_at\n\n"))
+    room.finds(TOOL, "drop_ring of store is opened", (CHAIN, "unfolding send_held", "unfolding send_held drop_ring"))
+    room.finds(TOOL, "drop_ring of store is opened", (CHAIN, "unfolding send_held", "unfolding send_held\n    drop_ring"))
+    room.finds(TOOL, "drop_ring of store is opened", (CHAIN, "unfolding send_held", "unfolding store.specs.Ring.drop_ring"))
+    passed = "use Rattle.store.proofs.Laws.{"
     room.finds(TOOL, "is passed on", ("crates/state/proofs/Fits.antt", passed, "pub " + passed))
     room.finds(TOOL, "crates/store: a store without specs/Promises.antt", ("crates/store/specs/Promises.antt", None))
 
@@ -108,27 +119,31 @@ def plain_stores(room):
     """A store without specs of its own: it needs no promises, and nothing of it is brought in or passed on; with one definition it needs them."""
     room.finds(TOOL, "crates/cells: a store without specs/Promises.antt", ("crates/cells/specs/Extra.antt", "abbrev pub extra : ℕ\nextra = 7\n"))
     talk, way, first = "crates/mailloop/src/talk.rt", "crates/way/src/lib.rt", "ghost use "
-    proof = "ghost use Rattle·cells.proofs.put.Proof.{proof};\n"
-    room.finds(TOOL, "Rattle·cells.proofs.put.Proof is no promise of cells", (talk, first, proof + first))
-    room.finds(TOOL, "no contract of cells names extra", (talk, first, "ghost use Rattle·cells.specs.Ring.{extra};\n" + first))
-    room.finds(TOOL, "Rattle·cells.proofs.put.Proof.{proof}; is passed on", (way, first, "pub " + proof + first))
+    proof = "ghost use Rattle.cells.proofs.put.Proof.{proof};\n"
+    room.finds(TOOL, "Rattle.cells.proofs.put.Proof is no promise of cells", (talk, first, proof + first))
+    room.finds(TOOL, "no contract of cells names extra", (talk, first, "ghost use Rattle.cells.specs.Ring.{extra};\n" + first))
+    room.finds(TOOL, "Rattle.cells.proofs.put.Proof.{proof}; is passed on", (way, first, "pub " + proof + first))
 
 
 def logs(room):
     """What a crate rests on, by the log of rt ci."""
-    known = re.findall(r"^(\w+):", room.text("crates.txt"), re.M)
-    libc = "axioms libc: libc::read, libc::write (1 of the 50 declared)\nlogic=proved axioms=1\n"
+    known = re.findall(r"^(\w+)(?: staticlib)?:", room.text("crates.txt"), re.M)
+    libc = "axioms libc: libc::read, libc::write (2 of the 50 declared)\naxioms os: none reached of the 9 declared\nlogic=proved axioms=2\n"
     rests = {name: libc if name in ("examples", "onepass") else "logic=proved\n" for name in known}
-    text = "".join(f"{said}rt: {name} proved (1 s)\n" for name, said in rests.items())
+    rests["raftershim"] = "axioms libc: none reached of the 50 declared\nlogic=proved\n"
+    text = "".join(f"== {name}\n{said}rt: {name} proved\n" for name, said in rests.items())
+    text += f"== role: its tests\n{libc}rt: role: its tests are proved\n"
     room.write("log", text)
     command = TOOL + ["log"]
     room.passes(command, "0 faults")
     role = "logic=proved\nrt: role proved"
     room.finds(command, "role rests on role::easy", ("log", role, "axioms role: role::easy (1 of the 1 declared)\nlogic=proved axioms=1\nrt: role proved"))
     room.finds(command, "role rests on axioms that have no names", ("log", role, "logic=proved axioms=1\nrt: role proved"))
-    end = " (1 of the 50 declared)\nlogic=proved axioms=1\nrt: examples proved"
-    room.finds(command, "examples rests on libc::read, libc::unlink, libc::write", ("log", "libc::write" + end, "libc::write, libc::unlink" + end))
+    end = "axioms os: none reached of the 9 declared\nlogic=proved axioms=2\nrt: examples proved"
+    room.finds(command, "examples rests on libc::read, libc::write, own::f", ("log", end, "axioms own: own::f (1 of the 1 declared)\n" + end))
     room.finds(command, "role is not proved in it", ("log", "rt: role proved", "rt: role NOT PROVED"))
+    room.write("log", text.replace("== role\nlogic=proved\nrt: role proved\n", "rt: role is kept: an earlier run on this machine proved the same files over them\n"))
+    room.passes(command, "0 faults")
 
 
 def run():

@@ -13,20 +13,20 @@ naysayer = refusing 2
 abbrev pub without : ℕ → Call → World → Did
 without d = leaving d
 """
-THEOREMS = """use Rattle·LAWS.specs.Laws.{First, Stays}
-use Rattle·WRONG·specs.specs.BROKEN.{Breaks, BreaksAs}
+THEOREMS = """use Rattle.LAWS.specs.Laws.{First, Stays}
+use Rattle.WRONG.specs.BROKEN.{Breaks, BreaksAs}
 -- in words: Breaks nothing First
-pub naysayer-falls : Breaks naysayer First
-naysayer-falls law = law
-pub without-7-falls : BreaksAs (without 7) First
-without-7-falls law = law
-pub every-one : (e : KIND) → Breaks naysayer (Stays e)
-every-one e law = law
-pub one-of-them : Breaks (without 8) (Stays ONE)
-one-of-them law = law
+pub naysayer_falls : Breaks naysayer First
+naysayer_falls law = law
+pub without_7_falls : BreaksAs (without 7) First
+without_7_falls law = law
+pub every_one : (e : KIND) → Breaks naysayer (Stays e)
+every_one e law = law
+pub one_of_them : Breaks (without 8) (Stays ONE)
+one_of_them law = law
 """
-LINE = "- `without 7`: leaves the number 7 out. Proof: `without-7-falls`."
-FIRST, SECOND = "pub naysayer-falls", "pub without-7-falls : BreaksAs (without 7) First"
+LINE = "- `without 7`: leaves the number 7 out. Proof: `without_7_falls`."
+FIRST, SECOND = "pub naysayer_falls", "pub without_7_falls : BreaksAs (without 7) First"
 
 
 class Side(NamedTuple):
@@ -65,12 +65,12 @@ class Side(NamedTuple):
 
     def third(self):
         """The refutation for one of the kind."""
-        return f"pub one-of-them : Breaks (without 8) (Stays {self.one})"
+        return f"pub one_of_them : Breaks (without 8) (Stays {self.one})"
 
 
 SIDES = (
     Side("bridge", "bridges", "laws", "wrong", "Broken", "Event", "broken", "pressed", "laws"),
-    Side("mailbox", "mailboxes", "maillaws", "mailwrong", "BrokenMail", "Direction", "toBus", "toLoop", "mailbox-laws"),
+    Side("mailbox", "mailboxes", "maillaws", "mailwrong", "BrokenMail", "Direction", "to_bus", "to_loop", "mailbox-laws"),
 )
 
 
@@ -94,36 +94,36 @@ def few(room, side):
     laws, proofs, many = side.law_list(), side.proofs(), f"wrong {side.many}"
     room.finds(TOOL, f"Second is broken by 0 {many}", (laws, "First", "First ∷ Second"))
     room.finds(TOOL, f"Third is broken by 0 {many}", (laws, "∷ []\n", "∷ []\nrooms = Third ∷ []\n"))
-    room.finds(TOOL, f"First is broken by 1 {many}", (proofs, FIRST, "-- pub naysayer-falls"))
-    room.finds(TOOL, f"First is broken by 1 {many}", (proofs, FIRST, "naysayer-falls"))
+    room.finds(TOOL, f"First is broken by 1 {many}", (proofs, FIRST, "-- pub naysayer_falls"))
+    room.finds(TOOL, f"First is broken by 1 {many}", (proofs, FIRST, "naysayer_falls"))
     room.finds(TOOL, f"First is broken by 1 {many}", (proofs, SECOND, SECOND.replace("(without 7)", "naysayer")))
-    room.finds(TOOL, f"Stays is broken by 1 {many}", (proofs, side.third(), "one-of-them : Unit"))
+    room.finds(TOOL, f"Stays is broken by 1 {many}", (proofs, side.third(), "one_of_them : Unit"))
     room.finds(TOOL, f"First is broken by 0 {many}", (proofs, None))
     room.finds(TOOL, f"{laws}: no list of laws", (laws, "laws =", "rules ="))
-    twice = f"pub one-of-them : Breaks (without {side.one}) (Stays {side.one})\n"
-    twice += f"pub other-of-them : Breaks (without {side.two}) (Stays {side.two})\n"
-    room.finds(TOOL, f"Stays is broken by 1 {many}", (proofs, f"{side.theorems().split('pub every-one')[0]}{twice}"))
+    twice = f"pub one_of_them : Breaks (without {side.one}) (Stays {side.one})\n"
+    twice += f"pub other_of_them : Breaks (without {side.two}) (Stays {side.two})\n"
+    room.finds(TOOL, f"Stays is broken by 1 {many}", (proofs, f"{side.theorems().split('pub every_one')[0]}{twice}"))
 
 
 def odd(room, side):
     """Refutations of what is no law, of what is no wrong one, in another form, and where the prover does not look."""
     proofs, third, kind = side.proofs(), side.third(), side.kind
-    room.finds(TOOL, "one-of-them is of Stays overrun, which is not in the list", (proofs, third, third.replace(side.one, "overrun")))
-    room.finds(TOOL, "naysayer-falls is of Other, which is not in the list", (proofs, "naysayer First", "naysayer Other"))
-    room.finds(TOOL, "naysayer-falls is of Other, which is not in the list", (proofs, "Breaks naysayer First", "BreaksTelling naysayer Other"))
-    room.finds(TOOL, "every-one is of First e, which is not in the list", (proofs, "(Stays e)", "(First e)"))
-    room.finds(TOOL, "naysayer-falls is of nobody, which no file", (proofs, "Breaks naysayer First", "Breaks nobody First"))
-    room.finds(TOOL, "naysayer-falls is of none of the four forms", (proofs, "Breaks naysayer First", "⊥ → Breaks naysayer First"))
-    room.finds(TOOL, "every-one is of none of the four forms", (proofs, f"(e : {kind})", "(e : Other)"))
+    room.finds(TOOL, "one_of_them is of Stays overrun, which is not in the list", (proofs, third, third.replace(side.one, "overrun")))
+    room.finds(TOOL, "naysayer_falls is of Other, which is not in the list", (proofs, "naysayer First", "naysayer Other"))
+    room.finds(TOOL, "naysayer_falls is of Other, which is not in the list", (proofs, "Breaks naysayer First", "BreaksTelling naysayer Other"))
+    room.finds(TOOL, "every_one is of First e, which is not in the list", (proofs, "(Stays e)", "(First e)"))
+    room.finds(TOOL, "naysayer_falls is of nobody, which no file", (proofs, "Breaks naysayer First", "Breaks nobody First"))
+    room.finds(TOOL, "naysayer_falls is of none of the four forms", (proofs, "Breaks naysayer First", "⊥ → Breaks naysayer First"))
+    room.finds(TOOL, "every_one is of none of the four forms", (proofs, f"(e : {kind})", "(e : Other)"))
     room.finds(TOOL, f"{proofs}: it declares Breaks", (proofs, side.theorems() + "abbrev Breaks : Type 0\nBreaks = Unit\n"))
     room.finds(TOOL, f"{proofs}: it declares BreaksTelling", (proofs, side.theorems() + "abbrev BreaksTelling : Type 0\nBreaksTelling = Unit\n"))
     room.finds(TOOL, f"{side.specs()}: it declares First", (side.specs(), WRONG + "abbrev pub First : Law\nFirst = other\n"))
-    room.finds(TOOL, f"{proofs}: Other as Stays is taken from", (proofs, f"use Rattle·{side.laws}.specs.Laws.{{Other as Stays}}\n" + side.theorems()))
+    room.finds(TOOL, f"{proofs}: Other as Stays is taken from", (proofs, f"use Rattle.{side.laws}.specs.Laws.{{Other as Stays}}\n" + side.theorems()))
     room.finds(TOOL, f"{proofs}: {side.proofs('Lib')} does not bring it in", (side.proofs("Lib"), "pub mod Other\n"))
     for laws in ["other", *(other.laws for other in SIDES if other is not side)]:
-        room.finds(TOOL, f"{proofs}: First is taken from Rattle·{laws}.specs.Laws", (proofs, f"use Rattle·{laws}.specs.Laws.{{First}}\n" + side.theorems()))
+        room.finds(TOOL, f"{proofs}: First is taken from Rattle.{laws}.specs.Laws", (proofs, f"use Rattle.{laws}.specs.Laws.{{First}}\n" + side.theorems()))
     for other in SIDES:
-        taken = f"use Rattle·{other.wrong}·specs.specs.{other.broken}.{{Breaks}}\n"
+        taken = f"use Rattle.{other.wrong}.specs.{other.broken}.{{Breaks}}\n"
         if other is not side:
             room.finds(TOOL, f"{proofs}: Breaks is taken from", (proofs, taken + side.theorems()))
 
@@ -136,10 +136,10 @@ def lists(room, side):
     room.finds(TOOL, f"a {wrong} First without 6", (page, "`without 7`", "`without 6`"))
     room.finds(TOOL, f"no line of a {wrong}: - `without 7`, for `Stays e`", (page, "`without 7`", "`without 7`, for `Stays e`"))
     room.finds(TOOL, f"a {wrong} First e without 7", (page, "`without 7`", "`without 7`, for `First e`"))
-    room.finds(TOOL, f"a {wrong} First without 7 {proofs} gone", (page, "`without-7-falls`", "`gone`"))
+    room.finds(TOOL, f"a {wrong} First without 7 {proofs} gone", (page, "`without_7_falls`", "`gone`"))
     room.finds(TOOL, f"a {wrong} First without 7 {side.proofs('Other')}", (page, "proofs/Wrong.antt`:", "proofs/Other.antt`:"))
     room.finds(TOOL, f"two of {wrong} First without 7", (page, row, row + row))
-    room.finds(TOOL, f"a {wrong} First naysayer", (proofs, FIRST, "-- pub naysayer-falls"))
+    room.finds(TOOL, f"a {wrong} First naysayer", (proofs, FIRST, "-- pub naysayer_falls"))
     room.finds(TOOL, f"a {wrong} Stays e without 8", (page, f"for `Stays {side.one}`", "for `Stays e`"))
     room.finds(TOOL, "without 7 does not do this: leaves the number 6 out", (page, "the number 7", "the number 6"))
     room.finds(TOOL, f"no line of a {wrong}: - `without 7`, which", (page, "`without 7`: leaves", "`without 7`, which leaves"))
@@ -165,8 +165,8 @@ def figures(room, side):
 def spoken(room):
     """A direction is said in words where a wrong mailbox is described."""
     side = SIDES[1]
-    third = side.third().replace("without 8", "without toLoop")
-    right = "- `without toLoop`, for `Stays toBus`: leaves the number to the loop out. Proof: `one-of-them`."
+    third = side.third().replace("without 8", "without to_loop")
+    right = "- `without to_loop`, for `Stays to_bus`: leaves the number to the loop out. Proof: `one_of_them`."
     room.write(side.proofs(), side.theorems().replace(side.third(), third))
     room.passes(TOOL + ["--lists"], right)
     room.write(side.proofs(), side.theorems())
