@@ -3,7 +3,8 @@
 Usage: python3 tools/undivided.py
 The stores are the crates of the layer `store` in crates.txt. It fails in these cases:
 - The code of a store has a division or a remainder: in a function, public or not, in a method, in a nested module or in a constant.
-  Comments, texts and bytes are no code, nor is what is only proved: the clauses of a contract, a struct's ghost fields and `ghost use`.
+  Comments, texts and bytes are no code, nor is what is only proved: the clauses of a contract, a struct's ghost fields, `ghost use` and
+  the line of tactics. Of the derives only those of Clone, Copy and Drop are known to write no division.
   The invariants of loops stand in the proofs, which are not read.
 - The code of a store brings in, names or calls what is of no store, a type too: it could divide there. The language's own are its
   operators and casts, `len` of a slice, and `MAX` and `MIN` of a number's type; none of these divides.
@@ -18,8 +19,11 @@ import listing
 
 # what is no code: what is blanked everywhere, a ghost use without a comment in it, and the start of a clause or of a ghost field
 GHOST_USE = r"\bghost\s+use\b(?:(?!--|//|/\*)[^;\"])*;"
-CLAUSE = r"(?P<clause>\b(?:requires|ensures|ghost)(?:\s+\w+\s*:?)?\s*(?=\{))"
-ASIDE = re.compile(f"{listing.BLANKED.pattern}|{GHOST_USE}|{CLAUSE}", re.S)
+CLAUSE = r"(?P<clause>\b(?:requires\*?|ensures\*?|ghost)(?:\s+\w+\s*:?)?\s*(?=\{))"
+# what the prover tries, and the derives that copy or let go
+TACTIC = r"#!?\[tactic\((?:[^()\"/%]|\([^()\"/%]*\))*\)\]"
+DERIVE = r"#\[derive\((?:Clone|Copy|Drop)(?:, (?:Clone|Copy|Drop))*\)\]"
+ASIDE = re.compile(f"{listing.BLANKED.pattern}|{GHOST_USE}|{TACTIC}|{DERIVE}|{CLAUSE}", re.S)
 # a clause's brackets, and what could hide one; and signs and words that no code has
 BRACKET = re.compile(r"--|//|/\*|\{-|'[()\[\]{}]'|[()\[\]{}\"]")
 PAIRS = ("()", "[]", "{}")

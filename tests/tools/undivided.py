@@ -10,7 +10,7 @@ CELLS = "crates/cells/src/lib.rt"
 DEEP = "crates/store/src/deep/half.rt"
 TAPE = "crates/tape/src/lib.rt"
 HALF = "fn half(n: usize) -> usize {\n    n / 2\n}\n"
-SAYS = "ensures { λ r. ⌜ r ≡ n ⌝ }"
+SAYS = "ensures { result ≡ n }"
 TOLD = "cannot be told from code"
 
 # Code that is put behind a store's, and what is said of it.
@@ -24,10 +24,14 @@ ANYWHERE = (
     ("\nfn half(places: [u8; 8 / 2]) -> u8 {\n    places[0]\n}\n", "half divides"),
     ("\nfn half(n: usize) -> [u8; 8 % 5] {\n    [0; 3]\n}\n", "half takes a remainder"),
     (f"\nfn half(n: usize) -> usize {SAYS} {{ n / 2 }}\n", "half divides"),
-    (f"\nfn half(n: usize) -> usize requires {{ ⌜ n < 8 ⌝ }} {SAYS} {{ n % 2 }} // ⌜ half ⌝\n", "half takes a remainder"),
+    (f"\nfn half(n: usize) -> usize requires small {{ n < 8 }} {SAYS} {{ n % 2 }} // {{ half\n", "half takes a remainder"),
+    ("\n#[derive(Clone, Hash)]\nstruct Odd {}\n", "what stands in no function calls derive, which is of no store"),
+    ("\n#[derive(state::Clone)]\nstruct Odd {}\n", "what stands in no function names state::Clone, which is of no store"),
+    ("\n#[tactic(auto)] fn half(n: usize) -> usize { n / 2 }\n", "half divides"),
+    ("\n#[tactic(auto, using(n / 2))]\nfn half(n: usize) -> usize { n }\n", "what stands in no function divides"),
     (f"\nfn one(n: usize) -> usize {SAYS} {{ n / 2 }} fn two(n: usize) -> usize {SAYS} {{ n }}\n", "one divides"),
-    ("\nfn half(n: usize) -> usize\n    ensures { λ r. ⌜ r ≡ n }\n{\n    n / 2 // ⌝\n}\n", "half divides"),
-    ("\nghost use lib.Dec.{eqb}; fn half(n: usize) -> usize { n / 2 }\n", "half divides"),
+    ("\nfn half(n: usize) -> usize\n    ensures { result ≡ n }\n{\n    n / 2 // }\n}\n", "half divides"),
+    ("\nghost use Rattle.std.specs.Prelude.{◌≡◌}; fn half(n: usize) -> usize { n / 2 }\n", "half divides"),
 )
 
 # Lines of a function that hide a division behind what looks like a comment or a text.
@@ -41,21 +45,21 @@ HIDDEN = (
     'let t = br"\\"; let q = p / 2; let u = br"\\";',
     'let t = br#"""#; let q = p / 2; let u = b"";',
     'let t = b"a\nb"; let q = p / 2; let u = b"c\nd";',
-    "/* ⌜ */ let q = p / 2; /* ⌝ */",
+    "/* { */ let q = p / 2; /* } */",
     "let q = p / /* half */ 2;",
     "let q = p // of two\n        / 2;",
 )
 
 # What ends two contracts, one after the other: in the first a bracket is hidden that the second would close, with all that is between them.
 UNREAD = (
-    ("⌝ -- {\n}", "⌝ -- }\n}"),
-    ("⌝ {- { -} }", "⌝ {- } -} }"),
-    ('× "{" ⌝ }', '× "}" ⌝ }'),
-    ("× ⟦ n == b'{' ⟧ ⌝ }", "× ⟦ n == b'}' ⟧ ⌝ }"),
-    ("× ⟦ n /* { */ ⟧ ⌝ }", "× ⟦ n /* } */ ⟧ ⌝ }"),
-    ("× ⟦ n // {\n⟧ ⌝ }", "× ⟦ n // }\n⟧ ⌝ }"),
-    ("× ( ⌝ }", "× ) ⌝ }"),
-    ("⌝", "⌝ }"),
+    ("-- {\n}", "-- }\n}"),
+    ("{- { -} }", "{- } -} }"),
+    ('× "{" }', '× "}" }'),
+    ("× ⟦ n == b'{' ⟧ }", "× ⟦ n == b'}' ⟧ }"),
+    ("× ⟦ n /* { */ ⟧ }", "× ⟦ n /* } */ ⟧ }"),
+    ("× ⟦ n // {\n⟧ }", "× ⟦ n // }\n⟧ }"),
+    ("× ( }", "× ) }"),
+    ("", "}"),
 )
 
 # Lines of a function that lead out of the stores, and what is said of them.
@@ -77,9 +81,11 @@ BROUGHT = ("bytes::copy", "bytes::*", "std::num", "std as places", "state::State
 FINE = (
     "\n// n / 2 and n % 2\n/* n / 2 */\n",
     f"\nfn text(n: usize) -> usize\n    {SAYS}\n{{\n    let t = b\"n / 2 % 3\"; let u = br#\"\"/\"#; let v = b'%'; let w = b'/'; // %\n    n\n}}\n",
-    "\nfn rest(n: usize) -> usize\n    requires { ⌜ n % 2 ≡ 0 ⌝ }\n    ensures { λ r. ⌜ (r ≡ n / 2 * 2)\n      × (r % 2 ≡ 0) ⌝ }\n{\n    n\n}\n",
-    "\nfn rest(n: usize) -> usize\n    ghost { ℕ }\n    requires tied { λ g. ⌜ g ≡ n % 2 ⌝ }\n    ensures even { λ g r. ⌜ r % 2 ≡ g ⌝ }\n{\n    n\n}\n",
-    "\nghost use Prim.Native.Nat.{_/_, _%_};\n",
+    "\nfn rest(n: usize) -> usize\n    requires { n % 2 ≡ 0 }\n    ensures { (result ≡ n / 2 * 2)\n      × (result % 2 ≡ 0) }\n{\n    n\n}\n",
+    "\nfn rest(n: usize) -> usize\n    ghost { ℕ }\n    requires* tied { λ g. ⌜ g ≡ n % 2 ⌝ }\n    ensures even { let g = n % 2 in result % 2 ≡ g }\n{\n    n\n}\n",
+    "\nghost use Rattle.std.specs.Prelude.{◌/◌, ◌%◌};\n",
+    "\n#[derive(Clone, Copy, Drop)]\npub struct Odd {\n    pub n: usize,\n}\n",
+    "\n#[tactic(auto, using(crate::proofs::Laws::held_at), unfolding(crate::specs::Ring::wrap))]\nfn rest(n: usize) -> usize {\n    n\n}\n",
     "\npub struct Even {\n    pub n: usize,\n    ghost even: { n % 2 ≡ 0 },\n}\n",
     "\nimpl Stretch {\n    fn long(self, s: &[u8]) -> usize {\n        Self::least(s.len(), usize::MAX)\n    }\n\n"
     "    fn least(a: usize, b: usize) -> usize {\n        if (a < b) & (a < u8::MAX) { a } else { b }\n    }\n}\n",
@@ -123,11 +129,11 @@ def hidden(room):
     for code in HIDDEN:
         room.finds(TOOL, ": place divides\n", within(room, STORE, "place", code))
     for first, second in UNREAD:
-        one, two = (f"\nfn {name}(n: usize) -> usize\n    ensures {{ λ r. ⌜ (r ≡ n) {end}\n" for name, end in (("one", first), ("two", second)))
+        one, two = (f"\nfn {name}(n: usize) -> usize\n    ensures {{ (result ≡ n) {end}\n" for name, end in (("one", first), ("two", second)))
         room.finds(TOOL, TOLD, behind(room, STORE, one + "{\n    n / 2\n}\n" + two + "{\n    n\n}\n"))
-    room.finds(TOOL, "half has no body here", behind(room, STORE, "\nmod deep {\nfn half(n: usize) -> usize ensures { ⌜ n ⌝ { n / 2 } }\n"))
-    room.finds(TOOL, TOLD, behind(room, STORE, "\nfn half(n: usize) -> usize\n    ensures /* { */ { λ r. ⌜ r // n ⌝ } { n / 2 }\n"))
-    room.finds(TOOL, TOLD, behind(room, STORE, '\nghost use lib.Dec.{eqb} // ; "\n;\nfn half(n: usize) -> usize { n / 2 } // "\n'))
+    room.finds(TOOL, "half has no body here", behind(room, STORE, "\nmod deep {\nfn half(n: usize) -> usize ensures { n { n / 2 } }\n"))
+    room.finds(TOOL, TOLD, behind(room, STORE, "\nfn half(n: usize) -> usize\n    ensures /* { */ { result // n } { n / 2 }\n"))
+    room.finds(TOOL, TOLD, behind(room, STORE, '\nghost use Rattle.std.specs.Prelude.{◌≡◌} // ; "\n;\nfn half(n: usize) -> usize { n / 2 } // "\n'))
 
 
 def away(room):
@@ -167,7 +173,7 @@ def fine(room):
         room.passes(TOOL, ", 0 faults\n")
         room.write(STORE, kept)
         room.write(DEEP, None)
-    room.write("crates/store/proofs/look/Proof.antt", "abbrev Inv-loop : tie.InvT-loop\nInv-loop n i = i % 2 ≡ n / 2\n")
+    room.write("crates/store/proofs/look/Invariants.antt", "abbrev loop : goal.loop\nloop n i = i % 2 ≡ n / 2\n")
     room.passes(TOOL, ", 0 faults\n")
 
 
