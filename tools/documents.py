@@ -17,13 +17,13 @@ DECLARING = ("crates", "rust", "include", "tests", "tools")
 PLACE = re.compile(r"(crates|rust|include|tests|tools|docs|scripts|examples|archives|\.ci)/")
 
 
-def code_lines(pattern, comment):
-    """Lines that are neither blank nor only a comment."""
+def code_lines(pattern, *aside):
+    """Lines that are neither blank nor begin with one of these."""
     count = 0
     for path in glob.glob(pattern, recursive=True):
         for line in open(path, encoding="utf-8"):
             text = line.strip()
-            count += bool(text) and not text.startswith(comment)
+            count += bool(text) and not text.startswith(aside)
     return count
 
 
@@ -40,7 +40,7 @@ def sizes():
     for name in listing.crates():
         at = os.path.join("crates", name)
         row = [
-            code_lines(f"{at}/src/**/*.rt", "//"),
+            code_lines(f"{at}/src/**/*.rt", "//", "#![tactic("),
             code_lines(f"{at}/specs/**/*.antt", "--"),
             code_lines(f"{at}/proofs/**/*.antt", "--"),
             len(glob.glob(f"{at}/must-fail/*.edit") + glob.glob(f"{at}/edits/*.edit")),
