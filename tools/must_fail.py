@@ -29,7 +29,7 @@ import must_fail_logs
 import seen
 
 ROOT = os.getcwd()
-JOBS = min(os.cpu_count() or 1, 4)
+JOBS = min(len(os.sched_getaffinity(0)), 4)
 SHARES = 12
 SHARES_ELSEWHERE = 6
 EDITS = ("edits", "must-fail")
