@@ -228,7 +228,8 @@ def wrong_entries(entries, right, edits):
 
 def same_labels(edits):
     """Edits whose logs would lie over those of the folder must-fail."""
-    return [f"{edit}: rt's own edits of the crate have one of this label" for edit in edits if "/edits/" in edit and os.path.exists(edit.replace("/edits/", "/must-fail/"))]
+    twice = [edit for edit in edits if "/edits/" in edit and os.path.exists(edit.replace("/edits/", "/must-fail/"))]
+    return [f"{edit}: rt's own edits of the crate have one of this label" for edit in twice]
 
 
 def main():

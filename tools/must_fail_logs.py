@@ -3,8 +3,9 @@
 Usage: python3 tools/must_fail_logs.py [--print | --promises] [CRATE ..]   (after tools/must_fail.py, which writes the logs)
 An edit that only makes a proof file unfit for the code (a goal of another name, another number of goals) proves nothing.
 An edit breaks the contract of a public function if the prover refuses the proof of that function after it, or of what that proof rests on.
-That a function calls another whose proof is refused breaks nothing of its own. An edit that was not tried in this run stands by its entry in tools/seen-refused.txt, which says what it breaks. A log
-is read only if it is of the text as it is. Laws are not counted here: they have refutations of wrong products instead of edits.
+That a function calls another whose proof is refused breaks nothing of its own. An edit that was not tried in this run stands by its entry in
+tools/seen-refused.txt, which says what it breaks. A log is read only if it is of the text as it is. Laws are not counted here: they have
+refutations of wrong products instead of edits.
 --print shows the first error of each log, --promises how many edits break each contract.
 """
 import glob

@@ -142,7 +142,8 @@ def logs(room):
     end = "axioms os: none reached of the 9 declared\nlogic=proved axioms=2\nrt: examples proved"
     room.finds(command, "examples rests on libc::read, libc::write, own::f", ("log", end, "axioms own: own::f (1 of the 1 declared)\n" + end))
     room.finds(command, "role is not proved in it", ("log", "rt: role proved", "rt: role NOT PROVED"))
-    room.write("log", text.replace("== role\nlogic=proved\nrt: role proved\n", "rt: role is kept: an earlier run on this machine proved the same files over them\n"))
+    kept = "rt: role is kept: an earlier run on this machine proved the same files over the same libraries\n"
+    room.write("log", text.replace("== role\nlogic=proved\nrt: role proved\n", kept))
     room.passes(command, "0 faults")
 
 

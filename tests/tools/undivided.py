@@ -82,7 +82,8 @@ FINE = (
     "\n// n / 2 and n % 2\n/* n / 2 */\n",
     f"\nfn text(n: usize) -> usize\n    {SAYS}\n{{\n    let t = b\"n / 2 % 3\"; let u = br#\"\"/\"#; let v = b'%'; let w = b'/'; // %\n    n\n}}\n",
     "\nfn rest(n: usize) -> usize\n    requires { n % 2 ≡ 0 }\n    ensures { (result ≡ n / 2 * 2)\n      × (result % 2 ≡ 0) }\n{\n    n\n}\n",
-    "\nfn rest(n: usize) -> usize\n    ghost { ℕ }\n    requires* tied { λ g. ⌜ g ≡ n % 2 ⌝ }\n    ensures even { let g = n % 2 in result % 2 ≡ g }\n{\n    n\n}\n",
+    "\nfn rest(n: usize) -> usize\n    ghost { ℕ }\n    requires* tied { λ g. ⌜ g ≡ n % 2 ⌝ }\n"
+    "    ensures even { let g = n % 2 in result % 2 ≡ g }\n{\n    n\n}\n",
     "\nghost use Rattle.std.specs.Prelude.{◌/◌, ◌%◌};\n",
     "\n#[derive(Clone, Copy, Drop)]\npub struct Odd {\n    pub n: usize,\n}\n",
     "\n#[tactic(auto, using(crate::proofs::Laws::held_at), unfolding(crate::specs::Ring::wrap))]\nfn rest(n: usize) -> usize {\n    n\n}\n",
