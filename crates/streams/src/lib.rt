@@ -1,14 +1,18 @@
 //! What is read of a stream into a lent buffer.
 #![tactic(auto)]
 
-ghost use Rattle.std.specs.Prelude.{◌≤◌, length, IfOk};
+ghost use Rattle.std.specs.Prelude.{◌<◌, ◌≤◌, length, take, IfOk};
+ghost use Rattle.std.specs.Io.KnownBytes.{Consumes, IsAtEnd};
 
 use std::io;
 use std::io::Read;
 
-// Fills the buffer from a stream, up to the buffer's end or the stream's, and says how many bytes were read.
+// Fills the buffer from a stream, up to the buffer's end or the stream's, and says how many bytes were read: those stand first in the
+// buffer and are gone from the stream, and where there are fewer than there is room the stream is at its end.
 pub fn read_full<R: Read>(stream: &mut R, buffer: &mut [u8]) -> io::Result<usize>
-    ensures { IfOk result (λ n. n ≤ length buffer.new) }
+    ensures bound { IfOk result (λ n. n ≤ length buffer.new) }
+    ensures bytes { IfOk result (λ n. Consumes (R.remaining stream.old) (R.remaining stream.new) (take n buffer.new)) }
+    ensures whole { IfOk result (λ n. n < length buffer.new → IsAtEnd (R.remaining stream.new)) }
 {
     let mut at = 0;
     while at < buffer.len() {
