@@ -10,8 +10,7 @@ Usage: python3 tools/contracts.py [LOG]
 - The layer that carries frames opens no definition of a store, and brings in of it only its declared types, its promises, the definitions
   that its contracts and promises name, and the module that passes the promises' proofs on. No crate below it passes on anything of a store.
   A store with specs has its promises in specs/Promises.antt; one without specs defines nothing, so there is nothing of it to bring in.
-LOG is what `rt ci` printed. With it, only the crates of `ASSUMED` may rest on axioms, which are C functions of the kit's libraries named
-there. Of a crate that rt ci took from an earlier run on the same machine it says nothing more.
+LOG is what `rt ci` printed. With it, only the crates of `ASSUMED` may rest on axioms, and only on those named there. Of a crate that rt ci took from an earlier run on the same machine it says nothing more.
 """
 import glob
 import os
@@ -40,8 +39,9 @@ PASSING = {"Rattle.core.specs.Prelude", "Rattle.std.specs.Prelude", "Rattle.std.
 NAMES = {name: module for module, names in HOME.items() for name in names.split()}
 WORDS = {name.strip("◌") for name in NAMES} | {"×", "Unit", "⊥", "result"}
 
-# the kit's libraries whose C functions the programs assume
-ASSUMED = {"examples": {"libc", "os", "std"}, "onepass": {"libc", "os", "std"}}
+# the C functions below the kit's std that the programs assume
+CALLED = {"libc::lseek", "libc::read", "libc::write", "os::c::__xpg_strerror_r", "os::c::rattle_errno"}
+ASSUMED = {"examples": CALLED, "onepass": CALLED}
 
 USE = re.compile(r"^\s*(?:pub )?(?:ghost )?use ([^\s{;]+)\.\{([^}]*)\}", re.M)
 ALIAS = re.compile(r"^\s*(?:pub )?(?:ghost )?use \S+ as ([^\s;]+)", re.M)
@@ -50,7 +50,7 @@ AXIOM = re.compile(r"^\s*(?:(?:pub|abbrev|unfoldable|ghost) )*(?:axiom|postulate
 UNFOLDING = re.compile(r"^( *).*\bunfolding\b(.*(?:\s*\n\1 +\S.*)*)", re.M)
 PROVED = re.compile(r"^== (\w+)\n(.*?)^rt: \1 proved$", re.M | re.S)
 KEPT = re.compile(r"^rt: (\w+) is kept: an earlier run on this machine proved the same files", re.M)
-AXIOMS = re.compile(r"^axioms (\w+): (?!none reached)(.*?) \(\d+ of the", re.M)
+AXIOMS = re.compile(r"^axioms \w+: (?!none reached)(.*?) \(\d+ of the", re.M)
 
 
 def misplaced():
@@ -161,9 +161,9 @@ def assumed(path):
     """Crates that the log shows to rest on axioms that are not theirs to assume, and crates that it does not show."""
     text, wrong = listing.read(path), []
     for crate, said in PROVED.findall(text):
-        names = {library: found for library, found in AXIOMS.findall(said)}
-        if not names.keys() <= ASSUMED.get(crate, set()) or ("axioms=" in said) != bool(names):
-            wrong.append(f"{path}: {crate} rests on {', '.join(sorted(names.values())) or 'axioms that have no names'}")
+        names = {name.strip() for found in AXIOMS.findall(said) for name in found.split(",")}
+        if names != ASSUMED.get(crate, set()) or ("axioms=" in said) != bool(names):
+            wrong.append(f"{path}: {crate} rests on {', '.join(sorted(names)) or 'axioms that have no names'}")
     seen = {crate for crate, _ in PROVED.findall(text)} | set(KEPT.findall(text))
     return wrong + [f"{path}: {crate} is not proved in it" for crate in listing.crates() if crate not in seen]
 

@@ -142,7 +142,7 @@ def entries(path):
 
 def unspoken():
     """Signs of the crates that the page of signs leaves out or calls by another name than Unicode does, and rows for signs of no crate."""
-    files = [path for path in glob.glob("crates/**/*", recursive=True) if path.endswith((".rt", ".antt"))]
+    files = [path for crate in listing.crates() for path in listing.texts(crate) if path.endswith((".rt", ".antt"))]
     used = {sign for path in files for sign in listing.read(path) if ord(sign) > 127}
     said = {sign: name.lower() for sign, name in SIGN.findall(listing.read(SIGNS))}
     names = {sign: unicodedata.name(sign).lower() for sign in sorted(used)}

@@ -128,7 +128,8 @@ def plain_stores(room):
 def logs(room):
     """What a crate rests on, by the log of rt ci."""
     known = re.findall(r"^(\w+)(?: staticlib)?:", room.text("crates.txt"), re.M)
-    libc = "axioms libc: libc::read, libc::write (2 of the 50 declared)\naxioms os: none reached of the 9 declared\nlogic=proved axioms=2\n"
+    libc = "axioms libc: libc::lseek, libc::read, libc::write (3 of the 50 declared)\n"
+    libc += "axioms os: os::c::__xpg_strerror_r, os::c::rattle_errno (2 of the 9 declared)\naxioms std: none reached of the 2 declared\nlogic=proved axioms=5\n"
     rests = {name: libc if name in ("examples", "onepass") else "logic=proved\n" for name in known}
     rests["raftershim"] = "axioms libc: none reached of the 50 declared\nlogic=proved\n"
     text = "".join(f"== {name}\n{said}rt: {name} proved\n" for name, said in rests.items())
@@ -139,8 +140,11 @@ def logs(room):
     role = "logic=proved\nrt: role proved"
     room.finds(command, "role rests on role::easy", ("log", role, "axioms role: role::easy (1 of the 1 declared)\nlogic=proved axioms=1\nrt: role proved"))
     room.finds(command, "role rests on axioms that have no names", ("log", role, "logic=proved axioms=1\nrt: role proved"))
-    end = "axioms os: none reached of the 9 declared\nlogic=proved axioms=2\nrt: examples proved"
-    room.finds(command, "examples rests on libc::read, libc::write, own::f", ("log", end, "axioms own: own::f (1 of the 1 declared)\n" + end))
+    end = "axioms std: none reached of the 2 declared\nlogic=proved axioms=5\nrt: examples proved"
+    more = end.replace("none reached of the 2", "std::process::c::abort (1 of the 2").replace("declared\n", "declared)\n", 1)
+    room.finds(command, "os::c::rattle_errno, std::process::c::abort", ("log", end, more))
+    hidden = "libc::write, ... (4 of the 50 declared)"
+    room.finds(command, "examples rests on ..., libc::lseek", ("log", text[: text.index("== onepass")], text[: text.index("== onepass")].replace("libc::write (3 of the 50 declared)", hidden)))
     room.finds(command, "role is not proved in it", ("log", "rt: role proved", "rt: role NOT PROVED"))
     kept = "rt: role is kept: an earlier run on this machine proved the same files over the same libraries\n"
     room.write("log", text.replace("== role\nlogic=proved\nrt: role proved\n", kept))
