@@ -5,7 +5,7 @@ use mathlib.Core.Bool.{true, false, false≢true}
 use mathlib.Core.List.{List}
 use Rattle.answers.specs.Refusals.{first_refusal}
 use Rattle.sending.specs.declared.Given.{Given}
-use Rattle.sending.specs.declared.Given.TheVariants as goal
+use Rattle.sending.specs.declared.Given.TheVariants as given
 use Rattle.state.specs.declared.State.{State}
 use Rattle.state.specs.declared.Out.{Out}
 use Rattle.state.specs.declared.Out.TheVariants as out
@@ -31,8 +31,8 @@ Answers o = is_frame (said o.answer) ≡ true
 
 send_answers : (before after : State) (g : Given) → Answers (send_state before after g)
 unfolding send_state ended said
-send_answers before after goal.Nothing = refl
-send_answers before after (goal.One f) = refl
+send_answers before after given.Nothing = refl
+send_answers before after (given.One f) = refl
 
 way_answers : (s : State) (rx : List ℕ) (f : ℕ) (o : Outcome) → Way s rx f o → Answers o
 unfolding send_from send_status ended said
