@@ -19,7 +19,7 @@ import seen
 
 UNFIT = re.compile(
     r"that can be named from here|not a `×` type|is not a function|too many arguments|BAD EDIT|error\[[\w-]+\]"
-    r"|unexpected|parse error|not in scope|cannot be resolved|has no field|has no `|is no name|no occurrence of the path"
+    r"|unexpected|parse error|not in scope(?! here)|cannot be resolved|has no field|has no `|is no name|no occurrence of the path"
     r"|operand is missing|expected the end|cannot continue"
     r"|is a declared record, built with|a λ needs a type here|binders, but its type has room"
 )
