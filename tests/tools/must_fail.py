@@ -127,9 +127,14 @@ def logs(room):
     room.finds(LOGS, "m0.edit: no error in its log", (log, "logic=proved\n"), **STUB)
     only = "x: error: `f` was not admitted (it was rejected), so this cannot be checked\n"
     room.finds(LOGS, "m0.edit: no error in its log", (log, only), **STUB)
-    for said in ("error: `returns` has no `Need-x` that can be named from here\n", "./proofs/two/Answers.antt:1:1: error: `goal` has no `left`\n"):
+    missing = "./specs/Two.antt:1:1: error: `f`: `true` is not in scope: add `use Low.{true}`\n"
+    for said in ("error: `returns` has no `Need-x` that can be named from here\n", "./proofs/two/Answers.antt:1:1: error: `goal` has no `left`\n", missing):
         room.finds(LOGS, "m0.edit: the edit only made the proof unfit", (log, said + SHOWN.format("low", "two")), **STUB)
         room.finds(LOGS, "low/edits/e0.edit: the edit only", ("target/must-fail/low/e0/.log", said), **STUB)
+    kept, shown = room.text(log), "./proofs/Two.antt:1:1: error: `f`: expected type `a`, but this has type `b`\n  `q` is not in scope here\n"
+    room.write(log, shown + SHOWN.format("low", "two"))
+    room.passes(LOGS, "0 that show nothing", **STUB)
+    room.write(log, kept)
     room.finds(LOGS, "low: two is broken by 1 edits", (log, SHOWN.format("low", "one")), **STUB)
     caller = SHOWN.format("low", "one") + "fn low::two: no proof: it calls `low::one`, which is not proved\n"
     room.finds(LOGS, "low: two is broken by 1 edits", (log, caller), **STUB)
