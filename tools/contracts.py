@@ -10,7 +10,8 @@ Usage: python3 tools/contracts.py [LOG]
 - The layer that carries frames opens no definition of a store, and brings in of it only its declared types, its promises, the definitions
   that its contracts and promises name, and the module that passes the promises' proofs on. No crate below it passes on anything of a store.
   A store with specs has its promises in specs/Promises.antt; one without specs defines nothing, so there is nothing of it to bring in.
-LOG is what `rt ci` printed. With it, only the crates of `ASSUMED` may rest on axioms, and only on those named there. Of a crate that rt ci took from an earlier run on the same machine it says nothing more.
+LOG is what `rt ci` printed. With it, only the crates of `ASSUMED` may rest on axioms, and only on those named there. Of a crate that rt ci
+took from an earlier run on the same machine it says nothing more.
 """
 import glob
 import os

@@ -13,7 +13,10 @@ import re
 import sys
 
 WORD = re.compile(r'[^\s(){}.;,@"«»]+')
-DECLARED = re.compile(r'(?m)^ *((?:pub |abbrev |unfoldable )*)(?!ruleset |record |data |use |mod |module )([^\s(){}.;,@"«»:]+)(?: \{[^{}\n]*\})*(?: \([^()\n]*\))* :(?=\s)')
+DECLARED = re.compile(
+    r"(?m)^ *((?:pub |abbrev |unfoldable )*)(?!ruleset |record |data |use |mod |module )"
+    r"""([^\s(){}.;,@"«»:]+)(?: \{[^{}\n]*\})*(?: \([^()\n]*\))* :(?=\s)"""
+)
 RULESET = re.compile(r"(?m)^ *(?:pub )?ruleset ([^\s=]+)")
 IMPORT = re.compile(r"\buse ([^\s;{]+?)\.?(\{[^}]*\})")
 SPEC = re.compile(r"(?<![\w-])([a-z][\w-]*)-spec(?![\w-])")

@@ -143,8 +143,8 @@ def logs(room):
     end = "axioms std: none reached of the 2 declared\nlogic=proved axioms=5\nrt: examples proved"
     more = end.replace("none reached of the 2", "std::process::c::abort (1 of the 2").replace("declared\n", "declared)\n", 1)
     room.finds(command, "os::c::rattle_errno, std::process::c::abort", ("log", end, more))
-    hidden = "libc::write, ... (4 of the 50 declared)"
-    room.finds(command, "examples rests on ..., libc::lseek", ("log", text[: text.index("== onepass")], text[: text.index("== onepass")].replace("libc::write (3 of the 50 declared)", hidden)))
+    hidden, first = "libc::write, ... (4 of the 50 declared)", text[: text.index("== onepass")]
+    room.finds(command, "examples rests on ..., libc::lseek", ("log", first, first.replace("libc::write (3 of the 50 declared)", hidden)))
     room.finds(command, "role is not proved in it", ("log", "rt: role proved", "rt: role NOT PROVED"))
     kept = "rt: role is kept: an earlier run on this machine proved the same files over the same libraries\n"
     room.write("log", text.replace("== role\nlogic=proved\nrt: role proved\n", kept))
