@@ -155,3 +155,8 @@ number_of refusal.LargeCommand = 13
 abbrev pub said_by : Result Answer Refusal → Said
 said_by (Ok a) = said a
 said_by (Err r) = refused (number_of r)
+
+-- the number of the refusal that a test finds, 0 where it finds none
+abbrev pub fault_in : {X : Type 0} → Result X Refusal → ℕ
+fault_in (Ok x) = 0
+fault_in (Err r) = number_of r
