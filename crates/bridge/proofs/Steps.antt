@@ -10,7 +10,7 @@ use Rattle.answers.specs.Refusals.{Check, first_refusal}
 use Rattle.store.specs.declared.Ring.{Ring}
 use Rattle.store.specs.Ring.{Within, room, run}
 use Rattle.state.specs.declared.State.{State}
-use Rattle.state.specs.declared.Outcome.{Outcome}
+use Rattle.state.specs.Outcome.{Outcome}
 use Rattle.answers.specs.declared.Answer.{Answer}
 use Rattle.state.specs.declared.Out.{Out}
 use Rattle.answers.specs.Answers.{said, refused}

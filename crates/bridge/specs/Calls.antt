@@ -5,7 +5,7 @@ use Rattle.registers.specs.Writing.{write_checks, written}
 use Rattle.store.specs.declared.Ring.{Ring}
 use Rattle.store.specs.Ring.{room, run}
 use Rattle.state.specs.declared.State.{State}
-use Rattle.state.specs.declared.Outcome.{Outcome}
+use Rattle.state.specs.Outcome.{Outcome}
 use Rattle.state.specs.declared.Out.{Out}
 use Rattle.bridge.specs.declared.Told.{Told}
 use Rattle.answers.specs.declared.Answer.TheVariants as answer
