@@ -1,5 +1,7 @@
 -- The registers by number: what each carries, and its start value.
-use Rattle.std.specs.Prelude.{ℕ, ◌+◌, Bool, false, cond, ◌||◌, List, [], ◌∷◌, eqb}
+use Rattle.std.specs.Prelude.{ℕ, ◌+◌, Bool, false, cond, ◌||◌, List, [], ◌∷◌, eqb, Option, Some, None}
+use Rattle.registers.specs.declared.Contents.{Contents}
+use Rattle.registers.specs.declared.Contents.TheVariants.{Bits, Character}
 use Rattle.registers.specs.declared.Registers.{Registers}
 
 -- what a register carries: some bits of four, written as their sum (bit 3 is 8, bit 0 is 1), or a whole character
@@ -46,6 +48,10 @@ has_row (r ∷ rs) n = eqb n r.number || has_row rs n
 
 unfoldable pub carried_of : ℕ → ℕ
 carried_of n = (row_in table n).carries
+
+-- the code's word for it
+unfoldable pub carries : ℕ → Option Contents
+carries k = cond (eqb k nothing) None (cond (eqb k character) (Some Character) (Some (Bits k)))
 
 unfoldable pub start_of : ℕ → ℕ
 start_of n = (row_in table n).start

@@ -1,10 +1,10 @@
 //! The registers that the bridge carries, kept apart from the rest of its state: their table, and writing one by number.
 #![tactic(auto)]
 
-ghost use Rattle.std.specs.Prelude.{◌≡◌, ◌%◌, cond};
+ghost use Rattle.std.specs.Prelude.{ℕ, ◌≡◌, ◌%◌, cond, Some};
 ghost use Rattle.answers.specs.Answers.{fault_in};
 ghost use Rattle.answers.specs.Refusals.{first_refusal};
-ghost use Rattle.registers.specs.Table.{carried_of, start_registers};
+ghost use Rattle.registers.specs.Table.{carried_of, carries, start_registers};
 ghost use Rattle.registers.specs.Bits.{too_large, bit_not_carried, in_range};
 ghost use Rattle.registers.specs.Writing.{write_checks, written};
 ghost use Rattle.registers.specs.RegistersFit.{registers_fit};
@@ -29,31 +29,12 @@ pub struct Registers {
     pub c05: u8,
 }
 
-// By number: 0 not carried, 1 to 15 the bits of a control register, 16 a character.
-const CARRIED: [u8; 22] = [
-    9, // R00: bits 3 and 0
-    15, // R01: all four
-    5, // R02: bits 2 and 0
-    0, // R03
-    0, // R04
-    0, // R05
-    0, // R06
-    0, // R07
-    0, // R08
-    0, // R09
-    12, // R10: bits 3 and 2
-    8, // R11: bit 3
-    0, // R12
-    0, // no register
-    0, // no register
-    0, // no register
-    16, // C00
-    16, // C01
-    16, // C02
-    16, // C03
-    16, // C04
-    16, // C05
-];
+// What a register carries: these bits of four, written as their sum, or a whole character.
+#[derive(Clone, Copy)]
+pub enum Contents {
+    Bits(u8),
+    Character,
+}
 
 // The registers after create and reset.
 pub fn start() -> Registers
@@ -74,43 +55,55 @@ pub fn start() -> Registers
     }
 }
 
-// What the register of this number carries, as in the table; 0 past its end.
-pub fn carried(n: u32) -> u8
-    ensures { result ≡ carried_of n }
+// What the register of this number carries; none where there is no such register, or the bridge doesn't carry it.
+pub fn carried(n: u32) -> Option<Contents>
+    ensures { result ≡ carries (carried_of n) }
 {
-    if n < 22 {
-        let at = n as usize;
-        CARRIED[at]
-    } else {
-        0
+    match n {
+        0 => Some(Contents::Bits(9)), // R00: bits 3 and 0
+        1 => Some(Contents::Bits(15)), // R01: all four
+        2 => Some(Contents::Bits(5)), // R02: bits 2 and 0
+        10 => Some(Contents::Bits(12)), // R10: bits 3 and 2
+        11 => Some(Contents::Bits(8)), // R11: bit 3
+        16..=21 => Some(Contents::Character),
+        _ => None,
     }
 }
 
-// Whether a value is above what a register that carries k can hold.
-fn too_large(k: u8, v: u32) -> bool
-    ensures { result ≡ too_large k v }
+// Whether a value is above what a register that carries this can hold.
+fn too_large(k: Contents, v: u32) -> bool
+    ensures { (n : ℕ) → Some k ≡ carries n → result ≡ too_large n v }
 {
-    if k == 16 { v > 255 } else { v > 15 }
+    match k {
+        Contents::Character => v > 255,
+        Contents::Bits(_) => v > 15,
+    }
 }
 
-// Whether a control value has a bit that is not among the carried bits k.
-fn bit_not_carried(k: u8, v: u32) -> bool
-    ensures { result ≡ bit_not_carried k v }
+// Whether a control value has a bit that is not among those carried.
+fn bit_not_carried(k: Contents, v: u32) -> bool
+    ensures { (n : ℕ) → Some k ≡ carries n → result ≡ bit_not_carried n v }
 {
-    !(k == 16)
-        & (((v / 1 % 2 == 1) & !(k / 1 % 2 == 1))
-            | ((v / 2 % 2 == 1) & !(k / 2 % 2 == 1))
-            | ((v / 4 % 2 == 1) & !(k / 4 % 2 == 1))
-            | ((v / 8 % 2 == 1) & !(k / 8 % 2 == 1)))
+    match k {
+        Contents::Character => false,
+        Contents::Bits(b) => {
+            ((v / 1 % 2 == 1) & !(b / 1 % 2 == 1))
+                | ((v / 2 % 2 == 1) & !(b / 2 % 2 == 1))
+                | ((v / 4 % 2 == 1) & !(b / 4 % 2 == 1))
+                | ((v / 8 % 2 == 1) & !(b / 8 % 2 == 1))
+        }
+    }
 }
 
 // Whether the register of this number can hold the value.
 fn in_range(n: u32, x: u8) -> bool
     ensures { result ≡ in_range (carried_of n) x }
 {
-    let k = carried(n);
-    let v = x as u32;
-    !too_large(k, v) & !bit_not_carried(k, v)
+    let v = u32::from(x);
+    match carried(n) {
+        Some(k) => !too_large(k, v) & !bit_not_carried(k, v),
+        None => x == 0,
+    }
 }
 
 // The new value for the register that is written, the old one for every other.
@@ -144,10 +137,9 @@ pub fn written(g: Registers, n: u32, v: u32) -> Registers
 pub fn refused(g: Registers, n: u32, v: u32) -> Result<(), Refusal>
     ensures { fault_in result ≡ first_refusal (write_checks g n v) }
 {
-    let k = carried(n);
-    if k == 0 {
+    let Some(k) = carried(n) else {
         return Err(Refusal::NotCarried);
-    }
+    };
     if too_large(k, v) {
         return Err(Refusal::LargeValue);
     }

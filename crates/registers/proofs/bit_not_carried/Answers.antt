@@ -1,9 +1,11 @@
-use borrow.Author.Rules.{rules}
 use Rattle.registers.specs.Bits.{bit_not_carried}
+use Rattle.registers.proofs.Wording.{character_is, bits_are}
 use Rattle.registers.proofs.bit_not_carried.Goals as goal
 
--- `registers::bit_not_carried` meets its contract: it is the definition, bit by bit.
-
-pub returns : goal.returns
+pub returns-in-Character : goal.returns-in-Character
 unfolding bit_not_carried
-returns c = search rules
+returns-in-Character c n e = let q = character_is n (cc) in rw q
+
+pub returns-in-Bits : goal.returns-in-Bits
+unfolding bit_not_carried
+returns-in-Bits c n e = let q = bits_are n c.in-Bits.b (cc) in rw (q.1, q.0)

@@ -1,13 +1,11 @@
-use Rattle.branches.proofs.Branches.{branches}
 use Rattle.registers.specs.Bits.{too_large}
+use Rattle.registers.proofs.Wording.{character_is, bits_are}
 use Rattle.registers.proofs.too_large.Goals as goal
 
--- `registers::too_large` meets its contract: each way out rewrites the definition with the test that led there.
-
-pub returns-then-k-eq16 : goal.returns-then-k-eq16
+pub returns-in-Character : goal.returns-in-Character
 unfolding too_large
-returns-then-k-eq16 c = search branches
+returns-in-Character c n e = let q = character_is n (cc) in rw q
 
-pub returns-else-k-eq16 : goal.returns-else-k-eq16
+pub returns-in-Bits : goal.returns-in-Bits
 unfolding too_large
-returns-else-k-eq16 c = search branches
+returns-in-Bits c n e = let q = bits_are n c.in-Bits.field-0 (cc) in rw (q.1)
