@@ -45,11 +45,8 @@ fn no_state() -> State
 pub fn meaning(b: &[u8]) -> State
     ensures { result ≡ meaning b.now }
 {
-    if b.len() != LENGTH {
-        return no_state();
+    match <&[u8; LENGTH]>::try_from(b) {
+        Ok(block) if testing::right(block) => reading::unpack(block),
+        _ => no_state(),
     }
-    if !testing::right(b) {
-        return no_state();
-    }
-    reading::unpack(b)
 }

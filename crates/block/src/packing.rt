@@ -9,34 +9,16 @@ use state::State;
 pub fn packed_head(s: State) -> [u8; 27]
     ensures { result ≡ packed_head s }
 {
+    let margin = s.margin.to_le_bytes();
+    let rx = codec::ring_bytes(s.rx);
+    let tx = codec::ring_bytes(s.tx);
+    let stored = s.counts.stored.to_le_bytes();
+    let lost = s.counts.lost.to_le_bytes();
+    let sent = s.counts.sent.to_le_bytes();
     [
-        VERSION,
-        (s.margin % 256) as u8,
-        (s.margin / 256 % 256) as u8,
-        (s.rx.cap % 256) as u8,
-        (s.rx.cap / 256 % 256) as u8,
-        (s.rx.oldest % 256) as u8,
-        (s.rx.oldest / 256 % 256) as u8,
-        (s.rx.len % 256) as u8,
-        (s.rx.len / 256 % 256) as u8,
-        (s.tx.cap % 256) as u8,
-        (s.tx.cap / 256 % 256) as u8,
-        (s.tx.oldest % 256) as u8,
-        (s.tx.oldest / 256 % 256) as u8,
-        (s.tx.len % 256) as u8,
-        (s.tx.len / 256 % 256) as u8,
-        (s.counts.stored % 256) as u8,
-        (s.counts.stored / 256 % 256) as u8,
-        (s.counts.stored / 65536 % 256) as u8,
-        (s.counts.stored / 16777216 % 256) as u8,
-        (s.counts.lost % 256) as u8,
-        (s.counts.lost / 256 % 256) as u8,
-        (s.counts.lost / 65536 % 256) as u8,
-        (s.counts.lost / 16777216 % 256) as u8,
-        (s.counts.sent % 256) as u8,
-        (s.counts.sent / 256 % 256) as u8,
-        (s.counts.sent / 65536 % 256) as u8,
-        (s.counts.sent / 16777216 % 256) as u8,
+        VERSION, margin[0], margin[1], rx[0], rx[1], rx[2], rx[3], rx[4], rx[5], tx[0], tx[1],
+        tx[2], tx[3], tx[4], tx[5], stored[0], stored[1], stored[2], stored[3], lost[0], lost[1],
+        lost[2], lost[3], sent[0], sent[1], sent[2], sent[3],
     ]
 }
 
@@ -44,13 +26,14 @@ pub fn packed_head(s: State) -> [u8; 27]
 pub fn packed_tail(s: State) -> [u8; 29]
     ensures { result ≡ packed_tail s }
 {
+    let frame = s.talker.under.frame.to_le_bytes();
     [
         s.talker.role.address,
         s.talker.role.phase,
-        s.talker.role.listener as u8,
-        (s.talker.under.frame % 256) as u8,
-        (s.talker.under.frame / 256 % 256) as u8,
-        s.talker.under.finishing as u8,
+        u8::from(s.talker.role.listener),
+        frame[0],
+        frame[1],
+        u8::from(s.talker.under.finishing),
         s.regs.r00,
         s.regs.r01,
         s.regs.r02,
@@ -62,17 +45,17 @@ pub fn packed_tail(s: State) -> [u8; 29]
         s.regs.c03,
         s.regs.c04,
         s.regs.c05,
-        s.line.holding as u8,
-        s.line.forbidden as u8,
-        s.line.stopped as u8,
-        s.notes.seen.brk as u8,
-        s.notes.seen.overrun as u8,
-        s.notes.seen.key as u8,
-        s.notes.again.brk as u8,
-        s.notes.again.overrun as u8,
-        s.notes.again.key as u8,
-        s.notes.request as u8,
-        s.remote.enabled as u8,
-        s.remote.remote as u8,
+        u8::from(s.line.holding),
+        u8::from(s.line.forbidden),
+        u8::from(s.line.stopped),
+        u8::from(s.notes.seen.brk),
+        u8::from(s.notes.seen.overrun),
+        u8::from(s.notes.seen.key),
+        u8::from(s.notes.again.brk),
+        u8::from(s.notes.again.overrun),
+        u8::from(s.notes.again.key),
+        u8::from(s.notes.request),
+        u8::from(s.remote.enabled),
+        u8::from(s.remote.remote),
     ]
 }

@@ -1,7 +1,8 @@
 // The state that a block is read as.
-ghost use Rattle.std.specs.Prelude.{◌≡◌, length};
-ghost use Rattle.block.specs.Packed.{block_len, state_at, unpacked};
+ghost use Rattle.std.specs.Prelude.{◌≡◌};
+ghost use Rattle.block.specs.Packed.{state_at, unpacked};
 
+use crate::LENGTH;
 use registers::Registers;
 use role::Role;
 use role::remote::Remote;
@@ -10,8 +11,7 @@ use status::Events;
 use talker::{Talker, Under};
 
 // The registers in a block.
-fn registers_at(b: &[u8]) -> Registers
-    requires { length b.now ≡ block_len }
+fn registers_at(b: &[u8; LENGTH]) -> Registers
     ensures { result ≡ (state_at b.now).regs }
 {
     Registers {
@@ -30,8 +30,7 @@ fn registers_at(b: &[u8]) -> Registers
 }
 
 // The talker in a block: its role and the frame under way.
-fn talker_at(b: &[u8]) -> Talker
-    requires { length b.now ≡ block_len }
+fn talker_at(b: &[u8; LENGTH]) -> Talker
     ensures { result ≡ (state_at b.now).talker }
 {
     Talker {
@@ -48,8 +47,7 @@ fn talker_at(b: &[u8]) -> Talker
 }
 
 // The remote flags in a block.
-fn remote_at(b: &[u8]) -> Remote
-    requires { length b.now ≡ block_len }
+fn remote_at(b: &[u8; LENGTH]) -> Remote
     ensures { result ≡ (state_at b.now).remote }
 {
     Remote {
@@ -59,8 +57,7 @@ fn remote_at(b: &[u8]) -> Remote
 }
 
 // The state of the line in a block.
-fn line_at(b: &[u8]) -> Line
-    requires { length b.now ≡ block_len }
+fn line_at(b: &[u8; LENGTH]) -> Line
     ensures { result ≡ (state_at b.now).line }
 {
     Line {
@@ -71,8 +68,7 @@ fn line_at(b: &[u8]) -> Line
 }
 
 // The notes in a block.
-fn notes_at(b: &[u8]) -> Notes
-    requires { length b.now ≡ block_len }
+fn notes_at(b: &[u8; LENGTH]) -> Notes
     ensures { result ≡ (state_at b.now).notes }
 {
     Notes {
@@ -91,8 +87,7 @@ fn notes_at(b: &[u8]) -> Notes
 }
 
 // The counts in a block.
-fn counts_at(b: &[u8]) -> Counts
-    requires { length b.now ≡ block_len }
+fn counts_at(b: &[u8; LENGTH]) -> Counts
     ensures { result ≡ (state_at b.now).counts }
 {
     Counts {
@@ -103,8 +98,8 @@ fn counts_at(b: &[u8]) -> Counts
 }
 
 // The state that the bytes of a block are read as.
-pub fn unpack(b: &[u8]) -> State
-    requires { length b.now ≡ block_len }
+#[tactic(auto, unfolding(codec::specs::Blocks::unpacked))]
+pub fn unpack(b: &[u8; LENGTH]) -> State
     ensures { result ≡ unpacked b.now }
 {
     let margin = codec::read(b, 1);

@@ -1,12 +1,11 @@
 // Whether the bytes of a block are ones that a state is packed as.
-ghost use Rattle.std.specs.Prelude.{◌≡◌, length};
-ghost use Rattle.block.specs.Packed.{block_len, layout};
+ghost use Rattle.std.specs.Prelude.{◌≡◌};
+ghost use Rattle.block.specs.Packed.{layout};
 
-use crate::VERSION;
+use crate::{LENGTH, VERSION};
 
 // Whether the first byte of a block is the version, and every flag of it 1 or 0.
-pub fn right(b: &[u8]) -> bool
-    requires { length b.now ≡ block_len }
+pub fn right(b: &[u8; LENGTH]) -> bool
     ensures { result ≡ layout.right b.now 0 }
 {
     let version = b[0] == VERSION;

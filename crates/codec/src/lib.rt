@@ -3,35 +3,16 @@
 
 ghost use Rattle.std.specs.Prelude.{◌≡◌, ◌++◌, ◌+◌, ◌<◌, length};
 ghost use Rattle.codec.specs.Codec.{two, four};
-ghost use Rattle.codec.specs.Parts.{ring_at, three_right};
+ghost use Rattle.codec.specs.Parts.{ring_at, ring_bytes, three_right};
 
 use store::Ring;
-
-// A byte in more bits, here and in the next two: the caller is asked only for the place that it is read from.
-fn wide(x: u8) -> usize
-    ensures { (result ≡ x) × (result < 256) }
-{
-    x as usize
-}
-
-fn wide16(x: u8) -> u16
-    ensures { (result ≡ x) × (result < 256) }
-{
-    x as u16
-}
-
-fn wide32(x: u8) -> u32
-    ensures { (result ≡ x) × (result < 256) }
-{
-    x as u32
-}
 
 // The size or place in two bytes of a block from i.
 pub fn read(b: &[u8], i: usize) -> usize
     requires { i + 1 < length b.now }
     ensures { result ≡ two.get b.now i }
 {
-    wide(b[i]) + 256 * wide(b[i + 1])
+    usize::from(read16(b, i))
 }
 
 // The frame in two bytes of a block from i.
@@ -39,7 +20,7 @@ pub fn read16(b: &[u8], i: usize) -> u16
     requires { i + 1 < length b.now }
     ensures { result ≡ two.get b.now i }
 {
-    wide16(b[i]) + 256 * wide16(b[i + 1])
+    u16::from_le_bytes([b[i], b[i + 1]])
 }
 
 // The count in four bytes of a block from i.
@@ -47,7 +28,7 @@ pub fn read32(b: &[u8], i: usize) -> u32
     requires { i + 3 < length b.now }
     ensures { result ≡ four.get b.now i }
 {
-    wide32(b[i]) + 256 * wide32(b[i + 1]) + 65536 * wide32(b[i + 2]) + 16777216 * wide32(b[i + 3])
+    u32::from_le_bytes([b[i], b[i + 1], b[i + 2], b[i + 3]])
 }
 
 // The ring in a block from i.
@@ -60,6 +41,16 @@ pub fn ring_at(b: &[u8], i: usize) -> Ring
         oldest: read(b, i + 2),
         len: read(b, i + 4),
     }
+}
+
+// The bytes of a ring: the two low bytes of each of its numbers.
+pub fn ring_bytes(r: Ring) -> [u8; 6]
+    ensures { result ≡ ring_bytes r }
+{
+    let cap = r.cap.to_le_bytes();
+    let oldest = r.oldest.to_le_bytes();
+    let len = r.len.to_le_bytes();
+    [cap[0], cap[1], oldest[0], oldest[1], len[0], len[1]]
 }
 
 // Whether three flags of a block from i are each 1 or 0, and what stands before them is right.

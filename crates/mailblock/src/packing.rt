@@ -9,24 +9,13 @@ use mailstate::State;
 pub fn packed_head(s: State) -> [u8; 17]
     ensures { result ≡ packed_head s }
 {
+    let tobus = codec::ring_bytes(s.tobus.ring);
+    let toloop = codec::ring_bytes(s.toloop.ring);
+    let frame = s.talker.under.frame.to_le_bytes();
+    let held = s.hold.frame.to_le_bytes();
     [
-        VERSION,
-        (s.tobus.ring.cap % 256) as u8,
-        (s.tobus.ring.cap / 256 % 256) as u8,
-        (s.tobus.ring.oldest % 256) as u8,
-        (s.tobus.ring.oldest / 256 % 256) as u8,
-        (s.tobus.ring.len % 256) as u8,
-        (s.tobus.ring.len / 256 % 256) as u8,
-        (s.toloop.ring.cap % 256) as u8,
-        (s.toloop.ring.cap / 256 % 256) as u8,
-        (s.toloop.ring.oldest % 256) as u8,
-        (s.toloop.ring.oldest / 256 % 256) as u8,
-        (s.toloop.ring.len % 256) as u8,
-        (s.toloop.ring.len / 256 % 256) as u8,
-        (s.talker.under.frame % 256) as u8,
-        (s.talker.under.frame / 256 % 256) as u8,
-        (s.hold.frame % 256) as u8,
-        (s.hold.frame / 256 % 256) as u8,
+        VERSION, tobus[0], tobus[1], tobus[2], tobus[3], tobus[4], tobus[5], toloop[0], toloop[1],
+        toloop[2], toloop[3], toloop[4], toloop[5], frame[0], frame[1], held[0], held[1],
     ]
 }
 
@@ -37,27 +26,27 @@ pub fn packed_tail(s: State) -> [u8; 24]
     [
         s.talker.role.address,
         s.talker.role.phase,
-        s.talker.role.listener as u8,
-        s.talker.under.finishing as u8,
+        u8::from(s.talker.role.listener),
+        u8::from(s.talker.under.finishing),
         s.source,
         s.response.line,
         s.bus.role.address,
         s.bus.role.phase,
         s.bus.line,
-        s.bus.role.listener as u8,
-        s.tobus.news.request as u8,
-        s.tobus.news.available as u8,
-        s.tobus.news.again as u8,
-        s.toloop.news.request as u8,
-        s.toloop.news.available as u8,
-        s.toloop.news.again as u8,
-        s.hold.enabled as u8,
-        s.hold.held as u8,
-        s.response.on as u8,
-        s.response.sense as u8,
-        s.bus.serial as u8,
-        s.bus.read as u8,
-        s.bus.configuring as u8,
-        s.bus.polled as u8,
+        u8::from(s.bus.role.listener),
+        u8::from(s.tobus.news.request),
+        u8::from(s.tobus.news.available),
+        u8::from(s.tobus.news.again),
+        u8::from(s.toloop.news.request),
+        u8::from(s.toloop.news.available),
+        u8::from(s.toloop.news.again),
+        u8::from(s.hold.enabled),
+        u8::from(s.hold.held),
+        u8::from(s.response.on),
+        u8::from(s.response.sense),
+        u8::from(s.bus.serial),
+        u8::from(s.bus.read),
+        u8::from(s.bus.configuring),
+        u8::from(s.bus.polled),
     ]
 }

@@ -1,7 +1,8 @@
 // The state that a block is read as.
-ghost use Rattle.std.specs.Prelude.{◌≡◌, ◌+◌, ◌<◌, length};
-ghost use Rattle.mailblock.specs.Packed.{block_len, way_at, state_at, unpacked};
+ghost use Rattle.std.specs.Prelude.{◌≡◌, ◌+◌, ◌<◌};
+ghost use Rattle.mailblock.specs.Packed.{way_at, state_at, unpacked};
 
+use crate::LENGTH;
 use bus::Bus;
 use mailstate::{Hold, State};
 use news::News;
@@ -11,8 +12,8 @@ use talker::{Talker, Under};
 use way::Way;
 
 // A way in a block, its ring from i and its news from j.
-fn way_at(b: &[u8], i: usize, j: usize) -> Way
-    requires { (i + 5 < length b.now) × (j + 2 < length b.now) }
+fn way_at(b: &[u8; LENGTH], i: usize, j: usize) -> Way
+    requires { (i + 5 < LENGTH) × (j + 2 < LENGTH) }
     ensures { result ≡ way_at b.now i j }
 {
     Way {
@@ -26,8 +27,7 @@ fn way_at(b: &[u8], i: usize, j: usize) -> Way
 }
 
 // The talker on the loop in a block: its role and the frame under way.
-fn talker_at(b: &[u8]) -> Talker
-    requires { length b.now ≡ block_len }
+fn talker_at(b: &[u8; LENGTH]) -> Talker
     ensures { result ≡ (state_at b.now).talker }
 {
     Talker {
@@ -44,8 +44,7 @@ fn talker_at(b: &[u8]) -> Talker
 }
 
 // What is held back, in a block.
-fn hold_at(b: &[u8]) -> Hold
-    requires { length b.now ≡ block_len }
+fn hold_at(b: &[u8; LENGTH]) -> Hold
     ensures { result ≡ (state_at b.now).hold }
 {
     Hold {
@@ -56,8 +55,7 @@ fn hold_at(b: &[u8]) -> Hold
 }
 
 // The response to a poll of the loop, in a block.
-fn response_at(b: &[u8]) -> Response
-    requires { length b.now ≡ block_len }
+fn response_at(b: &[u8; LENGTH]) -> Response
     ensures { result ≡ (state_at b.now).response }
 {
     Response {
@@ -68,8 +66,7 @@ fn response_at(b: &[u8]) -> Response
 }
 
 // The device on the bus, in a block.
-fn bus_at(b: &[u8]) -> Bus
-    requires { length b.now ≡ block_len }
+fn bus_at(b: &[u8; LENGTH]) -> Bus
     ensures { result ≡ (state_at b.now).bus }
 {
     Bus {
@@ -87,8 +84,8 @@ fn bus_at(b: &[u8]) -> Bus
 }
 
 // The state that the bytes of a block are read as.
-pub fn unpack(b: &[u8]) -> State
-    requires { length b.now ≡ block_len }
+#[tactic(auto, unfolding(codec::specs::Blocks::unpacked))]
+pub fn unpack(b: &[u8; LENGTH]) -> State
     ensures { result ≡ unpacked b.now }
 {
     let tobus = way_at(b, 1, 27);

@@ -1,22 +1,17 @@
-use mathlib.Core.Path.{ap}
-use mathlib.Core.Bool.{not}
+use mathlib.Core.Path.{◌∙◌}
 use native.Mathlib.Omega.{arith}
-use mathlib.Core.Path.{refl, ◌∙◌}
-use Rattle.mailstate.proofs.Fits.{is_misfit, is_fit}
-use Rattle.codec.proofs.Same.{other_length, state_if_right, none_if_wrong, means, means_none}
+use Rattle.codec.proofs.Same.{right_means, wrong_means, other_means}
 use Rattle.mailblock.specs.Packed.{layout}
 use Rattle.mailblock.proofs.meaning.Goals as goal
+use Rattle.mailblock.proofs.meaning.Goals.{in_default-via-in-Ok+else-right, in_default-via-in_default}
 
-pub returns-then-b-ne-LENGTH : goal.returns-then-b-ne-LENGTH
-returns-then-b-ne-LENGTH c = c.no_state.ensures ∙ means_none layout _ _ _ (other_length layout _ c.if-b-ne-LENGTH.true) refl
+pub returns-in-Ok : goal.returns-in-Ok
+returns-in-Ok c = c.unpack.ensures ∙ right_means layout _ _ _ c.in-Ok.ensures.1 (λ k. omega (arith, c.type_inv.b k)) c.if-right.ensures
 
-pub returns-then-not-right : goal.returns-then-not-right
-returns-then-not-right c =
-    let b = c.args.b.now in
-    c.no_state-then-not-right.ensures ∙ means_none layout _ _ _ (none_if_wrong layout b (is_misfit c.right.ensures (ap not c.if-not-right.true))) refl
-
-pub returns : goal.returns
-returns c =
-    let b = c.args.b.now in
-    let e = is_fit c.right.ensures (ap not c.if-not-right.false) in
-    c.unpack.ensures ∙ means layout _ _ _ (state_if_right layout b c.if-b-ne-LENGTH.false (λ k. omega (arith, c.shared_slice_known-1.given k)) e) refl
+pub returns-in_default : goal.returns-in_default
+returns-in_default c =
+    c.no_state.ensures
+    ∙ elim c.in_default.branch [
+      | in_default-via-in-Ok+else-right w ↦ wrong_means layout _ _ _ w.in-Ok.ensures.1 w.if-right.ensures
+      | in_default-via-in_default w ↦ other_means layout _ _ w.in_default.ensures.1
+    ]
