@@ -1,4 +1,3 @@
-pub mod Composed
 pub mod FitLaws
 pub mod OrderLaws
 pub mod CommandLaws

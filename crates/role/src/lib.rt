@@ -10,7 +10,20 @@ ghost use Rattle.role.specs.RoleFit.{fit_test};
 
 pub mod remote;
 
-// address: 0 to 30 as assigned, 31 while unassigned. phase, of the talker: 0 idle, 1 addressed, 2 active with data, 3 active with status.
+// The address of a device that has none.
+pub const UNASSIGNED: u8 = 31;
+
+// The phases of the talker: no talker, addressed, active with data and active with its status byte.
+pub const IDLE: u8 = 0;
+
+pub const ADDRESSED: u8 = 1;
+
+pub const SENDING_DATA: u8 = 2;
+
+pub const SENDING_STATUS: u8 = 3;
+
+// address: 0 to 30 as assigned, or UNASSIGNED. phase: one of the four above.
+// Kept: the phase is a number and no enum, since a caller can give a state with any number here, and a call must refuse it and not lose it.
 #[derive(Clone, Copy)]
 pub struct Role {
     pub address: u8,
@@ -19,7 +32,7 @@ pub struct Role {
 }
 
 // What a command asks of a device.
-#[derive(Clone, Copy)]
+#[derive(Clone, Copy, PartialEq, Eq)]
 pub enum Order {
     Unlisten,
     Listen,
@@ -49,8 +62,8 @@ pub fn start() -> Role
     ensures { result ≡ start_role }
 {
     Role {
-        address: 31,
-        phase: 0,
+        address: UNASSIGNED,
+        phase: IDLE,
         listener: false,
     }
 }
@@ -59,19 +72,23 @@ pub fn start() -> Role
 pub fn with_phase(r: Role, phase: u8) -> Role
     ensures { result ≡ with_phase r phase }
 {
-    let mut q = r;
-    q.phase = phase;
-    q
+    Role { phase, ..r }
 }
 
 // The address that the device answers to: its home address while it is unassigned.
+#[tactic(auto, unfolding(crate::specs::Orders::own_address))]
 pub fn own_address(home: u8, r: Role) -> u8
     ensures { result ≡ own_address home r }
 {
-    if r.address == 31 { home } else { r.address }
+    if r.address == UNASSIGNED {
+        home
+    } else {
+        r.address
+    }
 }
 
 // The order in 32+n at address a; 31 is tested first, since it is nobody's address.
+#[tactic(auto, unfolding(crate::specs::Orders::listen_order))]
 fn listen_order(a: u8, n: u8) -> Order
     ensures { result ≡ listen_order a n }
 {
@@ -85,6 +102,7 @@ fn listen_order(a: u8, n: u8) -> Order
 }
 
 // The order in 64+n at address a.
+#[tactic(auto, unfolding(crate::specs::Orders::talk_order))]
 fn talk_order(a: u8, n: u8) -> Order
     ensures { result ≡ talk_order a n }
 {
@@ -96,6 +114,7 @@ fn talk_order(a: u8, n: u8) -> Order
 }
 
 // The order in a command that has no address.
+#[tactic(auto, unfolding(crate::specs::Orders::other_order))]
 fn other_order(listener: bool, d: u8) -> Order
     ensures { result ≡ other_order listener d }
 {
@@ -117,6 +136,7 @@ fn other_order(listener: bool, d: u8) -> Order
 }
 
 // The order that a command's data byte is to a device in this role.
+#[tactic(auto, unfolding(crate::specs::Orders::order_of))]
 pub fn order_of(home: u8, r: Role, d: u8) -> Order
     ensures { result ≡ order_of home r d }
 {
@@ -136,63 +156,54 @@ pub fn order_of(home: u8, r: Role, d: u8) -> Order
 pub fn is_clear(o: Order) -> bool
     ensures { result ≡ is_clear o }
 {
-    match o {
-        Order::Clear => true,
-        Order::Unlisten => false,
-        Order::Listen => false,
-        Order::Untalk => false,
-        Order::Talk => false,
-        Order::Deselect => false,
-        Order::Enable => false,
-        Order::Disable => false,
-        Order::Local => false,
-        Order::Unassign => false,
-        Order::Nothing => false,
-    }
+    o == Order::Clear
 }
 
 // The role with an active talker made addressed, as every command does first.
+#[tactic(auto, unfolding(crate::specs::Commands::merely_addressed))]
 pub fn merely_addressed(r: Role) -> Role
     ensures { result ≡ merely_addressed r }
 {
-    let mut q = r;
-    if 2 <= r.phase {
-        q.phase = 1;
+    if SENDING_DATA <= r.phase {
+        with_phase(r, ADDRESSED)
+    } else {
+        r
     }
-    q
 }
 
 // The role after an order, where an active talker is addressed already.
+#[tactic(auto, unfolding(crate::specs::Commands::changed_role))]
 fn changed(r: Role, o: Order) -> Role
     ensures { result ≡ changed_role r o }
 {
-    let mut q = r;
     match o {
-        Order::Unlisten => q.listener = false,
-        Order::Listen => {
-            q.listener = true;
-            q.phase = 0;
-        }
-        Order::Untalk => q.phase = 0,
-        Order::Talk => {
-            q.phase = 1;
-            q.listener = false;
-        }
-        Order::Clear => {}
-        Order::Deselect => {
-            q.phase = 0;
-            q.listener = false;
-        }
-        Order::Enable => {}
-        Order::Disable => {}
-        Order::Local => {}
-        Order::Unassign => q.address = 31,
-        Order::Nothing => {}
+        Order::Unlisten => Role {
+            listener: false,
+            ..r
+        },
+        Order::Listen => Role {
+            listener: true,
+            ..with_phase(r, IDLE)
+        },
+        Order::Untalk => with_phase(r, IDLE),
+        Order::Talk => Role {
+            listener: false,
+            ..with_phase(r, ADDRESSED)
+        },
+        Order::Deselect => Role {
+            listener: false,
+            ..with_phase(r, IDLE)
+        },
+        Order::Unassign => Role {
+            address: UNASSIGNED,
+            ..r
+        },
+        Order::Clear | Order::Enable | Order::Disable | Order::Local | Order::Nothing => r,
     }
-    q
 }
 
 // The role after an order: first an active talker becomes addressed, whatever the order.
+#[tactic(auto, unfolding(crate::specs::Commands::obeyed_role))]
 pub fn obeyed(r: Role, o: Order) -> Role
     ensures { result ≡ obeyed_role r o }
 {
@@ -200,18 +211,19 @@ pub fn obeyed(r: Role, o: Order) -> Role
 }
 
 // What a ready frame with data byte d asks of a device in this role.
+#[tactic(auto, unfolding(crate::specs::ReadyFrames::ready_of))]
 pub fn ready_of(r: Role, d: u8) -> Ready
     ensures { result ≡ ready_of r d }
 {
     let n = d % 32;
     let base = d - n;
-    if (base == 128) & (n <= 30) & (r.address == 31) {
+    if (base == 128) & (n <= 30) & (r.address == UNASSIGNED) {
         Ready::Address
-    } else if (d == 96) & (r.phase == 1) {
+    } else if (d == 96) & (r.phase == ADDRESSED) {
         Ready::Data
-    } else if (d == 97) & (r.phase == 1) {
+    } else if (d == 97) & (r.phase == ADDRESSED) {
         Ready::Status
-    } else if (d == 66) & (r.phase == 2) {
+    } else if (d == 66) & (r.phase == SENDING_DATA) {
         Ready::Finish
     } else {
         Ready::Pass
@@ -222,14 +234,15 @@ pub fn ready_of(r: Role, d: u8) -> Ready
 pub fn assigned(r: Role, d: u8) -> Role
     ensures { result ≡ assigned_role r d }
 {
-    let mut q = r;
-    q.address = d % 32;
-    q
+    Role {
+        address: d % 32,
+        ..r
+    }
 }
 
 // Whether every field is in its range and the device is not talker and listener at once.
 pub fn role_fits(r: Role) -> bool
     ensures { result ≡ fit_test r }
 {
-    (r.address <= 31) & (r.phase <= 3) & !((1 <= r.phase) & r.listener)
+    (r.address <= UNASSIGNED) & (r.phase <= SENDING_STATUS) & !((ADDRESSED <= r.phase) & r.listener)
 }

@@ -5,7 +5,7 @@ ghost use Rattle.role.specs.Remote.{start_remote, obeyed_remote};
 use crate::Order;
 
 // Whether a listen address makes remote, and whether the device is remote.
-#[derive(Clone, Copy)]
+#[derive(Clone, Copy, Default)]
 pub struct Remote {
     pub enabled: bool,
     pub remote: bool,
@@ -15,32 +15,22 @@ pub struct Remote {
 pub fn start() -> Remote
     ensures { result ≡ start_remote }
 {
-    Remote {
-        enabled: false,
-        remote: false,
-    }
+    Remote::default()
 }
 
 // The flags after an order.
+#[tactic(auto, unfolding(crate::specs::Remote::obeyed_remote))]
 pub fn obeyed(m: Remote, o: Order) -> Remote
     ensures { result ≡ obeyed_remote m o }
 {
-    let mut q = m;
     match o {
-        Order::Unlisten => {}
-        Order::Listen => q.remote = q.remote | q.enabled,
-        Order::Untalk => {}
-        Order::Talk => {}
-        Order::Clear => {}
-        Order::Deselect => {}
-        Order::Enable => q.enabled = true,
-        Order::Disable => {
-            q.enabled = false;
-            q.remote = false;
-        }
-        Order::Local => q.remote = false,
-        Order::Unassign => {}
-        Order::Nothing => {}
+        Order::Listen => Remote {
+            remote: m.remote | m.enabled,
+            ..m
+        },
+        Order::Enable => Remote { enabled: true, ..m },
+        Order::Disable => Remote::default(),
+        Order::Local => Remote { remote: false, ..m },
+        _ => m,
     }
-    q
 }
