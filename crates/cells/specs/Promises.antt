@@ -1,3 +1,2 @@
--- What writing the newest cell again promises. The other calls promise what the store of bytes does, in its words; the crates that carry frames
--- know nothing else of either.
+-- What writing the newest cell again promises. The other calls are the store's own; the crates that carry frames know nothing else of either.
 pub use Rattle.cells.specs.Newest.{replaced_cells, Replaced}

@@ -22,7 +22,7 @@ pub struct Item {
 }
 
 // What the oldest bytes decide: Removed takes two bytes and sends nothing, End three, Data one, Wait none.
-#[derive(Clone, Copy)]
+#[derive(Clone, Copy, PartialEq, Eq)]
 pub enum Decision {
     Removed,
     End,

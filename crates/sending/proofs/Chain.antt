@@ -21,7 +21,7 @@ use Rattle.reading.specs.Firsts.{firsts}
 use Rattle.reading.proofs.Firsts.{on_oldest}
 use Rattle.reading.proofs.Received.{map_drop, bytes_received, received_held, part_held}
 use Rattle.reading.proofs.Sends.{takes_known, send_removed, send_end, send_data, send_wait}
-use Rattle.sending.specs.declared.Given.TheVariants.{Nothing, One}
+use Rattle.std.specs.Prelude.{Some, None}
 use Rattle.sending.specs.declared.Sending.{Sending}
 use Rattle.sending.specs.Sending.{given_of, send_held, sent_ring, Sends, is_removed, Left, Goes}
 
@@ -106,7 +106,7 @@ module _ (rule : Rule) (s : List ℕ) (r q : Ring) (f : Fit s r) (l : Left rule 
   unfolding send_held
   data_met o e g = frame_met 0 1 o (takes_held rule s q Data l.fit e) g (send_data rule (held s q) e)
 
-  pub wait_met : decision rule (received_in (held s q)) ≡ Wait → Sends rule s r (record { given = Nothing; ring = q })
+  pub wait_met : decision rule (received_in (held s q)) ≡ Wait → Sends rule s r (record { given = None; ring = q })
   unfolding send_held sent_ring
   wait_met e =
       let whole : send_held rule s r ≡ none (received_in (held s q)) = l.same ∙ send_wait rule (held s q) e in
@@ -136,5 +136,5 @@ decided_met rule s r a b c d f p q t e =
     e ∙ (λ i. decision rule (received (firsts r.len (p i) (q i) (t i)))) ∙ on_oldest rule (held s r) r.len _ _ _ (held_length s r f) refl refl refl
 
 pub one_frame_met : (s : List ℕ) (q : Ring) (control n x : ℕ) (b : Item) (o : Ring) → b ≡ item_of (get_or (held s q) 0 0) → x ≡ made control b.byte →
-    Dropped q n o → Goes s q control n (record { given = One x; ring = o })
-one_frame_met s q control n x b o e m d = record { given = ap One (m ∙ ap (λ (b : Item). made control b.byte) e); dropped = d }
+    Dropped q n o → Goes s q control n (record { given = Some x; ring = o })
+one_frame_met s q control n x b o e m d = record { given = ap Some (m ∙ ap (λ (b : Item). made control b.byte) e); dropped = d }

@@ -1,5 +1,5 @@
 -- The reading rule, a send from the receive store: what it gives, and the ring after it.
-use Rattle.std.specs.Prelude.{ℕ, ◌-◌, ◌%◌, ◌≤◌, ◌≡◌, refl, List, Bool, true, false, get_or}
+use Rattle.std.specs.Prelude.{Option, Some, None, ℕ, ◌-◌, ◌%◌, ◌≤◌, ◌≡◌, refl, List, Bool, true, false, get_or}
 use Rattle.frame.specs.Frame.{made}
 use Rattle.store.specs.declared.Ring.{Ring}
 use Rattle.store.specs.Ring.{Fit, held, drop_ring}
@@ -10,14 +10,12 @@ use Rattle.reading.specs.declared.Decision.TheVariants.{Removed, End, Data, Wait
 use Rattle.reading.specs.Reading.{Sent, none, one, sent_rest, send}
 use Rattle.reading.specs.Received.{Received, received_in, bytes_in, as_held}
 use Rattle.reading.specs.Steps.{decision, cut}
-use Rattle.sending.specs.declared.Given.{Given}
-use Rattle.sending.specs.declared.Given.TheVariants.{Nothing, One}
 use Rattle.sending.specs.declared.Sending.{Sending}
 
 -- the frame of a send, or none
-abbrev pub given_of : Sent Received ℕ → Given
-given_of (none r) = Nothing
-given_of (one f r) = One f
+abbrev pub given_of : Sent Received ℕ → Option ℕ
+given_of (none r) = None
+given_of (one f r) = Some f
 
 -- one send by the reading rule, from the bytes held and the breaks among them
 unfoldable pub send_held : Rule → List ℕ → Ring → Sent Received ℕ
@@ -60,5 +58,5 @@ pub record Skips (rule : Rule) (s : List ℕ) (r q : Ring) : Type 0 where
 
 -- a frame that takes the n oldest bytes
 pub record Goes (s : List ℕ) (q : Ring) (control n : ℕ) (o : Sending) : Type 0 where
-  pub given : o.given ≡ One (made control (get_or (held s q) 0 0 % 256))
+  pub given : o.given ≡ Some (made control (get_or (held s q) 0 0 % 256))
   pub dropped : Dropped q n o.ring

@@ -12,7 +12,7 @@ use borrow.Author.Tests.{le-leb, lt-leb}
 use Rattle.branches.proofs.Branches.{split}
 use Rattle.store.specs.declared.Ring.{Ring}
 use Rattle.store.specs.Ring.{Within, Fit, held, wrap, full, put_ring, put_bytes, drop_ring}
-use Rattle.store.specs.Ring.Basis.{wrap_below, held_length, held_at}
+use Rattle.store.specs.Ring.Basis.{wrap_below, held_length, held_item, held_at}
 use Rattle.store.proofs.Places.{wrap_wrap, wrap_apart}
 
 -- ---- a byte stored where there is room
@@ -20,41 +20,41 @@ use Rattle.store.proofs.Places.{wrap_wrap, wrap_apart}
 abbrev more : Ring → Ring
 more r = record { cap = r.cap; oldest = r.oldest; len = r.len + 1 }
 
-abbrev written : List ℕ → Ring → ℕ → List ℕ
+abbrev written : {A : Type 0} → List A → Ring → A → List A
 written s r b = set s (wrap r.cap (r.oldest + r.len)) b
 
-more_fit : (s : List ℕ) (r : Ring) (b : ℕ) → Fit s r → r.len < r.cap → Fit (written s r b) (more r)
+more_fit : {A : Type 0} (s : List A) (r : Ring) (b : A) → Fit s r → r.len < r.cap → Fit (written s r b) (more r)
 more_fit s r b f h =
     record { cap = simp length-set f.cap; within = record { oldest = f.within.oldest; len = omega arith; small = f.within.small } }
 
-held_more : (s : List ℕ) (r : Ring) (b : ℕ) → Fit s r → r.len < r.cap → held (written s r b) (more r) ≡ held s r ++ (b ∷ [])
+held_more : {A : Type 0} (s : List A) (r : Ring) (b : A) → Fit s r → r.len < r.cap → held (written s r b) (more r) ≡ held s r ++ (b ∷ [])
 held_more s r b f h =
     let f' : Fit (written s r b) (more r) = more_fit s r b f h in
     let at : ℕ = wrap r.cap (r.oldest + r.len) in
     let below : at < length s = omega (arith, wrap_below r.cap (r.oldest + r.len) (omega arith)) in
     let n : length (held (written s r b) (more r)) ≡ r.len + 1 = held_length (written s r b) (more r) f' in
-    ext_get_or 0 (held (written s r b) (more r)) (held s r ++ (b ∷ []))
+    ext_get_or b (held (written s r b) (more r)) (held s r ++ (b ∷ []))
     (n ∙ simp length-append (omega (arith, held_length s r f)))
     (λ i l.
-    held_at (written s r b) (more r) i f' (omega arith)
+    held_item (written s r b) (more r) i b f' (omega arith)
     ∙ ⊎_elim
-    (λ o. get_or-set_other s at (wrap r.cap (r.oldest + i)) b 0 (wrap_apart r.cap r.oldest i r.len f.within.oldest o h)
-    ∙ sym (held_at s r i f o)
-    ∙ sym (get_or-append (held s r) (b ∷ []) 0 i (omega (arith, held_length s r f))))
+    (λ o. get_or-set_other s at (wrap r.cap (r.oldest + i)) b b (wrap_apart r.cap r.oldest i r.len f.within.oldest o h)
+    ∙ sym (held_item s r i b f o)
+    ∙ sym (get_or-append (held s r) (b ∷ []) b i (omega (arith, held_length s r f))))
     (λ o. let e : i ≡ r.len = omega arith in
-    ap (λ (m : ℕ). get_or (written s r b) (wrap r.cap (r.oldest + m)) 0) e
-    ∙ get_or-set_same s at b 0 below
-    ∙ sym (get_or-append_seam (held s r) b [] 0)
-    ∙ ap (λ (m : ℕ). get_or (held s r ++ (b ∷ [])) m 0) (held_length s r f ∙ sym e))
+    ap (λ (m : ℕ). get_or (written s r b) (wrap r.cap (r.oldest + m)) b) e
+    ∙ get_or-set_same s at b b below
+    ∙ sym (get_or-append_seam (held s r) b [] b)
+    ∙ ap (λ (m : ℕ). get_or (held s r ++ (b ∷ [])) m b) (held_length s r f ∙ sym e))
     (split i r.len))
 
 -- ---- a byte offered, by whether the store is full
 
-pub put_room : (s : List ℕ) (r : Ring) (b : ℕ) → r.len < r.cap → put_bytes s r b ≡ set s (wrap r.cap (r.oldest + r.len)) b
+pub put_room : {A : Type 0} (s : List A) (r : Ring) (b : A) → r.len < r.cap → put_bytes s r b ≡ set s (wrap r.cap (r.oldest + r.len)) b
 unfolding put_bytes
 put_room s r b h = simp (lt-leb r.cap r.len h)
 
-pub put_full : (s : List ℕ) (r : Ring) (b : ℕ) → r.cap ≤ r.len → put_bytes s r b ≡ s
+pub put_full : {A : Type 0} (s : List A) (r : Ring) (b : A) → r.cap ≤ r.len → put_bytes s r b ≡ s
 unfolding put_bytes
 put_full s r b h = simp (le-leb r.cap r.len h)
 
@@ -66,7 +66,7 @@ pub ring_full : (r : Ring) → r.cap ≤ r.len → put_ring r ≡ r
 unfolding put_ring
 ring_full r h = simp (le-leb r.cap r.len h)
 
-pub put_size : (s : List ℕ) (r : Ring) (b : ℕ) → length (put_bytes s r b) ≡ length s
+pub put_size : {A : Type 0} (s : List A) (r : Ring) (b : A) → length (put_bytes s r b) ≡ length s
 unfolding put_bytes
 put_size s r b = go (full r)
   where
@@ -74,17 +74,17 @@ put_size s r b = go (full r)
     go true = refl
     go false = length-set s (wrap r.cap (r.oldest + r.len)) b
 
-pub put_fit : (s : List ℕ) (r : Ring) (b : ℕ) → Fit s r → Fit (put_bytes s r b) (put_ring r)
+pub put_fit : {A : Type 0} (s : List A) (r : Ring) (b : A) → Fit s r → Fit (put_bytes s r b) (put_ring r)
 put_fit s r b f =
     ⊎_elim
     (λ l. rw (put_room s r b l, ring_room r l) (more_fit s r b f l))
     (λ g. rw (put_full s r b g, ring_full r g) f)
     (split r.len r.cap)
 
-pub held_put : (s : List ℕ) (r : Ring) (b : ℕ) → Fit s r → r.len < r.cap → held (put_bytes s r b) (put_ring r) ≡ held s r ++ (b ∷ [])
+pub held_put : {A : Type 0} (s : List A) (r : Ring) (b : A) → Fit s r → r.len < r.cap → held (put_bytes s r b) (put_ring r) ≡ held s r ++ (b ∷ [])
 held_put s r b f h = rw (put_room s r b h, ring_room r h) (held_more s r b f h)
 
-pub held_offered : (s : List ℕ) (r : Ring) (b : ℕ) → Fit s r → held (put_bytes s r b) (put_ring r) ≡ held s r ++ cond (full r) [] (b ∷ [])
+pub held_offered : {A : Type 0} (s : List A) (r : Ring) (b : A) → Fit s r → held (put_bytes s r b) (put_ring r) ≡ held s r ++ cond (full r) [] (b ∷ [])
 held_offered s r b f =
     ⊎_elim
     (λ l. held_put s r b f l ∙ simp (lt-leb r.cap r.len l))
@@ -97,7 +97,7 @@ pub drop_within : (r : Ring) (n : ℕ) → Within r → n ≤ r.len → Within (
 unfolding drop_ring
 drop_within r n f h = record { oldest = wrap_below r.cap (r.oldest + n) (omega arith); len = omega arith; small = f.small }
 
-pub drop_fit : (s : List ℕ) (r : Ring) (n : ℕ) → Fit s r → n ≤ r.len → Fit s (drop_ring r n)
+pub drop_fit : {A : Type 0} (s : List A) (r : Ring) (n : ℕ) → Fit s r → n ≤ r.len → Fit s (drop_ring r n)
 unfolding drop_ring
 drop_fit s r n f h = record { cap = f.cap; within = drop_within r n f.within h }
 

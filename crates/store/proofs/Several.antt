@@ -1,5 +1,5 @@
 -- Several bytes stored one after the other, where there is room for all of them. Assumes nothing.
-use Prim.Native.Nat.{ℕ, ◌+◌, ◌≤◌, ◌<◌}
+use Prim.Native.Nat.{◌+◌, ◌≤◌, ◌<◌}
 use native.Mathlib.Omega.{arith}
 use mathlib.Core.Path.{◌≡◌, refl, sym, ap, ◌∙◌}
 use mathlib.Core.List.{List, [], ◌∷◌, ◌++◌, append-nil}
@@ -7,52 +7,49 @@ use lib.ListN.{length}
 use lib.Seq.{append_snoc}
 use Rattle.store.specs.declared.Ring.{Ring}
 use Rattle.store.specs.Ring.{Fit, held, put_ring, put_bytes, puts_ring, puts_bytes}
-use Rattle.store.specs.declared.Offered.{Offered}
+use Rattle.std.specs.Prelude.{Option}
 use Rattle.store.specs.Promises.{Put, Puts}
 use Rattle.store.proofs.Laws.{put_size, put_fit, held_put, ring_len, put_cap}
 
-pub puts_size : (s : List ℕ) (r : Ring) (l : List ℕ) → length (puts_bytes s r l) ≡ length s
+pub puts_size : {A : Type 0} (s : List A) (r : Ring) (l : List A) → length (puts_bytes s r l) ≡ length s
 unfolding puts_bytes
 puts_size s r [] = refl
 puts_size s r (b ∷ l) = puts_size (put_bytes s r b) (put_ring r) l ∙ put_size s r b
 
-pub puts_fit : (s : List ℕ) (r : Ring) (l : List ℕ) → Fit s r → Fit (puts_bytes s r l) (puts_ring r l)
+pub puts_fit : {A : Type 0} (s : List A) (r : Ring) (l : List A) → Fit s r → Fit (puts_bytes s r l) (puts_ring r l)
 unfolding puts_bytes puts_ring
 puts_fit s r [] f = f
 puts_fit s r (b ∷ l) f = puts_fit (put_bytes s r b) (put_ring r) l (put_fit s r b f)
 
-pub puts_cap : (r : Ring) (l : List ℕ) → (puts_ring r l).cap ≡ r.cap
+pub puts_cap : {A : Type 0} (r : Ring) (l : List A) → (puts_ring r l).cap ≡ r.cap
 unfolding puts_ring
 puts_cap r [] = refl
 puts_cap r (b ∷ l) = puts_cap (put_ring r) l ∙ put_cap r
 
-pub puts_len : (r : Ring) (l : List ℕ) → r.len + length l ≤ r.cap → (puts_ring r l).len ≡ r.len + length l
+pub puts_len : {A : Type 0} (r : Ring) (l : List A) → r.len + length l ≤ r.cap → (puts_ring r l).len ≡ r.len + length l
 unfolding puts_ring
 puts_len r [] h = omega arith
 puts_len r (b ∷ l) h =
     let e : (put_ring r).len ≡ r.len + 1 = ring_len r (omega arith) in
     omega (arith, e, puts_len (put_ring r) l (omega (arith, e, put_cap r)))
 
-pub held_puts : (s : List ℕ) (r : Ring) (l : List ℕ) → Fit s r → r.len + length l ≤ r.cap → held (puts_bytes s r l) (puts_ring r l) ≡ held s r ++ l
+pub held_puts : {A : Type 0} (s : List A) (r : Ring) (l : List A) → Fit s r → r.len + length l ≤ r.cap →
+    held (puts_bytes s r l) (puts_ring r l) ≡ held s r ++ l
 unfolding puts_bytes puts_ring
 held_puts s r [] f h = sym (append-nil (held s r))
 held_puts s r (b ∷ l) f h =
     let more : r.len < r.cap = omega arith in
     held_puts (put_bytes s r b) (put_ring r) l (put_fit s r b f) (omega (arith, ring_len r more, put_cap r))
-    ∙ ap (λ (x : List ℕ). x ++ l) (held_put s r b f more)
+    ∙ ap (λ x. x ++ l) (held_put s r b f more)
     ∙ append_snoc (held s r) b l
 
 -- ---- a caller makes up several bytes from the calls that it makes
 
-pub puts_none : (s : List ℕ) (r : Ring) → Puts s r [] s r
+pub puts_none : {A : Type 0} (s : List A) (r : Ring) → Puts s r [] s r
 unfolding puts_bytes puts_ring
 puts_none s r = record { ring = refl; bytes = refl; size = refl }
 
-pub puts_more : {s : List ℕ} {r : Ring} {b : ℕ} {l : List ℕ} {s₁ s₂ : List ℕ} {o₁ : Offered} {o₂ : Ring} → Put s r b s₁ o₁ → Puts s₁ o₁.ring l s₂ o₂ → Puts s r (b ∷ l) s₂ o₂
+pub puts_more : {A : Type 0} {s : List A} {r : Ring} {b : A} {l : List A} {s₁ s₂ : List A} {o₁ : Option Ring} {o₂ : Ring} →
+    Put s r b s₁ o₁ → Puts s₁ (put_ring r) l s₂ o₂ → Puts s r (b ∷ l) s₂ o₂
 unfolding puts_bytes puts_ring
-puts_more {s} {r} {b} {l} {s₁} {s₂} {o₁} {o₂} p q =
-    record {
-      ring = q.ring ∙ ap (λ (x : Ring). puts_ring x l) p.offering.ring;
-      bytes = q.bytes ∙ (λ i. puts_bytes (p.bytes i) (p.offering.ring i) l);
-      size = q.size ∙ p.size;
-    }
+puts_more {r} {l} p q = record { ring = q.ring; bytes = q.bytes ∙ ap (λ x. puts_bytes x (put_ring r) l) p.bytes; size = q.size ∙ p.size }

@@ -1,24 +1,21 @@
 -- What each call of the store promises: first what fixes the result and every byte, then what callers use of it. Then what the store promises of
 -- the definitions that these name. The crates that carry frames know nothing else of it.
-use Rattle.std.specs.Prelude.{ℕ, ◌+◌, ◌-◌, ◌≤◌, min, ◌≡◌, List, [], ◌∷◌, ◌++◌, cond, not, length, take, drop}
+use Rattle.std.specs.Prelude.{ℕ, ◌+◌, ◌-◌, ◌≤◌, ◌<◌, min, ◌≡◌, Option, MatchOption, List, [], ◌∷◌, ◌++◌, cond, length, take, drop}
+use Rattle.std.specs.declared.ops.Range.{Range}
 use Rattle.store.specs.declared.Ring.{Ring}
-use Rattle.store.specs.declared.Offered.{Offered}
-use Rattle.store.specs.declared.Stretch.{Stretch}
-use Rattle.store.specs.Ring.{Within, Fit, held, full, room, put_ring, put_bytes, puts_ring, puts_bytes, drop_ring, run}
+use Rattle.store.specs.Ring.{Within, Fit, held, full, put_ring, put_bytes, puts_ring, puts_bytes, drop_ring, run}
 
--- what a byte offered finds in the ring: whether there is room, the ring after it, and the room that is left
-pub record Offering (r : Ring) (o : Offered) : Type 0 where
-  pub stored : o.stored ≡ not (full r)
-  pub ring : o.ring ≡ put_ring r
-  pub room : o.room ≡ room o.ring
+-- what a byte offered finds in the ring: none where the store is full, and else the ring after it
+abbrev pub Offering : Ring → Option Ring → Type 0
+Offering r o = MatchOption o (r.cap ≤ r.len) (λ q. (r.len < r.cap) × (q ≡ put_ring r))
 
--- a byte b offered: s and r before, s' and o after
-pub record Put (s : List ℕ) (r : Ring) (b : ℕ) (s' : List ℕ) (o : Offered) : Type 0 where
+-- a byte b offered: s and r before, s' after, and the answer o
+pub record Put {A : Type 0} (s : List A) (r : Ring) (b : A) (s' : List A) (o : Option Ring) : Type 0 where
   pub offering : Offering r o
   pub bytes : s' ≡ put_bytes s r b
   pub size : length s' ≡ length s
-  pub fit : Fit s' o.ring
-  pub holds : held s' o.ring ≡ held s r ++ cond (full r) [] (b ∷ [])
+  pub fit : Fit s' (put_ring r)
+  pub holds : held s' (put_ring r) ≡ held s r ++ cond (full r) [] (b ∷ [])
 
 -- the n oldest bytes dropped, of whatever list the ring fits
 pub record Dropped (r : Ring) (n : ℕ) (o : Ring) : Type 0 where
@@ -28,19 +25,19 @@ pub record Dropped (r : Ring) (n : ℕ) (o : Ring) : Type 0 where
   pub holds : (s : List ℕ) → Fit s r → held s o ≡ drop n (held s r)
 
 -- the places of the part shown
-pub record Spanned (r : Ring) (o : Stretch) : Type 0 where
+pub record Spanned (r : Ring) (o : Range ℕ) : Type 0 where
   pub start : o.start ≡ r.oldest
   pub size : o.end - o.start ≡ min r.len (r.cap - r.oldest)
   pub order : o.start ≤ o.end
   pub below : o.end ≤ r.cap
 
 -- the part shown
-pub record Shown (s : List ℕ) (r : Ring) (o : List ℕ) : Type 0 where
+pub record Shown {A : Type 0} (s : List A) (r : Ring) (o : List A) : Type 0 where
   pub bytes : o ≡ run s r
   pub first : o ≡ take (length o) (held s r)
 
 -- several bytes stored, one after the other
-pub record Puts (s : List ℕ) (r : Ring) (l : List ℕ) (s' : List ℕ) (o : Ring) : Type 0 where
+pub record Puts {A : Type 0} (s : List A) (r : Ring) (l : List A) (s' : List A) (o : Ring) : Type 0 where
   pub ring : o ≡ puts_ring r l
   pub bytes : s' ≡ puts_bytes s r l
   pub size : length s' ≡ length s
@@ -48,8 +45,8 @@ pub record Puts (s : List ℕ) (r : Ring) (l : List ℕ) (s' : List ℕ) (o : Ri
 -- ---- of the definitions
 
 -- as many bytes are held as the ring says
-abbrev pub HeldLength : Type 0
-HeldLength = (s : List ℕ) (r : Ring) → Fit s r → length (held s r) ≡ r.len
+abbrev pub HeldLength : Type 0 → Type 0
+HeldLength A = (s : List A) (r : Ring) → Fit s r → length (held s r) ≡ r.len
 
 -- no byte dropped leaves the ring
 abbrev pub DropNone : Type 0
@@ -60,8 +57,8 @@ abbrev pub DropAgain : Type 0
 DropAgain = (r : Ring) (n m : ℕ) → Within r → n + m ≤ r.len → drop_ring (drop_ring r n) m ≡ drop_ring r (n + m)
 
 -- no byte stored, and one stored before the others
-abbrev pub PutsNone : Type 0
-PutsNone = (s : List ℕ) (r : Ring) → Puts s r [] s r
+abbrev pub PutsNone : Type 0 → Type 0
+PutsNone A = (s : List A) (r : Ring) → Puts s r [] s r
 
-abbrev pub PutsMore : List ℕ → Ring → ℕ → List ℕ → List ℕ → List ℕ → Offered → Ring → Type 0
-PutsMore s r b l s₁ s₂ o₁ o₂ = Put s r b s₁ o₁ → Puts s₁ o₁.ring l s₂ o₂ → Puts s r (b ∷ l) s₂ o₂
+abbrev pub PutsMore : {A : Type 0} → List A → Ring → A → List A → List A → List A → Option Ring → Ring → Type 0
+PutsMore s r b l s₁ s₂ o₁ o₂ = Put s r b s₁ o₁ → Puts s₁ (put_ring r) l s₂ o₂ → Puts s r (b ∷ l) s₂ o₂

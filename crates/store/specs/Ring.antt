@@ -1,4 +1,4 @@
--- A store as a ring on a list of numbers: when it fits, what it holds, and what is written.
+-- A store as a ring on a list of items of any one type: when it fits, what it holds, and what is written.
 pub mod Basis
 use Rattle.std.specs.Prelude.{ℕ, ◌+◌, ◌-◌, ◌≤◌, ◌<◌, min, ◌≡◌, List, [], ◌∷◌, ◌++◌, Bool, cond, ◌&&◌, length, take, drop, set, eqb, leb, ltb}
 use Rattle.store.specs.declared.Ring.{Ring}
@@ -10,7 +10,7 @@ pub record Within (r : Ring) : Type 0 where
   pub small : r.cap ≤ 32768
 
 -- the ring fits the list: it is within its capacity, which is the list's length
-pub record Fit (s : List ℕ) (r : Ring) : Type 0 where
+pub record Fit {A : Type 0} (s : List A) (r : Ring) : Type 0 where
   pub cap : r.cap ≡ length s
   pub within : Within r
 
@@ -19,7 +19,7 @@ unfoldable pub fit_test : ℕ → Ring → Bool
 fit_test cap r = ((eqb r.cap cap && ltb r.oldest cap) && leb r.len cap) && leb cap 32768
 
 -- the bytes from oldest to newest: len of them from the oldest place, in the list written out twice
-pub held : List ℕ → Ring → List ℕ
+pub held : {A : Type 0} → List A → Ring → List A
 held s r = take r.len (drop r.oldest (s ++ s))
 
 -- Sizes and refusals, places: after the last place comes place 0
@@ -43,15 +43,15 @@ unfoldable pub put_ring : Ring → Ring
 put_ring r = record { cap = r.cap; oldest = r.oldest; len = cond (full r) r.len (r.len + 1) }
 
 -- Sizes and refusals, places: a byte is written behind the newest one, unless the store is full, and nothing else is
-unfoldable pub put_bytes : List ℕ → Ring → ℕ → List ℕ
+unfoldable pub put_bytes : {A : Type 0} → List A → Ring → A → List A
 put_bytes s r b = cond (full r) s (set s (wrap r.cap (r.oldest + r.len)) b)
 
 -- several bytes, one after the other
-unfoldable pub puts_ring : Ring → List ℕ → Ring
+unfoldable pub puts_ring : {A : Type 0} → Ring → List A → Ring
 puts_ring r [] = r
 puts_ring r (b ∷ l) = puts_ring (put_ring r) l
 
-unfoldable pub puts_bytes : List ℕ → Ring → List ℕ → List ℕ
+unfoldable pub puts_bytes : {A : Type 0} → List A → Ring → List A → List A
 puts_bytes s r [] = s
 puts_bytes s r (b ∷ l) = puts_bytes (put_bytes s r b) (put_ring r) l
 
@@ -60,5 +60,5 @@ unfoldable pub drop_ring : Ring → ℕ → Ring
 drop_ring r n = record { cap = r.cap; oldest = wrap r.cap (r.oldest + n); len = r.len - n }
 
 -- Sizes and refusals, showing: from the oldest byte on, as far as the bytes stand together
-pub run : List ℕ → Ring → List ℕ
+pub run : {A : Type 0} → List A → Ring → List A
 run s r = take (min r.len (length s - r.oldest)) (drop r.oldest s)

@@ -1,9 +1,12 @@
-//! A store: a ring of bytes on a lent slice. The bookkeeping is a struct by value, which knows the slice's length.
+//! A store: a ring of bytes on a lent slice, or of items of any other type that is copied. The bookkeeping is a struct by value, which knows the
+//! slice's length.
 #![tactic(auto)]
 
 ghost use Rattle.std.specs.Prelude.{◌≡◌, ◌+◌, ◌≤◌, ◌<◌, get_or};
 ghost use Rattle.store.specs.Ring.{Within, Fit, fit_test, wrap, held, empty_ring, room};
 ghost use Rattle.store.specs.Promises.{Offering, Put, Dropped, Spanned, Shown};
+
+use std::ops::Range;
 
 // The capacity, the place of the oldest byte, and how many bytes are held.
 #[derive(Clone, Copy)]
@@ -13,22 +16,8 @@ pub struct Ring {
     pub len: usize,
 }
 
-// The answer to a byte offered: whether it was stored, the ring after it, and the room that is left.
-#[derive(Clone, Copy)]
-pub struct Offered {
-    pub stored: bool,
-    pub ring: Ring,
-    pub room: usize,
-}
-
-// The places from start up to, and without, end.
-#[derive(Clone, Copy)]
-pub struct Stretch {
-    pub start: usize,
-    pub end: usize,
-}
-
 // The place p, gone round by a comparison where it is past the last.
+#[tactic(auto, using(crate::proofs::Laws::wrap_low, crate::proofs::Laws::wrap_high))]
 fn place(cap: usize, p: usize) -> usize
     requires { p < cap + cap }
     ensures { (result ≡ wrap cap p) × (result < cap) }
@@ -37,6 +26,7 @@ fn place(cap: usize, p: usize) -> usize
 }
 
 // Whether a ring fits a slice of this length: what a caller asks of a ring that was handed in.
+#[tactic(auto, unfolding(crate::specs::Ring::fit_test))]
 pub fn ring_fits(cap: usize, r: Ring) -> bool
     ensures { result ≡ fit_test cap r }
 {
@@ -48,7 +38,7 @@ pub fn emptied(cap: usize) -> Ring
     ensures { result ≡ empty_ring cap }
 {
     Ring {
-        cap: cap,
+        cap,
         oldest: 0,
         len: 0,
     }
@@ -68,108 +58,70 @@ pub fn place_of(r: Ring, k: usize) -> usize
     requires k_le_len { k ≤ r.len }
     ensures { (result ≡ wrap r.cap (r.oldest + k)) × (result < r.cap) }
 {
-    let oldest = r.oldest;
-    place(r.cap, oldest + k)
+    place(r.cap, r.oldest + k)
 }
 
-// What a byte offered finds: whether it is stored, the ring after it and the room that is left.
-pub fn offer(r: Ring) -> Offered
+// The ring after a byte offered, or none where the store is full.
+#[tactic(auto, using(crate::proofs::Laws::ring_room))]
+pub fn offer(r: Ring) -> Option<Ring>
     requires { Within r }
     ensures { Offering r result }
 {
-    let cap = r.cap;
-    let len = r.len;
-    if len >= cap {
-        return Offered {
-            stored: false,
-            ring: r,
-            room: 0,
-        };
+    if r.len >= r.cap {
+        return None;
     }
-    let more = len + 1;
-    let ring = Ring {
-        cap: cap,
-        oldest: r.oldest,
-        len: more,
-    };
-    let left = room(ring);
-    Offered {
-        stored: true,
-        ring: ring,
-        room: left,
-    }
+    Some(Ring {
+        len: r.len + 1,
+        ..r
+    })
 }
 
 // The ring without the n oldest bytes, which stay written where they are.
+#[tactic(auto, using(crate::proofs::Laws::drop_met))]
 pub fn drop_oldest(r: Ring, n: usize) -> Ring
     requires within { Within r }
     requires n_le_len { n ≤ r.len }
     ensures { Dropped r n result }
 {
-    let cap = r.cap;
-    let oldest = r.oldest;
-    let len = r.len;
-    let at = place(cap, oldest + n);
-    let left = len - n;
     Ring {
-        cap: cap,
-        oldest: at,
-        len: left,
+        oldest: place(r.cap, r.oldest + n),
+        len: r.len - n,
+        ..r
     }
 }
 
-// The longest unbroken run of places from the oldest byte.
-pub fn unbroken(r: Ring) -> Stretch
+// The places of the longest unbroken run from the oldest byte.
+pub fn unbroken(r: Ring) -> Range<usize>
     requires { Within r }
     ensures { Spanned r result }
 {
-    let oldest = r.oldest;
-    let len = r.len;
-    if len <= r.cap - oldest {
-        let end = oldest + len;
-        Stretch {
-            start: oldest,
-            end: end,
-        }
-    } else {
-        Stretch {
-            start: oldest,
-            end: r.cap,
-        }
-    }
+    r.oldest..(r.oldest + r.len).min(r.cap)
 }
 
-// Stores b behind the newest byte; a full store stays as it was.
-pub fn put(s: &mut [u8], r: Ring, b: u8) -> Offered
+// Stores b behind the newest item and gives the ring after it; a full store stays as it was, and gives none.
+pub fn put<T: Copy>(s: &mut [T], r: Ring, b: T) -> Option<Ring>
     requires { Fit s.old r }
     ensures { Put s.old r b s.new result }
 {
-    let o = offer(r);
-    if o.stored {
-        let at = place_of(r, r.len);
-        s[at] = b;
-        return o;
-    }
-    o
+    let after = offer(r)?;
+    s[place_of(r, r.len)] = b;
+    Some(after)
 }
 
-// The k-th oldest byte, from 0.
-pub fn look(s: &[u8], r: Ring, k: usize) -> u8
+// The k-th oldest item, from 0.
+#[tactic(auto, using(crate::proofs::Laws::held_item))]
+pub fn look<T: Copy>(s: &[T], r: Ring, k: usize) -> T
     requires fit { Fit s.now r }
     requires k_lt_len { k < r.len }
-    ensures { result ≡ get_or (held s.now r) k 0 }
+    ensures { (d : T) → result ≡ get_or (held s.now r) k d }
 {
-    let at = place_of(r, k);
-    s[at]
+    s[place_of(r, k)]
 }
 
-// The longest unbroken run of bytes from the oldest one.
-pub fn show(s: &[u8], r: Ring) -> &[u8]
+// The longest unbroken run of items from the oldest one.
+pub fn show<T>(s: &[T], r: Ring) -> &[T]
     requires { Fit s.now r }
     ensures { Shown s.now r result.now }
 {
-    let p = unbroken(r);
-    let start = p.start;
-    let end = p.end;
-    &s[start..end]
+    &s[unbroken(r)]
 }

@@ -1,9 +1,8 @@
 use Rattle.store.proofs.Laws.{put_at, put_kept}
 use Rattle.store.proofs.put.Goals as goal
 
-pub returns-then-o : goal.returns-then-o
-returns-then-o c =
-    put_at c.args.s.now c.args.r c.args.b c.place_of-at.result c.offer-o.result c.requires c.offer-o.ensures c.if-o.true c.place_of-at.ensures.0
+pub returns-in_err-after : goal.returns-in_err-after
+returns-in_err-after g c = rw c.from_residual.ensures (put_kept _ _ _ c.requires c.in_err-after.ensures)
 
 pub returns : goal.returns
-returns c = put_kept c.args.s.now c.args.r c.args.b c.offer-o.result c.requires c.offer-o.ensures c.if-o.false
+returns g c = put_at _ _ _ _ _ c.requires c.in_ok-after.ensures c.place_of.ensures.0
