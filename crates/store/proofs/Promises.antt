@@ -1,7 +1,7 @@
 -- The proofs of what the store promises: all that the crates that carry frames bring in of its proofs. Assumes nothing.
-use Rattle.std.specs.Prelude.{Option}
 use mathlib.Core.List.{List}
 use Rattle.store.specs.declared.Ring.{Ring}
+use Rattle.store.specs.declared.Offered.{Offered}
 use Rattle.store.specs.Promises.{HeldLength, DropNone, DropAgain, PutsNone, PutsMore}
 use Rattle.store.proofs.Laws as laws
 use Rattle.store.proofs.Several as several
@@ -18,5 +18,5 @@ drop_again = laws.drop_again
 pub puts_none : {A : Type 0} → PutsNone A
 puts_none = several.puts_none
 
-pub puts_more : {A : Type 0} {s : List A} {r : Ring} {b : A} {l : List A} {s₁ s₂ : List A} {o₁ : Option Ring} {o₂ : Ring} → PutsMore s r b l s₁ s₂ o₁ o₂
+pub puts_more : {A : Type 0} {s : List A} {r : Ring} {b : A} {l : List A} {s₁ s₂ : List A} {o₁ : Offered} {o₂ : Ring} → PutsMore s r b l s₁ s₂ o₁ o₂
 puts_more = several.puts_more

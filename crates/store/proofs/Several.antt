@@ -6,8 +6,8 @@ use mathlib.Core.List.{List, [], ◌∷◌, ◌++◌, append-nil}
 use lib.ListN.{length}
 use lib.Seq.{append_snoc}
 use Rattle.store.specs.declared.Ring.{Ring}
+use Rattle.store.specs.declared.Offered.{Offered}
 use Rattle.store.specs.Ring.{Fit, held, put_ring, put_bytes, puts_ring, puts_bytes}
-use Rattle.std.specs.Prelude.{Option}
 use Rattle.store.specs.Promises.{Put, Puts}
 use Rattle.store.proofs.Laws.{put_size, put_fit, held_put, ring_len, put_cap}
 
@@ -49,7 +49,7 @@ pub puts_none : {A : Type 0} (s : List A) (r : Ring) → Puts s r [] s r
 unfolding puts_bytes puts_ring
 puts_none s r = record { ring = refl; bytes = refl; size = refl }
 
-pub puts_more : {A : Type 0} {s : List A} {r : Ring} {b : A} {l : List A} {s₁ s₂ : List A} {o₁ : Option Ring} {o₂ : Ring} →
+pub puts_more : {A : Type 0} {s : List A} {r : Ring} {b : A} {l : List A} {s₁ s₂ : List A} {o₁ : Offered} {o₂ : Ring} →
     Put s r b s₁ o₁ → Puts s₁ (put_ring r) l s₂ o₂ → Puts s r (b ∷ l) s₂ o₂
 unfolding puts_bytes puts_ring
 puts_more {r} {l} p q = record { ring = q.ring; bytes = q.bytes ∙ ap (λ x. puts_bytes x (put_ring r) l) p.bytes; size = q.size ∙ p.size }

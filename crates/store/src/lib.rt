@@ -16,6 +16,13 @@ pub struct Ring {
     pub len: usize,
 }
 
+// The answer to a byte offered: the ring after it, none where nothing went in, and the room that is left.
+#[derive(Clone, Copy)]
+pub struct Offered {
+    pub after: Option<Ring>,
+    pub room: usize,
+}
+
 // The place p, gone round by a comparison where it is past the last.
 #[tactic(auto, using(crate::proofs::Laws::wrap_low, crate::proofs::Laws::wrap_high))]
 fn place(cap: usize, p: usize) -> usize
@@ -61,19 +68,25 @@ pub fn place_of(r: Ring, k: usize) -> usize
     place(r.cap, r.oldest + k)
 }
 
-// The ring after a byte offered, or none where the store is full.
-#[tactic(auto, using(crate::proofs::Laws::ring_room))]
-pub fn offer(r: Ring) -> Option<Ring>
+// What a byte offered finds: the ring after it, none where the store is full, and the room that is left.
+pub fn offer(r: Ring) -> Offered
     requires { Within r }
     ensures { Offering r result }
 {
     if r.len >= r.cap {
-        return None;
+        return Offered {
+            after: None,
+            room: 0,
+        };
     }
-    Some(Ring {
+    let after = Ring {
         len: r.len + 1,
         ..r
-    })
+    };
+    Offered {
+        after: Some(after),
+        room: room(after),
+    }
 }
 
 // The ring without the n oldest bytes, which stay written where they are.
@@ -98,14 +111,16 @@ pub fn unbroken(r: Ring) -> Range<usize>
     r.oldest..(r.oldest + r.len).min(r.cap)
 }
 
-// Stores b behind the newest item and gives the ring after it; a full store stays as it was, and gives none.
-pub fn put<T: Copy>(s: &mut [T], r: Ring, b: T) -> Option<Ring>
+// Stores b behind the newest item; a full store stays as it was.
+pub fn put<T: Copy>(s: &mut [T], r: Ring, b: T) -> Offered
     requires { Fit s.old r }
     ensures { Put s.old r b s.new result }
 {
-    let after = offer(r)?;
-    s[place_of(r, r.len)] = b;
-    Some(after)
+    let o = offer(r);
+    if o.after.is_some() {
+        s[place_of(r, r.len)] = b;
+    }
+    o
 }
 
 // The k-th oldest item, from 0.
