@@ -1,14 +1,13 @@
 -- Line bytes in and out, and register writes. Assumes nothing.
-use Rattle.std.proofs.Common.{◌≡◌, ℕ, ◌*◌, ◌<◌, ◌≤◌, Bool, true, false, cond, not, ◌&&◌, ◌||◌, eqb, leb, List, [], ◌++◌, length, get_or, sym, refl, ap, ◌∙◌, subst, arith, length-append, eq-eqb, ne_eqb}
+use Rattle.std.proofs.Common.{◌≡◌, ℕ, ◌*◌, ◌<◌, ◌≤◌, Bool, true, false, cond, not, ◌&&◌, ◌||◌, eqb, leb, List, get_or, sym, refl, ap, subst, arith, eq-eqb, ne_eqb}
 use mathlib.Core.Bool.{false≢true}
-use borrow.Author.Tests.{eqb-false}
+use borrow.Author.Tests.{eqb-false, le-leb, lt-leb}
 use Rattle.registers.specs.declared.Registers.{Registers}
 use Rattle.registers.specs.Meanings.{protocol_on, stop}
 use Rattle.store.specs.declared.Ring.{Ring}
-use Rattle.store.specs.declared.Offered.{Offered}
-use Rattle.store.specs.Ring.{Within, Fit, held, full, room}
+use Rattle.std.specs.Prelude.{Some, None}
+use Rattle.store.specs.Ring.{Within, held, room}
 use Rattle.store.specs.Promises.{Put, Dropped}
-use Rattle.store.proofs.Promises.{held_length}
 use Rattle.state.specs.declared.State.{State}
 use Rattle.state.specs.declared.Out.{Out}
 use Rattle.state.specs.declared.Out.TheVariants.{Own, Held, Nothing}
@@ -34,51 +33,29 @@ module _ (s : State) (rx : List ℕ) (b : ℕ) where
   taken_flow t left e q l h =
       record { state = rw (q, e); room = ring_told t (flowed s b) left q l; within = ring_within t (flowed s b) q h; bytes = rw e; size = refl }
 
-  module _ (rx' : List ℕ) (o : Offered) (e : is_go_or_stop s.regs b ≡ false) (p : Put rx s.rx b rx' o) where
-    put_written : rx' ≡ line_bytes s rx b
-    unfolding line_bytes
-    put_written = rw e p.bytes
-
-    pub taken_stored : (t : State) → o.stored ≡ true → t ≡ stored_with s o.ring → Taken s rx b rx' (record { state = t; room = o.room })
-    unfolding line_state stored_with
-    taken_stored t h q =
-        let free : full s.rx ≡ false = not_is (full s.rx) (sym p.offering.stored ∙ h) in
+  module _ (rx' : List ℕ) (t : State) (e : is_go_or_stop s.regs b ≡ false) where
+    pub taken_stored : (q : Ring) (left : ℕ) → Put rx s.rx b rx' (Some q) → t ≡ stored_with s q → left ≡ room q →
+        Taken s rx b rx' (record { state = t; room = left })
+    unfolding line_state line_bytes stored_with
+    taken_stored q left p h l =
         record {
-          state = rw (e, free) (q ∙ ap (stored_with s) p.offering.ring);
-          room = ring_told t (stored_with s o.ring) o.room q p.offering.room;
-          within = ring_within t (stored_with s o.ring) q p.fit.within;
-          bytes = put_written;
+          state = rw (e, lt-leb s.rx.cap s.rx.len p.offering.0, ← p.offering.1) h;
+          room = ring_told t (stored_with s q) left h l;
+          within = ring_within t (stored_with s q) h (subst Within (sym p.offering.1) p.fit.within);
+          bytes = rw e p.bytes;
           size = p.size;
         }
-      where
-        not_is : (x : Bool) → not x ≡ true → x ≡ false
-        not_is true h = sym h
-        not_is false h = refl
 
-    -- a byte that is lost leaves the room that there was
-    room_stays : Fit rx s.rx → full s.rx ≡ true → room o.ring ≡ room s.rx
-    room_stays f none =
-        let holds : held rx' o.ring ≡ held rx s.rx ++ [] = rw none at p.holds in
-        let before = held_length rx s.rx f in
-        let after = held_length rx' o.ring p.fit in
-        let same = ap length holds ∙ length-append (held rx s.rx) [] in
-        omega (arith, before, after, same, f.cap, p.fit.cap, p.size)
-
-    pub taken_lost : (t : State) → o.stored ≡ false → t ≡ lost_state s → Fit rx s.rx → Taken s rx b rx' (record { state = t; room = o.room })
-    unfolding line_state lost_state
-    taken_lost t h q f =
-        let none : full s.rx ≡ true = not_is (full s.rx) (sym p.offering.stored ∙ h) in
+    pub taken_lost : Put rx s.rx b rx' None → t ≡ lost_state s → Within s.rx → Taken s rx b rx' (record { state = t; room = 0 })
+    unfolding line_state line_bytes lost_state
+    taken_lost p h f =
         record {
-          state = rw (e, none) q;
-          room = ring_told t (lost_state s) o.room q (p.offering.room ∙ room_stays f none);
-          within = ring_within t (lost_state s) q f.within;
-          bytes = put_written;
+          state = rw (e, le-leb s.rx.cap s.rx.len p.offering) h;
+          room = ring_told t (lost_state s) 0 h (omega (arith, p.offering));
+          within = ring_within t (lost_state s) h f;
+          bytes = rw e p.bytes;
           size = p.size;
         }
-      where
-        not_is : (x : Bool) → not x ≡ false → x ≡ true
-        not_is true h = refl
-        not_is false h = sym h
 
 -- ---- a register written
 

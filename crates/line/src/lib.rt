@@ -63,30 +63,30 @@ fn lost(s: State) -> State
     t
 }
 
-// A byte that comes in from the line: go and stop are never stored, any other byte is stored or lost. The room told is what the store answered.
+// A byte that comes in from the line: go and stop are never stored, any other byte is stored or lost. The room told is that of the ring which holds then.
 pub fn taken(s: State, rx: &mut [u16], b: u8) -> Took
     requires { RxFits s rx.old }
     ensures { Taken s rx.old b rx.new result }
 {
     if is_go_or_stop(s.regs, b) {
-        let left = store::room(s.rx);
         return Took {
             state: permitted(s, b),
-            room: left,
+            room: store::room(s.rx),
         };
     }
-    let o = cells::put(rx, s.rx, b as u16);
-    let ring = o.ring;
-    let left = o.room;
-    if o.stored {
-        return Took {
-            state: stored(s, ring, left),
-            room: left,
-        };
-    }
-    Took {
-        state: lost(s),
-        room: left,
+    match store::put(rx, s.rx, b as u16) {
+        Some(ring) => {
+            let left = store::room(ring);
+            Took {
+                state: stored(s, ring, left),
+                room: left,
+            }
+        }
+        // A full store has no room, before and after.
+        None => Took {
+            state: lost(s),
+            room: 0,
+        },
     }
 }
 
@@ -97,7 +97,7 @@ pub fn mark_break(s: State, rx: &mut [u16])
 {
     let ring = s.rx;
     if 0 < ring.len {
-        let newest = cells::look(rx, ring, ring.len - 1);
+        let newest = store::look(rx, ring, ring.len - 1);
         let mark = reading::marked(newest);
         cells::replace_newest(rx, ring, mark);
     }

@@ -1,41 +1,26 @@
--- What a way becomes, by what the calls on its parts gave. Assumes nothing.
+-- What a cell left makes of a way, by what the store answered. Assumes nothing.
 use Prim.Native.Nat.{ℕ}
-use mathlib.Core.Path.{◌≡◌, sym, ◌∙◌}
+use mathlib.Core.Path.{◌≡◌, refl, sym}
+use mathlib.Core.Bool.{cond}
 use mathlib.Core.List.{List}
-use borrow.Author.Tests.{eq-eqb, ne_eqb}
-use Rattle.branches.proofs.Branches.{cond_true, cond_false}
+use lib.Dec.{eqb}
+use borrow.Author.Tests.{ne_eqb}
+use Rattle.branches.proofs.Branches.{cond_false}
+use Rattle.std.specs.Prelude.{Option, unwrap_or}
 use Rattle.store.specs.declared.Ring.{Ring}
-use Rattle.store.specs.declared.Offered.{Offered}
-use Rattle.store.specs.Ring as ring
-use Rattle.store.specs.Promises.{Put, Dropped}
+use Rattle.store.specs.Promises.{Put}
+use Rattle.store.proofs.Laws.{offered_after}
 use Rattle.news.specs.declared.News.{News}
-use Rattle.news.specs.News.{no_news, come}
+use Rattle.news.specs.News.{come}
 use Rattle.way.specs.declared.Way.{Way}
-use Rattle.way.specs.Way.{empty_way, left_in, fetched, Left}
+use Rattle.way.specs.Way.{left_in, Left}
 
-abbrev way_of : Ring → News → Way
-way_of r n = record { ring = r; news = n }
-
-pub empty_met : (cap : ℕ) (r : Ring) (n : News) → r ≡ ring.empty_ring cap → n ≡ no_news → way_of r n ≡ empty_way cap
-unfolding empty_way
-empty_met cap r n er en = λ i. way_of (er i) (en i)
-
-pub left_first : (s : List ℕ) (w : Way) (c : ℕ) (s' : List ℕ) (o : Offered) (n : News) → Put s w.ring c s' o → w.ring.len ≡ 0 → n ≡ come →
-    Left s w c s' (way_of o.ring n)
+pub left_met : (s : List ℕ) (w : Way) (c : ℕ) (s' : List ℕ) (o : Option Ring) (r : Ring) (n : News) → Put s w.ring c s' o → r ≡ unwrap_or o w.ring →
+    n ≡ cond (eqb w.ring.len 0) come w.news → Left s w c s' (record { ring = r; news = n })
 unfolding left_in
-left_first s w c s' o n p e en =
-    record { way = λ i. way_of (p.offering.ring i) ((en ∙ sym (cond_true _ come w.news (eq-eqb w.ring.len 0 e))) i); cells = p.bytes; size = p.size; fit = p.fit }
+left_met s w c s' o r n p e f = rw (e, f, offered_after w.ring o p.offering) (record { way = refl; cells = p.bytes; size = p.size; fit = p.fit })
 
-pub left_more : (s : List ℕ) (w : Way) (c : ℕ) (s' : List ℕ) (o : Offered) → Put s w.ring c s' o → (w.ring.len ≡ 0 → ⊥) →
-    Left s w c s' (way_of o.ring w.news)
-unfolding left_in
-left_more s w c s' o p e =
-    record { way = λ i. way_of (p.offering.ring i) (sym (cond_false _ come w.news (ne_eqb w.ring.len 0 e)) i); cells = p.bytes; size = p.size; fit = p.fit }
-
-pub fetched_last : (w : Way) (r : Ring) (n : News) → Dropped w.ring 1 r → w.ring.len ≡ 1 → n ≡ no_news → way_of r n ≡ fetched w
-unfolding fetched
-fetched_last w r n d e en = λ i. way_of (d.ring i) ((en ∙ sym (cond_true _ no_news w.news (eq-eqb w.ring.len 1 e))) i)
-
-pub fetched_more : (w : Way) (r : Ring) → Dropped w.ring 1 r → (w.ring.len ≡ 1 → ⊥) → way_of r w.news ≡ fetched w
-unfolding fetched
-fetched_more w r d e = λ i. way_of (d.ring i) (sym (cond_false _ no_news w.news (ne_eqb w.ring.len 1 e)) i)
+-- behind others it is no news
+pub left_more : (s : List ℕ) (w : Way) (c : ℕ) (s' : List ℕ) (o : Option Ring) (r : Ring) → Put s w.ring c s' o → r ≡ unwrap_or o w.ring →
+    (w.ring.len ≡ 0 → ⊥) → Left s w c s' (record { ring = r; news = w.news })
+left_more s w c s' o r p e f = left_met s w c s' o r w.news p e (sym (cond_false _ _ _ (ne_eqb _ 0 f)))

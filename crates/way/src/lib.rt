@@ -16,55 +16,52 @@ pub struct Way {
 }
 
 // A way with a store of this many cells, in which nothing waits.
+#[tactic(auto, unfolding(crate::specs::Way::empty_way))]
 pub fn empty(cap: usize) -> Way
     ensures { result ≡ empty_way cap }
 {
-    let r = store::emptied(cap);
-    let n = news::none();
-    Way { ring: r, news: n }
+    Way {
+        ring: store::emptied(cap),
+        news: news::none(),
+    }
 }
 
 // Leaves the cell c; the first that waits is news. A full store stays as it was.
+#[tactic(auto, using(crate::proofs::Parts::left_met))]
 pub fn leave(s: &mut [u16], w: Way, c: u16) -> Way
     requires { Fit s.old w.ring }
     ensures { Left s.old w c s.new result }
 {
-    let o = cells::put(s, w.ring, c);
-    let ring = o.ring;
-    let mut q = w;
-    q.ring = ring;
-    if w.ring.len == 0 {
-        let n = news::came();
-        q.news = n;
-        return q;
-    }
-    q
+    let ring = store::put(s, w.ring, c).unwrap_or(w.ring);
+    let news = if w.ring.len == 0 {
+        news::came()
+    } else {
+        w.news
+    };
+    Way { ring, news }
 }
 
 // The way without its oldest cell; where none is left nothing is told any more.
+#[tactic(auto, unfolding(crate::specs::Way::fetched))]
 pub fn fetched(w: Way) -> Way
     requires within { Within w.ring }
     requires le_len { 1 ≤ w.ring.len }
     ensures { result ≡ fetched w }
 {
-    let r = store::drop_oldest(w.ring, 1);
-    let mut q = w;
-    q.ring = r;
-    if w.ring.len == 1 {
-        let n = news::none();
-        q.news = n;
-        return q;
-    }
-    q
+    let ring = store::drop_oldest(w.ring, 1);
+    let news = if w.ring.len == 1 {
+        news::none()
+    } else {
+        w.news
+    };
+    Way { ring, news }
 }
 
 // The way with other news.
-pub fn told(w: Way, n: News) -> Way
-    ensures { result ≡ told w n }
+pub fn told(w: Way, news: News) -> Way
+    ensures { result ≡ told w news }
 {
-    let mut q = w;
-    q.news = n;
-    q
+    Way { news, ..w }
 }
 
 // Whether the way's ring fits a store of this many cells.

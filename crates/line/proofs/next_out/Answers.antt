@@ -14,4 +14,4 @@ pub look-requires : goal.look-requires
 look-requires c = record { fit = c.requires.ring; k_lt_len = some_held c.args.s c.args.tx.now c.if-s.false }
 
 pub returns : goal.returns
-returns c = next_held _ _ _ c.if-holding-stopped.false c.if-s.false c.look.ensures
+returns c = next_held _ _ _ c.if-holding-stopped.false c.if-s.false (c.look.ensures 0)
