@@ -82,7 +82,7 @@ pub fn send_waiting(s: State, toloop: &[u16]) -> Outcome
     sends(s, State { toloop, ..s }, f, 0)
 }
 
-// The byte of the device ID after n of them, n below 10.
+// The byte of the device ID after n of them, and behind its end the line feed again.
 #[tactic(auto, unfolding(crate::specs::Sends::id_byte))]
 fn id_byte(n: u8) -> u8
     ensures { result ≡ id_byte n }
