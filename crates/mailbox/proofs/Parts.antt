@@ -1,5 +1,5 @@
 -- The bus side by what its parts gave, on plain values. Assumes nothing.
-use Prim.Native.Nat.{ℕ, ◌+◌, ◌%◌}
+use Prim.Native.Nat.{ℕ, ◌%◌}
 use mathlib.Core.Path.{◌≡◌, refl, sym, ap, ◌∙◌}
 use mathlib.Core.List.{List}
 use mathlib.Core.Bool.{Bool, true, false}
@@ -19,9 +19,6 @@ use Rattle.mailstate.specs.Outcome.{Outcome}
 use Rattle.answers.specs.declared.Answer.TheVariants as answer
 use Rattle.mailstate.specs.State.{with_to_bus, with_to_loop, with_bus}
 use Rattle.mailbox.specs.BusSide.{done_with, cell_with, bus_command, bus_clear, bus_byte, bus_cells, read, data_given, status_given, given, bus_fetch, bus_lines, Taken}
-
-pub cell_marked : (b : ℕ) (mark : Bool) → mark ≡ true → b + 256 ≡ cell_with b mark
-cell_marked b mark e = rw e
 
 module _ (s : State) (c : ℕ) (b : Bus) (eb : b ≡ commanded s.bus c) (o : Outcome) where
   pub command_clears : (w : Way) → clears s.bus c ≡ true → w ≡ empty_way s.toloop.ring.cap → o ≡ done_with (with_to_loop (with_bus s b) w) → o ≡ bus_command s c

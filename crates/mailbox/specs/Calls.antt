@@ -1,14 +1,15 @@
 -- The calls: what each answers, and the state and every cell of both stores after it.
-use Rattle.std.specs.Prelude.{ℕ, ◌≡◌, Bool, cond, not, List, [], ◌∷◌, eqb, ltb, length}
+use Rattle.std.specs.Prelude.{ℕ, ◌≡◌, Bool, true, false, cond, not, List, [], ◌∷◌, eqb, ltb, length, Result, Ok, Err}
 use Rattle.answers.specs.Refusals.{Check, check, first_refusal}
 use Rattle.store.specs.Ring.{run}
 use Rattle.mailstate.specs.declared.State.{State}
 use Rattle.mailstate.specs.Outcome.{Outcome}
-use Rattle.answers.specs.declared.Answer.TheVariants as answer
+use Rattle.answers.specs.declared.Refusal.{Refusal}
+use Rattle.answers.specs.declared.Refusal.TheVariants as refusal
 use Rattle.mailstate.specs.Sizes.{sizes_obeyed, start_state, fits}
 use Rattle.mailloop.specs.Messages.{busy, frame_taken, frame_cells}
 use Rattle.mailbox.specs.BusSide as bus-side
-use Rattle.answers.specs.Answers.{Said, said, refused, part}
+use Rattle.answers.specs.Answers.{Said, said, refused, number_of, part}
 
 -- seven calls are made on a state: a reset, a frame of the loop, and of the bus a command, a byte with its end mark or without, the fetching
 -- of a byte, an interface clear and the lines
@@ -66,8 +67,10 @@ pub record Did : Type 0 where
   pub said : Said
   pub world : World
 
-abbrev pub did : Outcome → List ℕ → List ℕ → Did
-did o tobus toloop = record { said = said o.answer; world = world o.state tobus toloop }
+-- the same of a call on the state s: a refusal is its number, and the state is the one that was lent
+abbrev pub did : State → Result Outcome Refusal → List ℕ → List ℕ → Did
+did s (Ok o) tobus toloop = record { said = said o.answer; world = world o.state tobus toloop }
+did s (Err r) tobus toloop = record { said = refused (number_of r); world = world s tobus toloop }
 
 -- what showing did: the part that it returned, and the world as it was
 abbrev pub handed : List ℕ → World → Did
@@ -78,6 +81,11 @@ handed xs w = record { said = part xs; world = w }
 -- 2: the state does not fit the lent stores
 abbrev pub misfit : World → Check
 misfit w = check 2 (not (fits w.state (length w.tobus) (length w.toloop)))
+
+-- looking at this first: the state fits, or the call is refused as a misfit
+abbrev pub Judged : State → List ℕ → List ℕ → Result Unit Refusal → Type 0
+Judged s tobus toloop (Ok u) = fits s (length tobus) (length toloop) ≡ true
+Judged s tobus toloop (Err r) = (r ≡ refusal.Misfit) × (fits s (length tobus) (length toloop) ≡ false)
 
 -- after that 3 or 13, a frame or a command that there is none of, and then 4, a listener without room for data
 unfoldable pub checks_on : OnState → State → List Check
@@ -96,9 +104,6 @@ checks (show side) w = []
 checks (on c) w = misfit w ∷ checks_on c w.state
 
 -- ---- what a call that is not refused does
-
-abbrev pub refused_with : State → ℕ → Outcome
-refused_with s n = record { state = s; answer = answer.Refused n }
 
 -- the state and the answer
 unfoldable pub outcome : OnState → World → Outcome
@@ -129,9 +134,9 @@ shown side w =
 
 -- what a call that is not refused did; create has no state before it
 unfoldable pub not_refused : Call → World → Did
-not_refused (create a) w = did (bus-side.done_with (start_state a (length w.tobus) (length w.toloop))) w.tobus w.toloop
+not_refused (create a) w = did w.state (Ok (bus-side.done_with (start_state a (length w.tobus) (length w.toloop)))) w.tobus w.toloop
 not_refused (show side) w = handed (shown side w) w
-not_refused (on c) w = did (outcome c w) (tobus_after c w) (toloop_after c w)
+not_refused (on c) w = did w.state (Ok (outcome c w)) (tobus_after c w) (toloop_after c w)
 
 -- a refusal is its number alone, and all stays as it was
 unfoldable pub refused_or : ℕ → Did → World → Did
@@ -147,7 +152,7 @@ step c w = refused_or (first_refusal (checks c w)) (not_refused c w) w
 abbrev pub Promised : Call → World → Did → Type 0
 Promised c w d = d ≡ step c w
 
--- create is lent two stores and given no state: what stands in its place, and comes back with a refusal, is a state at the bus address 0,
--- because the address that was given may be none
+-- create is lent two stores and given no state: what stands in its place, and stays at a refusal, is a state at the bus address 0, because
+-- the address that was given may be none
 abbrev pub unmade : List ℕ → List ℕ → World
 unmade tobus toloop = world (start_state 0 (length tobus) (length toloop)) tobus toloop

@@ -4,20 +4,21 @@
 ghost use Rattle.std.specs.Prelude.{◌≡◌, ◌<◌};
 ghost use Rattle.store.specs.Ring.{Fit};
 ghost use Rattle.mailbox.specs.BusSide as bus-side;
-ghost use Rattle.mailbox.specs.Calls.{Promised, unmade, world, did, handed, refused_with};
+ghost use Rattle.mailbox.specs.Calls.{Promised, unmade, world, did, handed, Judged};
 ghost use Rattle.mailbox.specs.Calls.{on, create, reset, loop_frame, bus_command, bus_byte, bus_fetch, bus_clear, bus_lines, show};
 
-use answers::Answer;
-use bus::Fetch;
+use answers::{Answer, Refusal};
+use bus::{Bus, Fetch};
 use mailstate::{Outcome, State};
 
-// The state as it was, and the refusal's number.
-fn refused(s: State, n: u8) -> Outcome
-    ensures { result ≡ refused_with s n }
+// Refused unless the state fits these stores.
+fn fitting(s: State, tobus: &[u16], toloop: &[u16]) -> Result<(), Refusal>
+    ensures { Judged s tobus.now toloop.now result }
 {
-    Outcome {
-        state: s,
-        answer: Answer::Refused(n),
+    if mailstate::state_fits(s, tobus.len(), toloop.len()) {
+        Ok(())
+    } else {
+        Err(Refusal::Misfit)
     }
 }
 
@@ -25,7 +26,8 @@ fn refused(s: State, n: u8) -> Outcome
 fn cell_with(b: u8, mark: bool) -> u16
     ensures { result ≡ bus-side.cell_with b mark }
 {
-    if mark { b as u16 + 256 } else { b as u16 }
+    let byte = u16::from(b);
+    if mark { byte + 256 } else { byte }
 }
 
 // The state, and nothing to give.
@@ -49,25 +51,20 @@ fn busy(s: State) -> bool
 fn commanded(s: State, c: u8) -> Outcome
     ensures { result ≡ bus-side.bus_command s c }
 {
-    let b = bus::commanded(s.bus, c);
-    let mut q = s;
-    q.bus = b;
+    let bus = bus::commanded(s.bus, c);
     if bus::clears(s.bus, c) {
-        let w = way::empty(s.toloop.ring.cap);
-        q.toloop = w;
-        return done(q);
+        let toloop = way::empty(s.toloop.ring.cap);
+        return done(State { toloop, bus, ..s });
     }
-    done(q)
+    done(State { bus, ..s })
 }
 
 // An interface clear.
 fn cleared(s: State) -> Outcome
     ensures { result ≡ bus-side.bus_clear s }
 {
-    let b = bus::interface_cleared(s.bus);
-    let mut q = s;
-    q.bus = b;
-    done(q)
+    let bus = bus::interface_cleared(s.bus);
+    done(State { bus, ..s })
 }
 
 // A listener keeps the byte, and nobody else does.
@@ -78,9 +75,7 @@ fn left(s: State, toloop: &mut [u16], b: u8, mark: bool) -> Outcome
     if s.bus.role.listener {
         let c = cell_with(b, mark);
         let w = way::leave(toloop, s.toloop, c);
-        let mut q = s;
-        q.toloop = w;
-        return done(q);
+        return done(State { toloop: w, ..s });
     }
     done(s)
 }
@@ -97,11 +92,9 @@ fn data_given(s: State, tobus: &[u16]) -> Outcome
         };
     }
     let c = cells::look(tobus, s.tobus.ring, 0);
-    let w = way::fetched(s.tobus);
-    let mut q = s;
-    q.tobus = w;
+    let tobus = way::fetched(s.tobus);
     Outcome {
-        state: q,
+        state: State { tobus, ..s },
         answer: Answer::Cell(c % 512),
     }
 }
@@ -112,15 +105,14 @@ fn status_given(s: State) -> Outcome
 {
     let d = news::byte_of(s.tobus.news);
     let n = news::none();
-    let w = way::told(s.tobus, n);
-    let mut b = s.bus;
-    b.read = true;
-    let mut q = s;
-    q.tobus = w;
-    q.bus = b;
+    let tobus = way::told(s.tobus, n);
+    let bus = Bus {
+        read: true,
+        ..s.bus
+    };
     Outcome {
-        state: q,
-        answer: Answer::Cell(d as u16),
+        state: State { tobus, bus, ..s },
+        answer: Answer::Cell(u16::from(d)),
     }
 }
 
@@ -153,102 +145,98 @@ fn lines(s: State) -> Outcome
     }
 }
 
-// Makes a state for these stores at this bus address, or refuses, with a state at address 0; neither store is written.
-pub fn create(tobus: &[u16], toloop: &[u16], address: u32) -> Outcome
-    ensures { Promised (create address) (unmade tobus.now toloop.now) (did result tobus.now toloop.now) }
+// Makes a state for these stores at this bus address, or refuses; neither store is written.
+pub fn create(tobus: &[u16], toloop: &[u16], address: u32) -> Result<Outcome, Refusal>
+    ensures { Promised (create address) (unmade tobus.now toloop.now)
+        (did (unmade tobus.now toloop.now).state result tobus.now toloop.now) }
 {
     if !mailstate::sizes_obeyed(address, tobus.len(), toloop.len()) {
-        let none = mailstate::start(0, tobus.len(), toloop.len());
-        return refused(none, 1);
+        return Err(Refusal::Sizes);
     }
     let a = address as u8;
     let s = mailstate::start(a, tobus.len(), toloop.len());
-    done(s)
+    Ok(done(s))
 }
 
 // Gives what create gives for the same sizes and bus address; neither store is written.
-pub fn reset(s: State, tobus: &[u16], toloop: &[u16]) -> Outcome
-    ensures { Promised (on reset) (world s tobus.now toloop.now) (did result tobus.now toloop.now) }
+pub fn reset(s: State, tobus: &[u16], toloop: &[u16]) -> Result<Outcome, Refusal>
+    ensures { Promised (on reset) (world s tobus.now toloop.now) (did s result tobus.now toloop.now) }
 {
-    if !mailstate::state_fits(s, tobus.len(), toloop.len()) {
-        return refused(s, 2);
-    }
+    fitting(s, tobus, toloop)?;
     let t = mailstate::start(s.bus.role.address, tobus.len(), toloop.len());
-    done(t)
+    Ok(done(t))
 }
 
 // Takes a frame from the loop, and gives exactly one.
-pub fn loop_frame(s: State, tobus: &mut [u16], toloop: &[u16], frame: u32) -> Outcome
-    ensures { Promised (on (loop_frame frame)) (world s tobus.old toloop.now) (did result tobus.new toloop.now) }
+pub fn loop_frame(
+    s: State,
+    tobus: &mut [u16],
+    toloop: &[u16],
+    frame: u32,
+) -> Result<Outcome, Refusal>
+    ensures { Promised (on (loop_frame frame)) (world s tobus.old toloop.now) (did s result tobus.new toloop.now) }
 {
-    if !mailstate::state_fits(s, tobus.len(), toloop.len()) {
-        return refused(s, 2);
-    }
+    fitting(s, tobus, toloop)?;
     if frame > 2047 {
-        return refused(s, 3);
+        return Err(Refusal::LargeFrame);
     }
     let f = frame as u16;
     if mailloop::busy(s, f) {
-        return refused(s, 4);
+        return Err(Refusal::Busy);
     }
-    mailloop::frame_taken(s, tobus, toloop, f)
+    Ok(mailloop::frame_taken(s, tobus, toloop, f))
 }
 
 // Takes a command from the bus.
-pub fn bus_command(s: State, tobus: &[u16], toloop: &[u16], c: u32) -> Outcome
-    ensures { Promised (on (bus_command c)) (world s tobus.now toloop.now) (did result tobus.now toloop.now) }
+pub fn bus_command(s: State, tobus: &[u16], toloop: &[u16], c: u32) -> Result<Outcome, Refusal>
+    ensures { Promised (on (bus_command c)) (world s tobus.now toloop.now) (did s result tobus.now toloop.now) }
 {
-    if !mailstate::state_fits(s, tobus.len(), toloop.len()) {
-        return refused(s, 2);
-    }
+    fitting(s, tobus, toloop)?;
     if c > 127 {
-        return refused(s, 13);
+        return Err(Refusal::LargeCommand);
     }
-    let short = c as u8;
-    commanded(s, short)
+    Ok(commanded(s, c as u8))
 }
 
 // Takes a data byte from the bus, with its end mark or without. Nobody keeps it where we are not listener, and the answer is done all the same.
-pub fn bus_byte(s: State, tobus: &[u16], toloop: &mut [u16], b: u8, mark: bool) -> Outcome
-    ensures { Promised (on (bus_byte b mark)) (world s tobus.now toloop.old) (did result tobus.now toloop.new) }
+pub fn bus_byte(
+    s: State,
+    tobus: &[u16],
+    toloop: &mut [u16],
+    b: u8,
+    mark: bool,
+) -> Result<Outcome, Refusal>
+    ensures { Promised (on (bus_byte b mark)) (world s tobus.now toloop.old) (did s result tobus.now toloop.new) }
 {
-    if !mailstate::state_fits(s, tobus.len(), toloop.len()) {
-        return refused(s, 2);
-    }
+    fitting(s, tobus, toloop)?;
     if busy(s) {
-        return refused(s, 4);
+        return Err(Refusal::Busy);
     }
-    left(s, toloop, b, mark)
+    Ok(left(s, toloop, b, mark))
 }
 
 // Gives the bus its next byte.
-pub fn bus_fetch(s: State, tobus: &[u16], toloop: &[u16]) -> Outcome
-    ensures { Promised (on bus_fetch) (world s tobus.now toloop.now) (did result tobus.now toloop.now) }
+pub fn bus_fetch(s: State, tobus: &[u16], toloop: &[u16]) -> Result<Outcome, Refusal>
+    ensures { Promised (on bus_fetch) (world s tobus.now toloop.now) (did s result tobus.now toloop.now) }
 {
-    if !mailstate::state_fits(s, tobus.len(), toloop.len()) {
-        return refused(s, 2);
-    }
-    given(s, tobus)
+    fitting(s, tobus, toloop)?;
+    Ok(given(s, tobus))
 }
 
 // Takes an interface clear of the bus.
-pub fn bus_clear(s: State, tobus: &[u16], toloop: &[u16]) -> Outcome
-    ensures { Promised (on bus_clear) (world s tobus.now toloop.now) (did result tobus.now toloop.now) }
+pub fn bus_clear(s: State, tobus: &[u16], toloop: &[u16]) -> Result<Outcome, Refusal>
+    ensures { Promised (on bus_clear) (world s tobus.now toloop.now) (did s result tobus.now toloop.now) }
 {
-    if !mailstate::state_fits(s, tobus.len(), toloop.len()) {
-        return refused(s, 2);
-    }
-    cleared(s)
+    fitting(s, tobus, toloop)?;
+    Ok(cleared(s))
 }
 
 // Shows the bus lines; nothing changes.
-pub fn bus_lines(s: State, tobus: &[u16], toloop: &[u16]) -> Outcome
-    ensures { Promised (on bus_lines) (world s tobus.now toloop.now) (did result tobus.now toloop.now) }
+pub fn bus_lines(s: State, tobus: &[u16], toloop: &[u16]) -> Result<Outcome, Refusal>
+    ensures { Promised (on bus_lines) (world s tobus.now toloop.now) (did s result tobus.now toloop.now) }
 {
-    if !mailstate::state_fits(s, tobus.len(), toloop.len()) {
-        return refused(s, 2);
-    }
-    lines(s)
+    fitting(s, tobus, toloop)?;
+    Ok(lines(s))
 }
 
 // Shows the longest unbroken run of cells from the oldest one: side 0 of the way to the bus, side 1 of the way to the loop.

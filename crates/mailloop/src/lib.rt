@@ -27,7 +27,7 @@ fn no_hold(enabled: bool) -> Hold
     ensures { result ≡ no_hold enabled }
 {
     Hold {
-        enabled: enabled,
+        enabled,
         held: false,
         frame: 0,
     }
@@ -53,17 +53,18 @@ fn command(s: State, f: u16) -> Outcome
     let d = frame::data_byte(f);
     let listens = s.talker.role.listener;
     let o = role::order_of(15, s.talker.role, d);
-    let t = talker::obeyed(s.talker, o);
-    let h = no_hold((d == 15) & listens);
-    let p = response_after(s, d);
-    let mut q = s;
-    q.talker = t;
-    q.hold = h;
-    q.response = p;
+    let talker = talker::obeyed(s.talker, o);
+    let hold = no_hold((d == 15) & listens);
+    let response = response_after(s, d);
+    let q = State {
+        talker,
+        hold,
+        response,
+        ..s
+    };
     if role::is_clear(o) {
-        let w = way::empty(s.tobus.ring.cap);
-        q.tobus = w;
-        return passed(q, f);
+        let tobus = way::empty(s.tobus.ring.cap);
+        return passed(State { tobus, ..q }, f);
     }
     passed(q, f)
 }
@@ -83,10 +84,8 @@ fn released(s: State) -> Outcome
     ensures { result ≡ released s }
 {
     let out = talk::serviced(s, s.hold.frame);
-    let h = no_hold(s.hold.enabled);
-    let mut q = s;
-    q.hold = h;
-    passed(q, out)
+    let hold = no_hold(s.hold.enabled);
+    passed(State { hold, ..s }, out)
 }
 
 // The two IDs are sent by a talker that has nothing under way; any other ready frame passes.
@@ -115,18 +114,14 @@ fn readied(s: State, toloop: &[u16], f: u16) -> Outcome
     let asked = role::ready_of(s.talker.role, d);
     match asked {
         Ready::Address => {
-            let mut q = s;
-            let named = talker::assigned(s.talker, d);
-            q.talker = named;
-            passed(q, frame::make(5, d + 1))
+            let talker = talker::assigned(s.talker, d);
+            passed(State { talker, ..s }, frame::make(5, d + 1))
         }
         Ready::Data => talk::send_waiting(s, toloop),
         Ready::Status => talk::send_status(s),
         Ready::Finish => {
-            let mut q = s;
-            let last = talker::finishing(s.talker);
-            q.talker = last;
-            passed(q, f)
+            let talker = talker::finishing(s.talker);
+            passed(State { talker, ..s }, f)
         }
         Ready::Pass => identities(s, f),
     }
@@ -152,10 +147,8 @@ fn back(s: State, toloop: &[u16], f: u16) -> Outcome
         Return::Damaged => talk::ended(s, 65),
         Return::StatusBack => {
             let n = news::returned(s.toloop.news, frame::data_byte(s.talker.under.frame));
-            let w = way::told(s.toloop, n);
-            let mut q = s;
-            q.toloop = w;
-            talk::ended(q, 64)
+            let toloop = way::told(s.toloop, n);
+            talk::ended(State { toloop, ..s }, 64)
         }
         Return::Finished => talk::ended(s, 64),
         Return::Next => talk::send_next(s, toloop),
@@ -170,17 +163,15 @@ fn keep(s: State, tobus: &mut [u16], f: u16) -> Outcome
     let c = talk::cell_of(f);
     let w = way::leave(tobus, s.tobus, c);
     let out = talk::serviced(s, f);
-    let mut q = s;
-    q.tobus = w;
+    let q = State { tobus: w, ..s };
     let left = store::room(w.ring);
     if (s.hold.enabled & !s.hold.held) & (left == 1) {
-        let h = Hold {
+        let hold = Hold {
             enabled: true,
             held: true,
             frame: f,
         };
-        q.hold = h;
-        return passed(q, frame::make(5, 66));
+        return passed(State { hold, ..q }, frame::make(5, 66));
     }
     passed(q, out)
 }

@@ -7,11 +7,14 @@ ghost use Rattle.mailloop.specs.Messages.{cell_of};
 use answers::Answer;
 use mailstate::{Outcome, State};
 
+// The device ID, which ends with a carriage return and a line feed.
+const DEVICE_ID: [u8; 10] = *b"HP82169A\r\n";
+
 // The cell of a data frame, its end marked.
 pub fn cell_of(f: u16) -> u16
     ensures { result ≡ cell_of f }
 {
-    let d = f % 256;
+    let d = u16::from(frame::data_byte(f));
     if frame::is_end(f) { d + 256 } else { d }
 }
 
@@ -19,7 +22,7 @@ pub fn cell_of(f: u16) -> u16
 fn frame_of(c: u16) -> u16
     ensures { result ≡ frame_of c }
 {
-    let d = (c % 256) as u8;
+    let d = frame::data_byte(c);
     if c / 256 % 2 == 1 {
         frame::make(2, d)
     } else {
@@ -42,11 +45,9 @@ pub fn serviced(s: State, f: u16) -> u16
 pub fn ended(s: State, d: u8) -> Outcome
     ensures { result ≡ ended s d }
 {
-    let mut t = s;
-    let addressed = talker::ended(s.talker);
-    t.talker = addressed;
+    let talker = talker::ended(s.talker);
     Outcome {
-        state: t,
+        state: State { talker, ..s },
         answer: Answer::Frame(frame::make(5, d)),
     }
 }
@@ -56,12 +57,13 @@ fn sends(before: State, after: State, f: u16, source: u8) -> Outcome
     ensures { result ≡ sends before after f source }
 {
     let out = serviced(before, f);
-    let active = talker::talking(after.talker, 2, f);
-    let mut t = after;
-    t.talker = active;
-    t.source = source;
+    let talker = talker::talking(after.talker, 2, f);
     Outcome {
-        state: t,
+        state: State {
+            talker,
+            source,
+            ..after
+        },
         answer: Answer::Frame(out),
     }
 }
@@ -76,36 +78,18 @@ pub fn send_waiting(s: State, toloop: &[u16]) -> Outcome
     }
     let c = cells::look(toloop, s.toloop.ring, 0);
     let f = frame_of(c);
-    let w = way::fetched(s.toloop);
-    let mut t = s;
-    t.toloop = w;
-    sends(s, t, f, 0)
+    let toloop = way::fetched(s.toloop);
+    sends(s, State { toloop, ..s }, f, 0)
 }
 
-// The byte of the device ID after n of them, n below 10.
+// The byte of the device ID after n of them, and behind its end the line feed again.
+#[tactic(auto, unfolding(crate::specs::Sends::id_byte))]
 fn id_byte(n: u8) -> u8
     ensures { result ≡ id_byte n }
 {
-    if n == 0 {
-        72
-    } else if n == 1 {
-        80
-    } else if n == 2 {
-        56
-    } else if n == 3 {
-        50
-    } else if n == 4 {
-        49
-    } else if n == 5 {
-        54
-    } else if n == 6 {
-        57
-    } else if n == 7 {
-        65
-    } else if n == 8 {
-        13
-    } else {
-        10
+    match DEVICE_ID.get(usize::from(n)) {
+        Some(b) => *b,
+        None => b'\n',
     }
 }
 
@@ -117,8 +101,7 @@ pub fn send_id(s: State, n: u8) -> Outcome
         return ended(s, 64);
     }
     let f = frame::make(0, id_byte(n));
-    let more = n + 1;
-    sends(s, s, f, more)
+    sends(s, s, f, n + 1)
 }
 
 // The accessory ID goes out.
@@ -135,13 +118,14 @@ pub fn send_status(s: State) -> Outcome
     let f = frame::make(0, news::byte_of(s.toloop.news));
     let out = serviced(s, f);
     let n = news::sent(s.toloop.news);
-    let w = way::told(s.toloop, n);
-    let active = talker::talking(s.talker, 3, f);
-    let mut t = s;
-    t.toloop = w;
-    t.talker = active;
+    let toloop = way::told(s.toloop, n);
+    let talker = talker::talking(s.talker, 3, f);
     Outcome {
-        state: t,
+        state: State {
+            toloop,
+            talker,
+            ..s
+        },
         answer: Answer::Frame(out),
     }
 }

@@ -9,7 +9,7 @@ pub returns-then-not-sizes_obeyed : goal.returns-then-not-sizes_obeyed
 returns-then-not-sizes_obeyed c =
     let a = c.args in
     let e = is_misfit c.sizes_obeyed.ensures (ap not c.if-not-sizes_obeyed.true) in
-    create_refused _ a.tobus.now a.toloop.now _ _ c.start-none.ensures e c.refused.ensures
+    create_refused _ a.tobus.now a.toloop.now e
 
 pub overflow_cast-a : goal.overflow_cast-a
 overflow_cast-a c =

@@ -1,19 +1,17 @@
-use mathlib.Core.Bool.{not}
 use mathlib.Core.Path.{refl, ap, ◌∙◌}
-use Rattle.mailstate.proofs.Fits.{is_misfit, is_fit}
 use Rattle.mailbox.specs.BusSide.{done_with}
 use Rattle.mailbox.specs.Calls.{checks_on, outcome, tobus_after, toloop_after, reset}
 use Rattle.mailbox.proofs.Steps.{misfit_met, done_met}
 use Rattle.mailbox.proofs.reset.Goals as goal
 
-pub returns-then-not-state_fits : goal.returns-then-not-state_fits
-returns-then-not-state_fits c =
+pub returns-in_err-fitting : goal.returns-in_err-fitting
+returns-in_err-fitting c =
     let a = c.args in
-    misfit_met a.s a.tobus.now a.toloop.now (is_misfit c.state_fits.ensures (ap not c.if-not-state_fits.true)) reset _ c.refused.ensures
+    misfit_met a.s a.tobus.now a.toloop.now reset _ c.from_residual.result c.from_residual.ensures.1 c.in_err-fitting.ensures
 
 pub returns : goal.returns
 unfolding checks_on outcome tobus_after toloop_after
 returns c =
     let a = c.args in
-    let e = is_fit c.state_fits.ensures (ap not c.if-not-state_fits.false) in
+    let e = c.in_ok-fitting.ensures in
     done_met a.s a.tobus.now a.toloop.now e reset _ _ _ refl (c.done.ensures ∙ ap done_with c.start-t.ensures) refl refl

@@ -6,7 +6,7 @@ returns-in-Damaged c = back_damaged _ _ _ _ _ c.return_of-found.ensures c.in-Dam
 
 pub returns-in-StatusBack : goal.returns-in-StatusBack
 returns-in-StatusBack c =
-    back_status _ _ _ _ _ c.return_of-found.ensures _ _ _ c.in-StatusBack.is c.data_byte.ensures c.returned-n.ensures c.told-w.ensures c.ended-in-StatusBack.ensures
+    back_status _ _ _ _ _ c.return_of-found.ensures _ _ _ c.in-StatusBack.is c.data_byte.ensures c.returned-n.ensures c.told-toloop.ensures c.ended-in-StatusBack.ensures
 
 pub returns-in-Finished : goal.returns-in-Finished
 returns-in-Finished c = back_finished _ _ _ _ _ c.return_of-found.ensures c.in-Finished.is c.ended-in-Finished.ensures

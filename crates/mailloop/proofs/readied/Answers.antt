@@ -9,7 +9,7 @@ overflow_add-d c = record { fits = address_next c.args.s _ _ c.ready_of-asked.en
 
 pub returns-in-Address : goal.returns-in-Address
 returns-in-Address c =
-    ready_address _ _ _ _ c.data_byte-d.ensures c.if-d-s.false _ c.ready_of-asked.ensures _ _ _ c.in-Address.is c.assigned-named.ensures c.make.ensures c.passed.ensures
+    ready_address _ _ _ _ c.data_byte-d.ensures c.if-d-s.false _ c.ready_of-asked.ensures _ _ _ c.in-Address.is c.assigned-talker.ensures c.make.ensures c.passed.ensures
 
 pub returns-in-Data : goal.returns-in-Data
 returns-in-Data c = ready_data _ _ _ _ c.data_byte-d.ensures c.if-d-s.false _ c.ready_of-asked.ensures _ c.in-Data.is c.send_waiting.ensures
@@ -19,7 +19,7 @@ returns-in-Status c = ready_status _ _ _ _ c.data_byte-d.ensures c.if-d-s.false 
 
 pub returns-in-Finish : goal.returns-in-Finish
 returns-in-Finish c =
-    ready_finish _ _ _ _ c.data_byte-d.ensures c.if-d-s.false _ c.ready_of-asked.ensures _ _ c.in-Finish.is c.finishing-last.ensures c.passed-in-Finish.ensures
+    ready_finish _ _ _ _ c.data_byte-d.ensures c.if-d-s.false _ c.ready_of-asked.ensures _ _ c.in-Finish.is c.finishing-talker.ensures c.passed-in-Finish.ensures
 
 pub returns-in-Pass : goal.returns-in-Pass
 returns-in-Pass c = ready_other _ _ _ _ c.data_byte-d.ensures c.if-d-s.false _ c.ready_of-asked.ensures _ c.in-Pass.is c.identities.ensures

@@ -10,4 +10,4 @@ pub returns : goal.returns
 returns c =
     let a = c.args in
     oldest_sent a.s a.toloop.now _ _ _ _ c.if-s-eq0.false c.look-c.ensures c.frame_of-f.ensures
-    c.fetched-w.ensures c.sends.ensures
+    c.fetched-toloop.ensures c.sends.ensures
