@@ -1,8 +1,10 @@
 -- What an answer is in the paper, and what it tells.
-use Rattle.std.specs.Prelude.{ℕ, Bool, true, false, List}
+use Rattle.std.specs.Prelude.{ℕ, Bool, true, false, List, Result, Ok, Err}
 use Rattle.frame.specs.Frame.{control_of, data_of}
 use Rattle.answers.specs.declared.Answer.{Answer}
-use Rattle.answers.specs.declared.Answer.TheVariants.{Done, Nothing, Byte, Frame, Refused, Cell, Lines}
+use Rattle.answers.specs.declared.Answer.TheVariants.{Done, Nothing, Byte, Frame, Cell, Lines}
+use Rattle.answers.specs.declared.Refusal.{Refusal}
+use Rattle.answers.specs.declared.Refusal.TheVariants as refusal
 
 -- Sizes and refusals, last: done where no more is answered, and none where no line byte is next; a line byte; a frame by its control bits and its
 -- data; a refusal by its number; and of showing the bytes of a part. On the bus of a mailbox a cell is a byte, with 256 more where its end is
@@ -131,6 +133,30 @@ said Done = done
 said Nothing = none
 said (Byte b) = byte b
 said (Frame f) = frame (control_of f) (data_of f)
-said (Refused n) = refused n
 said (Cell n) = cell n
 said (Lines n) = lines n
+
+-- the paper's number for each refusal
+abbrev pub number_of : Refusal → ℕ
+number_of refusal.Sizes = 1
+number_of refusal.Misfit = 2
+number_of refusal.LargeFrame = 3
+number_of refusal.Busy = 4
+number_of refusal.NotCarried = 5
+number_of refusal.LargeValue = 6
+number_of refusal.BitNotCarried = 7
+number_of refusal.GoIsStop = 8
+number_of refusal.Malformed = 9
+number_of refusal.HeldLine = 10
+number_of refusal.NotNext = 12
+number_of refusal.LargeCommand = 13
+
+-- what a call says that answers or refuses
+abbrev pub said_by : Result Answer Refusal → Said
+said_by (Ok a) = said a
+said_by (Err r) = refused (number_of r)
+
+-- the number of the refusal that a test finds, 0 where it finds none
+abbrev pub fault_in : {X : Type 0} → Result X Refusal → ℕ
+fault_in (Ok x) = 0
+fault_in (Err r) = number_of r

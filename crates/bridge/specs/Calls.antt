@@ -1,15 +1,16 @@
 -- The calls: what each answers, and the state and every cell and byte of the stores after it.
-use Rattle.std.specs.Prelude.{ℕ, ◌≡◌, Bool, false, cond, ◌&&◌, ◌||◌, not, List, [], ◌∷◌, ◌++◌, eqb, ltb, length}
+use Rattle.std.specs.Prelude.{ℕ, ◌≡◌, Bool, false, cond, ◌&&◌, ◌||◌, not, List, [], ◌∷◌, ◌++◌, eqb, ltb, length, Result, Ok, Err}
 use Rattle.answers.specs.Refusals.{Check, check, first_refusal}
 use Rattle.registers.specs.Writing.{write_checks, written}
 use Rattle.store.specs.declared.Ring.{Ring}
 use Rattle.store.specs.Ring.{room, run}
 use Rattle.state.specs.declared.State.{State}
-use Rattle.state.specs.declared.Outcome.{Outcome}
+use Rattle.state.specs.Outcome.{Outcome}
 use Rattle.state.specs.declared.Out.{Out}
 use Rattle.bridge.specs.declared.Told.{Told}
 use Rattle.answers.specs.declared.Answer.TheVariants as answer
-use Rattle.answers.specs.Answers.{Said, said, refused, part}
+use Rattle.answers.specs.declared.Refusal.{Refusal}
+use Rattle.answers.specs.Answers.{Said, said, refused, part, number_of}
 use Rattle.state.specs.Sizes.{sizes_obeyed, start_state, fits}
 use Rattle.loopside.specs.LoopToLine.{busy}
 use Rattle.line.specs.Breaks.{break_cells}
@@ -117,16 +118,19 @@ pub record Did : Type 0 where
   pub room : ℕ
   pub world : World
 
-abbrev pub did : Outcome → List ℕ → List ℕ → Did
-did o rx tx = record { said = said o.answer; room = 0; world = world o.state rx tx }
-
--- of a call that tells the room
-abbrev pub told : Told → List ℕ → List ℕ → Did
-told t rx tx = record { said = said t.outcome.answer; room = t.room; world = world t.outcome.state rx tx }
-
 -- what a call did that only looks: its answer, and the world as it was
 abbrev pub looked : Said → World → Did
 looked a w = record { said = a; room = 0; world = w }
+
+-- of a call that was lent the state s, and left the stores so: its outcome; or its refusal by its number, which tells no room and leaves s as it was
+abbrev pub did : State → Result Outcome Refusal → List ℕ → List ℕ → Did
+did s (Ok o) rx tx = record { said = said o.answer; room = 0; world = world o.state rx tx }
+did s (Err r) rx tx = looked (refused (number_of r)) (world s rx tx)
+
+-- of a call that tells the room
+abbrev pub told : State → Result Told Refusal → List ℕ → List ℕ → Did
+told s (Ok t) rx tx = record { said = said t.outcome.answer; room = t.room; world = world t.outcome.state rx tx }
+told s (Err r) rx tx = looked (refused (number_of r)) (world s rx tx)
 
 -- showing returned this part
 abbrev pub handed : List ℕ → World → Did
@@ -172,13 +176,6 @@ checks (on c) w = misfit w ∷ checks_on c w
 
 abbrev pub done_with : State → Outcome
 done_with s = record { state = s; answer = answer.Done }
-
-abbrev pub refused_with : State → ℕ → Outcome
-refused_with s n = record { state = s; answer = answer.Refused n }
-
--- the same of a call that tells a room when it is not refused
-abbrev pub told_none : State → ℕ → Told
-told_none s n = record { outcome = refused_with s n; room = 0 }
 
 -- the state, before requests are settled, and the answer
 unfoldable pub outcome : OnState → World → Outcome
@@ -236,7 +233,7 @@ shown side w = cond (fits w.state (length w.rx) (length w.tx)) (run (store_of si
 
 -- what a call that is not refused did; create has no state before it
 unfoldable pub not_refused : Call → World → Did
-not_refused (create m) w = did (done_with (start_state m (length w.rx) (length w.tx))) w.rx w.tx
+not_refused (create m) w = did w.state (Ok (done_with (start_state m (length w.rx) (length w.tx)))) w.rx w.tx
 not_refused (show side) w = handed (shown side w) w
 not_refused (on c) w =
     record {

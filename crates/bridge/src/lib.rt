@@ -2,14 +2,15 @@
 //! receive store as cells, each a byte and the mark of a break that follows it.
 #![tactic(auto)]
 
-ghost use Rattle.std.specs.Prelude.{◌≡◌};
-ghost use Rattle.answers.specs.Answers.{said};
+ghost use Rattle.std.specs.Prelude.{◌≡◌, [], ◌∷◌};
+ghost use Rattle.answers.specs.Answers.{said_by, fault_in};
+ghost use Rattle.answers.specs.Refusals.{first_refusal};
 ghost use Rattle.state.specs.Conditions.{settled_outcome};
-ghost use Rattle.bridge.specs.Calls.{Promised, unmade, world, did, told, looked, handed, done_with, refused_with, told_none, held_line};
+ghost use Rattle.bridge.specs.Calls.{Promised, unmade, world, did, told, looked, handed, misfit, done_with, held_line};
 ghost use Rattle.bridge.specs.Calls.{on, create, reset, write, line_byte, line_break, key, ask_line_byte, take_line_byte, loop_frame};
 ghost use Rattle.bridge.specs.Calls.{show, receive, transmit};
 
-use answers::Answer;
+use answers::{Answer, Refusal};
 use state::{Outcome, State};
 
 // What a call gives that tells a room: its outcome, and the room of a store after it.
@@ -19,23 +20,14 @@ pub struct Told {
     pub room: u16,
 }
 
-// The state as it was, and the refusal's number.
-fn refused(s: State, n: u8) -> Outcome
-    ensures { result ≡ refused_with s n }
+// Refuses a state that does not fit the lent stores.
+fn fitting(s: State, rx: &[u16], tx: &[u8]) -> Result<(), Refusal>
+    ensures { fault_in result ≡ first_refusal (misfit (world s rx.now tx.now) ∷ []) }
 {
-    Outcome {
-        state: s,
-        answer: Answer::Refused(n),
-    }
-}
-
-// The same where a room would be told: a refusal tells none.
-fn alone(s: State, n: u8) -> Told
-    ensures { result ≡ told_none s n }
-{
-    Told {
-        outcome: refused(s, n),
-        room: 0,
+    if state::fitting::state_fits(s, rx.len(), tx.len()) {
+        Ok(())
+    } else {
+        Err(Refusal::Misfit)
     }
 }
 
@@ -53,28 +45,26 @@ fn done(before: State, after: State) -> Outcome
 }
 
 // Makes a state for these stores, or refuses; neither store is written.
-pub fn create(rx: &[u16], tx: &[u8], margin: usize) -> Outcome
-    ensures { Promised (create margin) (unmade margin rx.now tx.now) (did result rx.now tx.now) }
+pub fn create(rx: &[u16], tx: &[u8], margin: usize) -> Result<Outcome, Refusal>
+    ensures { Promised (create margin) (unmade margin rx.now tx.now)
+        (did (unmade margin rx.now tx.now).state result rx.now tx.now) }
 {
-    let s = state::fitting::start(margin, rx.len(), tx.len());
-    if state::fitting::sizes_obeyed(margin, rx.len(), tx.len()) {
-        return Outcome {
-            state: s,
-            answer: Answer::Done,
-        };
+    if !state::fitting::sizes_obeyed(margin, rx.len(), tx.len()) {
+        return Err(Refusal::Sizes);
     }
-    refused(s, 1)
+    Ok(Outcome {
+        state: state::fitting::start(margin, rx.len(), tx.len()),
+        answer: Answer::Done,
+    })
 }
 
 // Gives what create gives for the same sizes and margin; neither store is written.
-pub fn reset(s: State, rx: &[u16], tx: &[u8]) -> Outcome
-    ensures { Promised (on reset) (world s rx.now tx.now) (did result rx.now tx.now) }
+pub fn reset(s: State, rx: &[u16], tx: &[u8]) -> Result<Outcome, Refusal>
+    ensures { Promised (on reset) (world s rx.now tx.now) (did s result rx.now tx.now) }
 {
-    if !state::fitting::state_fits(s, rx.len(), tx.len()) {
-        return refused(s, 2);
-    }
+    fitting(s, rx, tx)?;
     let t = state::fitting::start(s.margin, rx.len(), tx.len());
-    done(s, t)
+    Ok(done(s, t))
 }
 
 // Whether the register is of the reading rule, R10, C00 or C01, and the receive store holds a cell; what is written does not count.
@@ -85,109 +75,98 @@ fn held_line(s: State, number: u32) -> bool
 }
 
 // Writes the register of this number; those of the reading rule only while nothing is held from the line.
-pub fn write_register(s: State, rx: &[u16], tx: &[u8], number: u32, value: u32) -> Outcome
-    ensures { Promised (on (write number value)) (world s rx.now tx.now) (did result rx.now tx.now) }
+pub fn write_register(
+    s: State,
+    rx: &[u16],
+    tx: &[u8],
+    number: u32,
+    value: u32,
+) -> Result<Outcome, Refusal>
+    ensures { Promised (on (write number value)) (world s rx.now tx.now) (did s result rx.now tx.now) }
 {
-    if !state::fitting::state_fits(s, rx.len(), tx.len()) {
-        return refused(s, 2);
-    }
-    let fault = registers::refused(s.regs, number, value);
-    if fault != 0 {
-        return refused(s, fault);
-    }
+    fitting(s, rx, tx)?;
+    registers::refused(s.regs, number, value)?;
     if held_line(s, number) {
-        return refused(s, 10);
+        return Err(Refusal::HeldLine);
     }
     let g = registers::written(s.regs, number, value);
     let t = line::after_write(s, number, g);
-    done(s, t)
+    Ok(done(s, t))
 }
 
 // Takes a byte from the line, and tells the room of the receive store.
-pub fn line_byte(s: State, rx: &mut [u16], tx: &[u8], b: u8) -> Told
-    ensures { Promised (on (line_byte b)) (world s rx.old tx.now) (told result rx.new tx.now) }
+pub fn line_byte(s: State, rx: &mut [u16], tx: &[u8], b: u8) -> Result<Told, Refusal>
+    ensures { Promised (on (line_byte b)) (world s rx.old tx.now) (told s result rx.new tx.now) }
 {
-    if !state::fitting::state_fits(s, rx.len(), tx.len()) {
-        return alone(s, 2);
-    }
+    fitting(s, rx, tx)?;
     let t = line::taken(s, rx, b);
     let left = t.room as u16;
-    Told {
+    Ok(Told {
         outcome: done(s, t.state),
         room: left,
-    }
+    })
 }
 
 // Takes a break on the line, and marks it behind the newest byte of the receive store.
-pub fn take_break(s: State, rx: &mut [u16], tx: &[u8]) -> Outcome
-    ensures { Promised (on line_break) (world s rx.old tx.now) (did result rx.new tx.now) }
+pub fn take_break(s: State, rx: &mut [u16], tx: &[u8]) -> Result<Outcome, Refusal>
+    ensures { Promised (on line_break) (world s rx.old tx.now) (did s result rx.new tx.now) }
 {
-    if !state::fitting::state_fits(s, rx.len(), tx.len()) {
-        return refused(s, 2);
-    }
+    fitting(s, rx, tx)?;
     line::mark_break(s, rx);
     let t = state::requests::broken(s);
-    done(s, t)
+    Ok(done(s, t))
 }
 
 // Takes a press of the MSRQ key.
-pub fn take_key(s: State, rx: &[u16], tx: &[u8]) -> Outcome
-    ensures { Promised (on key) (world s rx.now tx.now) (did result rx.now tx.now) }
+pub fn take_key(s: State, rx: &[u16], tx: &[u8]) -> Result<Outcome, Refusal>
+    ensures { Promised (on key) (world s rx.now tx.now) (did s result rx.now tx.now) }
 {
-    if !state::fitting::state_fits(s, rx.len(), tx.len()) {
-        return refused(s, 2);
-    }
+    fitting(s, rx, tx)?;
     let t = state::requests::pressed(s);
-    done(s, t)
+    Ok(done(s, t))
 }
 
 // Says which line byte is next, or none; nothing changes.
-pub fn ask_line_byte(s: State, rx: &[u16], tx: &[u8]) -> Answer
+pub fn ask_line_byte(s: State, rx: &[u16], tx: &[u8]) -> Result<Answer, Refusal>
     ensures { Promised (on ask_line_byte) (world s rx.now tx.now)
-        (looked (said result) (world s rx.now tx.now)) }
+        (looked (said_by result) (world s rx.now tx.now)) }
 {
-    if !state::fitting::state_fits(s, rx.len(), tx.len()) {
-        return Answer::Refused(2);
-    }
+    fitting(s, rx, tx)?;
     let o = line::next_out(s, tx);
-    line::out_answer(o)
+    Ok(line::out_answer(o))
 }
 
 // Takes the line byte that is named: if it is the next one it is gone, and any other is refused.
-pub fn take_line_byte(s: State, rx: &[u16], tx: &[u8], b: u8) -> Outcome
-    ensures { Promised (on (take_line_byte b)) (world s rx.now tx.now) (did result rx.now tx.now) }
+pub fn take_line_byte(s: State, rx: &[u16], tx: &[u8], b: u8) -> Result<Outcome, Refusal>
+    ensures { Promised (on (take_line_byte b)) (world s rx.now tx.now) (did s result rx.now tx.now) }
 {
-    if !state::fitting::state_fits(s, rx.len(), tx.len()) {
-        return refused(s, 2);
-    }
+    fitting(s, rx, tx)?;
     let o = line::next_out(s, tx);
     if !line::is_next(o, b) {
-        return refused(s, 12);
+        return Err(Refusal::NotNext);
     }
     let t = line::gone(s, tx, o);
-    done(s, t)
+    Ok(done(s, t))
 }
 
 // Takes a frame from the loop, gives exactly one, and tells the room of the transmit store, whatever the frame is.
-pub fn loop_frame(s: State, rx: &[u16], tx: &mut [u8], frame: u32) -> Told
-    ensures { Promised (on (loop_frame frame)) (world s rx.now tx.old) (told result rx.now tx.new) }
+pub fn loop_frame(s: State, rx: &[u16], tx: &mut [u8], frame: u32) -> Result<Told, Refusal>
+    ensures { Promised (on (loop_frame frame)) (world s rx.now tx.old) (told s result rx.now tx.new) }
 {
-    if !state::fitting::state_fits(s, rx.len(), tx.len()) {
-        return alone(s, 2);
-    }
+    fitting(s, rx, tx)?;
     if frame > 2047 {
-        return alone(s, 3);
+        return Err(Refusal::LargeFrame);
     }
     let f = frame as u16;
     if loopside::busy(s, f) {
-        return alone(s, 4);
+        return Err(Refusal::Busy);
     }
     let o = loopside::frame_taken(s, rx, tx, f);
     let left = store::room(o.state.tx) as u16;
-    Told {
+    Ok(Told {
         outcome: o,
         room: left,
-    }
+    })
 }
 
 // Shows the longest unbroken run of cells from the oldest one in the receive store.

@@ -8,7 +8,7 @@ use Rattle.machine.specs.Machine.{Obeys}
 use Rattle.sending.specs.declared.Given.{Given}
 use Rattle.sending.specs.declared.Given.TheVariants.{Nothing, One}
 use Rattle.state.specs.declared.State.{State}
-use Rattle.state.specs.declared.Outcome.{Outcome}
+use Rattle.state.specs.Outcome.{Outcome}
 use Rattle.state.specs.declared.Out.{Out}
 use Rattle.state.specs.declared.Out.TheVariants as out
 use Rattle.answers.specs.Answers.{Said, frame, refused, said, is_refusal, byte_or_refused, frame_or_refused}

@@ -22,7 +22,7 @@ use Rattle.sending.specs.declared.Given.TheVariants.{Nothing, One}
 use Rattle.sending.specs.Sending.{given_of, send_held, sent_ring}
 use Rattle.talker.specs.UnderWay.{talking}
 use Rattle.state.specs.declared.State.{State}
-use Rattle.state.specs.declared.Outcome.{Outcome}
+use Rattle.state.specs.Outcome.{Outcome}
 use Rattle.state.specs.declared.Out.{Out}
 use Rattle.state.specs.declared.Out.TheVariants as out
 use Rattle.answers.specs.Answers.{done}

@@ -6,7 +6,7 @@ use mathlib.Core.List.{List}
 use lib.ListN.{length}
 use Rattle.answers.specs.Answers.{part, said}
 use Rattle.answers.proofs.Answers.{said_one}
-use Rattle.state.specs.declared.Outcome.{Outcome}
+use Rattle.state.specs.Outcome.{Outcome}
 use Rattle.state.specs.Sizes.{sizes_obeyed, start_state}
 use Rattle.bridge.specs.Calls.{create, Did, did, told, checks, not_refused, refused_or, step, Promised, unmade}
 use Rattle.laws.proofs.Refusing.{by_refusal}

@@ -14,7 +14,7 @@ use Rattle.talker.specs.declared.Return.{Return}
 use Rattle.talker.specs.Readied.{assigned_talker, finishing_talker}
 use Rattle.talker.specs.Returning.{return_of}
 use Rattle.state.specs.declared.State.{State}
-use Rattle.state.specs.declared.Outcome.{Outcome}
+use Rattle.state.specs.Outcome.{Outcome}
 use Rattle.state.specs.State.{with_talker}
 use Rattle.state.specs.Conditions.{serviced, after_status_back}
 use Rattle.loopside.specs.LoopToLine.{added_state}

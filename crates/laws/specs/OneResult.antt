@@ -2,7 +2,7 @@
 -- byte of both stores, refusals included. It is said of `Promised`, which the contracts of all eleven calls cite.
 use Rattle.std.specs.Prelude.{ℕ, ◌≡◌, true, false, List}
 use Rattle.state.specs.declared.State.{State}
-use Rattle.state.specs.declared.Outcome.{Outcome}
+use Rattle.state.specs.Outcome.{Outcome}
 use Rattle.answers.specs.declared.Answer.{Answer}
 use Rattle.answers.specs.Answers.{said, is_refusal}
 use Rattle.bridge.specs.declared.Told.{Told}

@@ -27,7 +27,7 @@ use Rattle.sending.specs.declared.Given.TheVariants.{Nothing, One}
 use Rattle.sending.specs.declared.Sending.{Sending}
 use Rattle.sending.specs.Sending.{Sends}
 use Rattle.state.specs.declared.State.{State}
-use Rattle.state.specs.declared.Outcome.{Outcome}
+use Rattle.state.specs.Outcome.{Outcome}
 use Rattle.answers.specs.declared.Answer.TheVariants.{Frame}
 use Rattle.state.specs.State.{with_talker, with_remote, with_rx, with_tx, with_line, with_counts, no_events, notes_with}
 use Rattle.state.specs.Counts.{counted}

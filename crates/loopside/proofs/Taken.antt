@@ -7,7 +7,7 @@ use Rattle.store.specs.declared.Ring.{Ring}
 use Rattle.store.specs.Ring.{Within, puts_ring, puts_bytes}
 use Rattle.store.specs.Promises.{Puts}
 use Rattle.state.specs.declared.State.{State}
-use Rattle.state.specs.declared.Outcome.{Outcome}
+use Rattle.state.specs.Outcome.{Outcome}
 use Rattle.answers.specs.declared.Answer.TheVariants.{Frame}
 use Rattle.state.specs.State.{with_tx}
 use Rattle.role.proofs.Clears.{clear_order}

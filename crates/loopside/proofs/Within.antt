@@ -14,7 +14,7 @@ use Rattle.sending.specs.declared.Given.TheVariants.{Nothing, One}
 use Rattle.sending.specs.Sending.{given_of, send_held}
 use Rattle.store.specs.Ring.{Within}
 use Rattle.state.specs.declared.State.{State}
-use Rattle.state.specs.declared.Outcome.{Outcome}
+use Rattle.state.specs.Outcome.{Outcome}
 use Rattle.state.specs.Conditions.{settled, settled_outcome, after_status, after_status_back}
 use Rattle.line.specs.HoldingOff.{resumed}
 use Rattle.loopside.specs.Sends.{ended, rule_of, removed_state, send_state, send_from, send_status}

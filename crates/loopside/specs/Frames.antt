@@ -15,7 +15,7 @@ use Rattle.talker.specs.Readied.{assigned_talker, finishing_talker}
 use Rattle.talker.specs.Returning.{return_of}
 use Rattle.store.specs.Ring.{Within, empty_ring}
 use Rattle.state.specs.declared.State.{State}
-use Rattle.state.specs.declared.Outcome.{Outcome}
+use Rattle.state.specs.Outcome.{Outcome}
 use Rattle.answers.specs.declared.Answer.TheVariants.{Frame}
 use Rattle.state.specs.State.{with_talker, with_remote, with_rx, with_tx, with_line, with_notes, no_events}
 use Rattle.loopside.specs.LoopToLine.{added_state, added_bytes}

@@ -10,7 +10,7 @@ use Rattle.sending.specs.Sending.{given_of, send_held, sent_ring}
 use Rattle.role.specs.Role.{active_data, active_status}
 use Rattle.talker.specs.UnderWay.{talking, ended_talker}
 use Rattle.state.specs.declared.State.{State}
-use Rattle.state.specs.declared.Outcome.{Outcome}
+use Rattle.state.specs.Outcome.{Outcome}
 use Rattle.answers.specs.declared.Answer.TheVariants.{Frame}
 use Rattle.state.specs.State.{with_talker, with_rx}
 use Rattle.state.specs.Counts.{sent_more}

@@ -8,7 +8,7 @@ use borrow.Author.Tests.{eq-eqb, ne_eqb, lt-ltb, le-ltb}
 use Rattle.answers.specs.Refusals.{first_refusal}
 use Rattle.store.specs.Ring.{run}
 use Rattle.mailstate.specs.declared.State.{State}
-use Rattle.mailstate.specs.declared.Outcome.{Outcome}
+use Rattle.mailstate.specs.Outcome.{Outcome}
 use Rattle.mailstate.specs.Sizes.{sizes_obeyed, start_state, fits}
 use Rattle.mailloop.specs.Messages.{busy, Framed}
 use Rattle.mailbox.specs.BusSide.{done_with, bus_busy, Taken}

@@ -8,7 +8,7 @@ use Rattle.bus.specs.declared.Fetch.{Fetch}
 use Rattle.bus.specs.declared.Fetch.TheVariants.{Silent, Status, Data}
 use Rattle.bus.specs.Bus.{clears, commanded, interface_cleared, fetch_of, poll_bits}
 use Rattle.mailstate.specs.declared.State.{State}
-use Rattle.mailstate.specs.declared.Outcome.{Outcome}
+use Rattle.mailstate.specs.Outcome.{Outcome}
 use Rattle.answers.specs.declared.Answer.TheVariants as answer
 use Rattle.mailstate.specs.State.{with_to_bus, with_to_loop, with_bus}
 

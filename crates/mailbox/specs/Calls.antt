@@ -3,7 +3,7 @@ use Rattle.std.specs.Prelude.{ℕ, ◌≡◌, Bool, cond, not, List, [], ◌∷�
 use Rattle.answers.specs.Refusals.{Check, check, first_refusal}
 use Rattle.store.specs.Ring.{run}
 use Rattle.mailstate.specs.declared.State.{State}
-use Rattle.mailstate.specs.declared.Outcome.{Outcome}
+use Rattle.mailstate.specs.Outcome.{Outcome}
 use Rattle.answers.specs.declared.Answer.TheVariants as answer
 use Rattle.mailstate.specs.Sizes.{sizes_obeyed, start_state, fits}
 use Rattle.mailloop.specs.Messages.{busy, frame_taken, frame_cells}

@@ -13,7 +13,7 @@ use Rattle.role.proofs.Clears.{clear_order}
 use Rattle.store.specs.Ring.{put_bytes}
 use Rattle.answers.specs.Answers.{Said, frame, said}
 use Rattle.way.specs.Way.{empty_way, left_in}
-use Rattle.mailstate.specs.declared.Outcome.{Outcome}
+use Rattle.mailstate.specs.Outcome.{Outcome}
 use Rattle.mailstate.proofs.Fits.{tobus_fits}
 use Rattle.mailloop.specs.Sends.{serviced, ended, sends, send_waiting, send_id, send_accessory, send_status}
 use Rattle.mailloop.specs.Messages.{cell_of, busy, clears, released, identify, keeps, frame_cells}

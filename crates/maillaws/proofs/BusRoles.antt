@@ -20,7 +20,7 @@ use Rattle.bus.specs.Bus.{response_of, response_after, serial_after, commanded, 
 use Rattle.polls.specs.declared.Response.{Response}
 use Rattle.polls.specs.Polls.{no_response, bus_response}
 use Rattle.mailstate.specs.declared.State.{State}
-use Rattle.mailstate.specs.declared.Outcome.{Outcome}
+use Rattle.mailstate.specs.Outcome.{Outcome}
 use Rattle.mailloop.specs.Sends.{ended, sends, send_waiting, send_id, send_accessory, send_status}
 use Rattle.mailloop.specs.Messages.{released, identify, frame_taken}
 use Rattle.mailbox.specs.BusSide as bus-side

@@ -20,7 +20,7 @@ use Rattle.bus.specs.declared.Fetch.TheVariants as fetch
 use Rattle.bus.specs.Bus.{fetch_of}
 use Rattle.bus.specs.Bus as bus
 use Rattle.mailstate.specs.declared.State.{State}
-use Rattle.mailstate.specs.declared.Outcome.{Outcome}
+use Rattle.mailstate.specs.Outcome.{Outcome}
 use Rattle.mailstate.specs.Sizes.{start_state}
 use Rattle.mailstate.specs.State.{with_to_loop}
 use Rattle.mailstate.proofs.Fits.{tobus_fits, toloop_fits}

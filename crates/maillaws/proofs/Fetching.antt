@@ -13,7 +13,7 @@ use Rattle.bus.specs.declared.Fetch.TheVariants.{Silent, Status, Data}
 use Rattle.bus.specs.Bus.{fetch_of}
 use Rattle.answers.specs.declared.Answer.TheVariants as answer
 use Rattle.mailstate.specs.declared.State.{State}
-use Rattle.mailstate.specs.declared.Outcome.{Outcome}
+use Rattle.mailstate.specs.Outcome.{Outcome}
 use Rattle.mailstate.specs.State.{with_to_bus}
 use Rattle.mailbox.specs.BusSide.{data_given, status_given, given, bus_fetch}
 

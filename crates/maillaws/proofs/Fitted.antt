@@ -25,7 +25,7 @@ use Rattle.bus.specs.declared.Bus.{Bus}
 use Rattle.bus.specs.Bus as bus
 use Rattle.way.specs.Way.{empty_way, left_in, fetched}
 use Rattle.mailstate.specs.declared.State.{State}
-use Rattle.mailstate.specs.declared.Outcome.{Outcome}
+use Rattle.mailstate.specs.Outcome.{Outcome}
 use Rattle.mailstate.specs.Sizes.{address_obeyed, store_obeyed, sizes_obeyed}
 use Rattle.mailloop.specs.Messages.{frame_taken, cell_of, keeps, frame_cells}
 use Rattle.mailbox.specs.BusSide as bus-side

@@ -15,7 +15,7 @@ use Rattle.store.specs.Ring as store-ring
 use Rattle.polls.specs.declared.Response.{Response}
 use Rattle.way.specs.Way.{empty_way, left_in, fetched}
 use Rattle.mailstate.specs.declared.State.{State}
-use Rattle.mailstate.specs.declared.Outcome.{Outcome}
+use Rattle.mailstate.specs.Outcome.{Outcome}
 use Rattle.mailstate.specs.State.{with_talker}
 use Rattle.mailloop.specs.Sends.{ended, sends, send_waiting, send_id, send_accessory, send_status}
 use Rattle.mailloop.specs.Messages.{response_after, released, identify, kept}

@@ -18,7 +18,7 @@ use Rattle.talker.specs.Returning.{return_of}
 use Rattle.way.specs.Way.{empty_way, told}
 use Rattle.news.specs.News as news
 use Rattle.mailstate.specs.declared.State.{State}
-use Rattle.mailstate.specs.declared.Outcome.{Outcome}
+use Rattle.mailstate.specs.Outcome.{Outcome}
 use Rattle.mailstate.specs.State.{with_to_bus, with_to_loop, with_talker, with_hold, with_response, no_hold}
 use Rattle.mailloop.specs.Sends.{serviced, ended, send_waiting, send_id, send_accessory, send_status, send_next}
 use Rattle.mailloop.specs.Messages.{passed, home, clears, response_after, hold_after, command_state, command, released, identities, readied, ready}

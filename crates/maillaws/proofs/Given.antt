@@ -24,7 +24,7 @@ use Rattle.bus.specs.declared.Fetch.{Fetch}
 use Rattle.bus.specs.declared.Fetch.TheVariants.{Silent, Status, Data}
 use Rattle.bus.specs.Bus.{fetch_of}
 use Rattle.mailstate.specs.declared.State.{State}
-use Rattle.mailstate.specs.declared.Outcome.{Outcome}
+use Rattle.mailstate.specs.Outcome.{Outcome}
 use Rattle.mailstate.proofs.Fits.{tobus_fits, toloop_fits}
 use Rattle.mailloop.specs.Sends.{serviced, ended, sends, send_waiting, send_next}
 use Rattle.mailloop.specs.Messages.{readied, ready, judged, data_taken, frame_taken}

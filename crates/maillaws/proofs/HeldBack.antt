@@ -21,7 +21,7 @@ use Rattle.store.proofs.Laws.{held_length, ring_len, put_cap}
 use Rattle.bus.specs.Bus.{clears}
 use Rattle.mailstate.specs.declared.State.{State}
 use Rattle.mailstate.specs.declared.Hold.{Hold}
-use Rattle.mailstate.specs.declared.Outcome.{Outcome}
+use Rattle.mailstate.specs.Outcome.{Outcome}
 use Rattle.mailloop.specs.Sends.{serviced, ended, sends, send_waiting, send_id, send_accessory, send_status}
 use Rattle.mailloop.specs.Messages.{ready, identify, holds_back, heard, data_taken, frame_taken}
 use Rattle.mailloop.specs.Messages as messages

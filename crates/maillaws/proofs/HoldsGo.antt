@@ -16,7 +16,7 @@ use Rattle.polls.specs.Polls.{no_response, loop_response}
 use Rattle.bus.specs.Bus.{clears}
 use Rattle.mailstate.specs.declared.Hold.{Hold}
 use Rattle.mailstate.specs.declared.State.{State}
-use Rattle.mailstate.specs.declared.Outcome.{Outcome}
+use Rattle.mailstate.specs.Outcome.{Outcome}
 use Rattle.mailloop.specs.Sends.{ended, sends, send_waiting, send_id, send_accessory, send_status}
 use Rattle.mailloop.specs.Messages.{response_after, released, identify, frame_taken}
 use Rattle.mailloop.specs.Messages as messages

@@ -14,7 +14,7 @@ use Rattle.answers.specs.Answers.{Said, frame, said}
 use Rattle.news.specs.declared.News.{News}
 use Rattle.news.specs.News.{news_byte, sent_status}
 use Rattle.way.specs.Way.{fetched}
-use Rattle.mailstate.specs.declared.Outcome.{Outcome}
+use Rattle.mailstate.specs.Outcome.{Outcome}
 use Rattle.mailstate.proofs.Fits.{toloop_fits}
 use Rattle.mailloop.specs.Sends.{serviced, frame_of, ended, sends, send_waiting, send_id, send_accessory, send_status}
 use Rattle.mailloop.specs.Messages.{released, identify}

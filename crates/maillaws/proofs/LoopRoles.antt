@@ -26,7 +26,7 @@ use Rattle.talker.specs.UnderWay.{talking}
 use Rattle.store.specs.Ring.{held}
 use Rattle.bus.specs.Bus.{clears}
 use Rattle.mailstate.specs.declared.State.{State}
-use Rattle.mailstate.specs.declared.Outcome.{Outcome}
+use Rattle.mailstate.specs.Outcome.{Outcome}
 use Rattle.mailloop.specs.Sends.{serviced, ended, sends, send_waiting, send_id, send_accessory, send_status}
 use Rattle.mailloop.specs.Messages.{released, identify}
 use Rattle.mailbox.specs.BusSide as bus-side

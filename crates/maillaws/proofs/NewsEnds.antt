@@ -20,7 +20,7 @@ use Rattle.news.specs.News.{news_byte, come}
 use Rattle.way.specs.Way.{empty_way, left_in}
 use Rattle.bus.specs.Bus as bus
 use Rattle.mailstate.specs.declared.State.{State}
-use Rattle.mailstate.specs.declared.Outcome.{Outcome}
+use Rattle.mailstate.specs.Outcome.{Outcome}
 use Rattle.mailstate.specs.State.{with_to_loop, with_bus}
 use Rattle.mailstate.proofs.Fits.{toloop_fits}
 use Rattle.mailloop.specs.Sends.{send_status, ended}

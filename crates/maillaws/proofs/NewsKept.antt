@@ -21,7 +21,7 @@ use Rattle.news.specs.declared.News.{News}
 use Rattle.news.specs.News.{news_byte}
 use Rattle.way.specs.Way.{fetched}
 use Rattle.mailstate.specs.declared.State.{State}
-use Rattle.mailstate.specs.declared.Outcome.{Outcome}
+use Rattle.mailstate.specs.Outcome.{Outcome}
 use Rattle.mailstate.proofs.Fits.{toloop_fits}
 use Rattle.mailloop.specs.Sends.{ended, sends, send_waiting, send_id, send_accessory, send_status}
 use Rattle.mailloop.specs.Messages.{released, identify}

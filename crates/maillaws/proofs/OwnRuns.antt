@@ -19,7 +19,7 @@ use Rattle.bus.specs.Bus.{clears}
 use Rattle.answers.specs.Refusals.{first_refusal}
 use Rattle.answers.specs.Answers.{Said, said, frame, refused}
 use Rattle.mailstate.specs.declared.State.{State}
-use Rattle.mailstate.specs.declared.Outcome.{Outcome}
+use Rattle.mailstate.specs.Outcome.{Outcome}
 use Rattle.mailloop.specs.Sends.{serviced}
 use Rattle.mailloop.specs.Messages.{passed, released, identify, frame_taken}
 use Rattle.mailbox.specs.BusSide as bus-side

@@ -15,7 +15,7 @@ use Rattle.store.specs.Ring.{held}
 use Rattle.answers.specs.Answers.{Said, said, frame}
 use Rattle.news.specs.News.{news_byte}
 use Rattle.mailstate.specs.declared.State.{State}
-use Rattle.mailstate.specs.declared.Outcome.{Outcome}
+use Rattle.mailstate.specs.Outcome.{Outcome}
 use Rattle.mailloop.specs.Sends.{serviced, ended, sends, send_waiting, send_id, send_accessory, send_status}
 use Rattle.mailloop.specs.Messages.{passed, released, identify, frame_taken}
 use Rattle.mailbox.specs.Calls.{reset, loop_frame, bus_command, bus_byte, bus_fetch, bus_clear, bus_lines, Call, create, show, on}

@@ -17,7 +17,7 @@ use Rattle.role.specs.ReadyFrames.{ready_of}
 use Rattle.role.proofs.ReadyLaws.{address_numbers}
 use Rattle.answers.specs.Answers.{Said, said, frame}
 use Rattle.talker.specs.Returning.{return_of}
-use Rattle.mailstate.specs.declared.Outcome.{Outcome}
+use Rattle.mailstate.specs.Outcome.{Outcome}
 use Rattle.mailloop.specs.Sends.{serviced, ended, sends, id_byte, send_id, send_accessory, send_next}
 use Rattle.mailloop.specs.Messages.{command, identities, readied, ready, judged, data_taken, frame_taken}
 use Rattle.mailbox.specs.Calls.{loop_frame, Call, on, World, Did, outcome, not_refused, step}

@@ -13,7 +13,7 @@ use Rattle.polls.specs.declared.Response.{Response}
 use Rattle.polls.specs.Polls.{answer_bits, has_bit, joined}
 use Rattle.bus.specs.declared.Bus.{Bus}
 use Rattle.bus.specs.Bus.{poll_bits}
-use Rattle.mailstate.specs.declared.Outcome.{Outcome}
+use Rattle.mailstate.specs.Outcome.{Outcome}
 use Rattle.mailstate.proofs.Fits.{loop_line}
 use Rattle.mailloop.specs.Sends.{serviced}
 use Rattle.mailloop.specs.Messages.{identify, frame_taken}

@@ -20,7 +20,7 @@ use Rattle.store.specs.Ring.{held}
 use Rattle.bus.specs.Bus.{poll_bits, response_of}
 use Rattle.news.specs.News.{news_byte}
 use Rattle.mailstate.specs.declared.State.{State}
-use Rattle.mailstate.specs.declared.Outcome.{Outcome}
+use Rattle.mailstate.specs.Outcome.{Outcome}
 use Rattle.mailloop.specs.Sends.{serviced, ended, sends, send_waiting, send_id, send_accessory, send_status}
 use Rattle.mailloop.specs.Messages.{passed, released, identify, frame_taken}
 use Rattle.mailbox.specs.BusSide as bus-side

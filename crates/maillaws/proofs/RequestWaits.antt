@@ -18,7 +18,7 @@ use Rattle.answers.specs.Answers.{Said, done, none, byte, frame, refused, part, 
 use Rattle.bus.specs.Bus.{poll_bits, response_of}
 use Rattle.polls.specs.Polls.{joined}
 use Rattle.mailstate.specs.declared.State.{State}
-use Rattle.mailstate.specs.declared.Outcome.{Outcome}
+use Rattle.mailstate.specs.Outcome.{Outcome}
 use Rattle.mailstate.proofs.Fits.{loop_line, bus_line, tobus_fits, toloop_fits}
 use Rattle.mailloop.specs.Sends.{serviced, frame_of, id_byte, ended, sends, send_waiting, send_id}
 use Rattle.mailloop.specs.Messages.{identify, frame_taken}

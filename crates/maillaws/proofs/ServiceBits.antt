@@ -17,7 +17,7 @@ use Rattle.role.specs.ReadyFrames.{gives_address}
 use Rattle.role.proofs.ReadyLaws.{address_numbers}
 use Rattle.store.specs.Ring.{held}
 use Rattle.mailstate.specs.declared.State.{State}
-use Rattle.mailstate.specs.declared.Outcome.{Outcome}
+use Rattle.mailstate.specs.Outcome.{Outcome}
 use Rattle.mailloop.specs.Sends.{marked, frame_of, serviced, ended, sends, send_waiting, send_id, send_accessory, send_status}
 use Rattle.mailloop.specs.Messages.{released, identify}
 use Rattle.mailbox.specs.Calls.{loop_frame, Call, on, World, Did, outcome, not_refused, step}

@@ -11,7 +11,7 @@ use Rattle.role.specs.ReadyFrames.{ready_of}
 use Rattle.answers.specs.Answers.{said}
 use Rattle.news.specs.News.{news_byte}
 use Rattle.mailstate.specs.declared.State.{State}
-use Rattle.mailstate.specs.declared.Outcome.{Outcome}
+use Rattle.mailstate.specs.Outcome.{Outcome}
 use Rattle.mailloop.specs.Sends.{serviced, send_status}
 use Rattle.mailloop.specs.Messages.{passed, identities, readied, ready, frame_taken}
 use Rattle.mailbox.specs.Calls.{loop_frame, on, Did, outcome, not_refused, step}

@@ -21,7 +21,7 @@ use Rattle.answers.specs.Answers.{Said}
 use Rattle.bus.specs.Bus as bus
 use Rattle.bus.specs.Bus.{commanded}
 use Rattle.mailstate.specs.declared.State.{State}
-use Rattle.mailstate.specs.declared.Outcome.{Outcome}
+use Rattle.mailstate.specs.Outcome.{Outcome}
 use Rattle.mailstate.specs.State.{with_bus}
 use Rattle.mailloop.specs.Messages.{frame_taken}
 use Rattle.mailbox.specs.BusSide.{bus_command}

@@ -30,7 +30,7 @@ use Rattle.way.specs.declared.Way.{Way}
 use Rattle.way.specs.Way as way
 use Rattle.mailstate.specs.declared.State.{State}
 use Rattle.mailstate.specs.declared.Hold.{Hold}
-use Rattle.mailstate.specs.declared.Outcome.{Outcome}
+use Rattle.mailstate.specs.Outcome.{Outcome}
 use Rattle.mailstate.specs.State.{with_to_bus, with_to_loop, with_talker, with_hold, with_response, no_hold}
 use Rattle.mailloop.specs.Sends.{serviced, ended, send_waiting, send_id, send_accessory, send_status, send_next}
 use Rattle.mailloop.specs.Messages.{cell_of, heard, Kept, data_taken, frame_taken, keeps, frame_cells, Framed, listens, busy, passed, response_after, command, command_state, released, identities, readied, ready, identify, judged}

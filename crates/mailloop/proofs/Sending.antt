@@ -17,7 +17,7 @@ use Rattle.news.specs.News.{news_byte, sent_status}
 use Rattle.way.specs.declared.Way.{Way}
 use Rattle.way.specs.Way.{fetched, told}
 use Rattle.mailstate.specs.declared.State.{State}
-use Rattle.mailstate.specs.declared.Outcome.{Outcome}
+use Rattle.mailstate.specs.Outcome.{Outcome}
 use Rattle.answers.specs.declared.Answer.TheVariants.{Frame}
 use Rattle.mailstate.specs.State.{with_to_loop, with_talker, with_source}
 use Rattle.mailloop.specs.Sends.{frame_of, serviced, ended, sends, send_waiting, device_id, id_byte, send_id, send_accessory, send_status, send_next}

@@ -17,7 +17,7 @@ use Rattle.polls.specs.Polls.{no_response, loop_response, joined}
 use Rattle.news.specs.News as news
 use Rattle.way.specs.Way.{empty_way, left_in, told}
 use Rattle.mailstate.specs.declared.State.{State}
-use Rattle.mailstate.specs.declared.Outcome.{Outcome}
+use Rattle.mailstate.specs.Outcome.{Outcome}
 use Rattle.answers.specs.declared.Answer.TheVariants.{Frame}
 use Rattle.mailstate.specs.State.{with_to_bus, with_to_loop, with_talker, with_hold, with_response, no_hold}
 use Rattle.mailloop.specs.Sends.{serviced, ended, send_waiting, send_id, send_accessory, send_status, send_next}

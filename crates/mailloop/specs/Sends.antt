@@ -7,7 +7,7 @@ use Rattle.store.specs.Ring.{held}
 use Rattle.news.specs.News.{news_byte, sent_status}
 use Rattle.way.specs.Way.{fetched, told}
 use Rattle.mailstate.specs.declared.State.{State}
-use Rattle.mailstate.specs.declared.Outcome.{Outcome}
+use Rattle.mailstate.specs.Outcome.{Outcome}
 use Rattle.answers.specs.declared.Answer.TheVariants.{Frame}
 use Rattle.mailstate.specs.State.{with_to_loop, with_talker, with_source}
 

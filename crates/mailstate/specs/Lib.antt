@@ -1,2 +1,3 @@
+pub mod Outcome
 pub mod State
 pub mod Sizes

@@ -4,7 +4,6 @@
 ghost use Rattle.std.specs.Prelude.{◌≡◌};
 ghost use Rattle.mailstate.specs.Sizes.{sizes_obeyed, start_state, fits};
 
-use answers::Answer;
 use bus::Bus;
 use polls::Response;
 use talker::Talker;
@@ -31,12 +30,8 @@ pub struct State {
     pub bus: Bus,
 }
 
-// The state after a call, and its answer.
-#[derive(Clone, Copy)]
-pub struct Outcome {
-    pub state: State,
-    pub answer: Answer,
-}
+// What a call on such a state answers, and the state after it.
+pub type Outcome = answers::Outcome<State>;
 
 // Whether create takes stores of these lengths and this bus address.
 pub fn sizes_obeyed(address: u32, tobus: usize, toloop: usize) -> bool

@@ -17,7 +17,7 @@ use Rattle.sending.specs.declared.Given.TheVariants.{Nothing, One}
 use Rattle.sending.specs.Sending.{given_of, send_held}
 use Rattle.store.specs.Ring.{full, put_bytes, puts_bytes}
 use Rattle.state.specs.declared.State.{State}
-use Rattle.state.specs.declared.Outcome.{Outcome}
+use Rattle.state.specs.Outcome.{Outcome}
 use Rattle.state.specs.declared.Out.{Out}
 use Rattle.state.specs.declared.Out.TheVariants as out
 use Rattle.state.specs.Counts.{counted}

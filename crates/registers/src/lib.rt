@@ -2,11 +2,14 @@
 #![tactic(auto)]
 
 ghost use Rattle.std.specs.Prelude.{◌≡◌, ◌%◌, cond};
+ghost use Rattle.answers.specs.Answers.{fault_in};
 ghost use Rattle.answers.specs.Refusals.{first_refusal};
 ghost use Rattle.registers.specs.Table.{carried_of, start_registers};
 ghost use Rattle.registers.specs.Bits.{too_large, bit_not_carried, in_range};
 ghost use Rattle.registers.specs.Writing.{write_checks, written};
 ghost use Rattle.registers.specs.RegistersFit.{registers_fit};
+
+use answers::Refusal;
 
 pub mod meanings;
 
@@ -137,25 +140,25 @@ pub fn written(g: Registers, n: u32, v: u32) -> Registers
     }
 }
 
-// The refusal of a write, 0 where it is accepted.
-pub fn refused(g: Registers, n: u32, v: u32) -> u8
-    ensures { result ≡ first_refusal (write_checks g n v) }
+// The refusal of a write, where it is refused.
+pub fn refused(g: Registers, n: u32, v: u32) -> Result<(), Refusal>
+    ensures { fault_in result ≡ first_refusal (write_checks g n v) }
 {
     let k = carried(n);
     if k == 0 {
-        return 5;
+        return Err(Refusal::NotCarried);
     }
     if too_large(k, v) {
-        return 6;
+        return Err(Refusal::LargeValue);
     }
     if bit_not_carried(k, v) {
-        return 7;
+        return Err(Refusal::BitNotCarried);
     }
     let after = written(g, n, v);
     if after.c04 == after.c05 {
-        return 8;
+        return Err(Refusal::GoIsStop);
     }
-    0
+    Ok(())
 }
 
 // Whether control registers have carried bits only, and go and stop differ.

@@ -17,7 +17,7 @@ use Rattle.status.specs.declared.Events.{Events}
 use Rattle.status.specs.Status.{showed, stays, acknowledged}
 use Rattle.state.specs.declared.State.{State}
 use Rattle.state.specs.declared.Notes.{Notes}
-use Rattle.state.specs.declared.Outcome.{Outcome}
+use Rattle.state.specs.Outcome.{Outcome}
 use Rattle.state.specs.declared.Out.{Out}
 use Rattle.state.specs.declared.Out.TheVariants as out
 use Rattle.answers.specs.declared.Answer.TheVariants.{Frame}

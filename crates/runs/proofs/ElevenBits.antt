@@ -14,7 +14,7 @@ use Rattle.sending.specs.declared.Given.{Given}
 use Rattle.sending.specs.declared.Given.TheVariants as given
 use Rattle.sending.specs.Sending.{given_of, send_held}
 use Rattle.state.specs.declared.State.{State}
-use Rattle.state.specs.declared.Outcome.{Outcome}
+use Rattle.state.specs.Outcome.{Outcome}
 use Rattle.state.specs.declared.Out.{Out}
 use Rattle.state.specs.declared.Out.TheVariants as out
 use Rattle.answers.specs.declared.Answer.{Answer}

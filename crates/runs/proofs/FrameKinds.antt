@@ -19,7 +19,7 @@ use Rattle.reading.specs.Reading.{Sent, none, one}
 use Rattle.reading.specs.Received.{Received}
 use Rattle.sending.specs.Sending.{given_of, send_held}
 use Rattle.state.specs.declared.State.{State}
-use Rattle.state.specs.declared.Outcome.{Outcome}
+use Rattle.state.specs.Outcome.{Outcome}
 use Rattle.answers.specs.declared.Answer.TheVariants.{Frame}
 use Rattle.state.specs.State.{with_talker}
 use Rattle.answers.specs.Answers.{said}

@@ -12,7 +12,7 @@ use Rattle.frame.specs.Frame.{control_of, data_of, made}
 use Rattle.role.specs.Role.{is_active}
 use Rattle.role.specs.ReadyFrames.{gives_address}
 use Rattle.role.proofs.ReadyLaws.{address_numbers}
-use Rattle.state.specs.declared.Outcome.{Outcome}
+use Rattle.state.specs.Outcome.{Outcome}
 use Rattle.answers.specs.Answers.{Said, said, frame}
 use Rattle.state.specs.Conditions.{serviced}
 use Rattle.state.specs.Conditions as state-status

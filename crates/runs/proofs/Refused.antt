@@ -9,7 +9,7 @@ use Rattle.sending.specs.declared.Given.TheVariants as given
 use Rattle.state.specs.declared.State.{State}
 use Rattle.state.specs.declared.Out.{Out}
 use Rattle.state.specs.declared.Out.TheVariants as out
-use Rattle.state.specs.declared.Outcome.{Outcome}
+use Rattle.state.specs.Outcome.{Outcome}
 use Rattle.answers.specs.Answers.{Said, said, done, none, byte, frame, refused, part, cell, lines}
 use Rattle.line.specs.HoldingOff.{next_out, out_answer}
 use Rattle.loopside.specs.Sends.{send_state, send_from, send_status, ended}

@@ -10,7 +10,7 @@ use Rattle.role.specs.declared.remote.Remote.{Remote}
 use Rattle.sending.specs.declared.Given.{Given}
 use Rattle.sending.specs.declared.Given.TheVariants.{Nothing, One}
 use Rattle.sending.specs.Sending.{given_of, send_held}
-use Rattle.state.specs.declared.Outcome.{Outcome}
+use Rattle.state.specs.Outcome.{Outcome}
 use Rattle.state.specs.Conditions.{after_status, after_status_back}
 use Rattle.line.specs.HoldingOff.{resumed}
 use Rattle.loopside.specs.LoopToLine.{added_state}

@@ -15,7 +15,7 @@ use Rattle.store.proofs.Laws.{put_full}
 use Rattle.reading.specs.Received.{a_byte, a_break, received_in, as_held}
 use Rattle.reading.proofs.Received.{bytes_held}
 use Rattle.state.specs.declared.State.{State}
-use Rattle.state.specs.declared.Outcome.{Outcome}
+use Rattle.state.specs.Outcome.{Outcome}
 use Rattle.state.specs.declared.Out.{Out}
 use Rattle.state.specs.declared.Out.TheVariants as out
 use Rattle.answers.specs.Answers.{said}

@@ -14,7 +14,7 @@ use Rattle.status.specs.Status.{both}
 use Rattle.status.specs.Status as status
 use Rattle.state.specs.declared.State.{State}
 use Rattle.state.specs.declared.Notes.{Notes}
-use Rattle.state.specs.declared.Outcome.{Outcome}
+use Rattle.state.specs.Outcome.{Outcome}
 use Rattle.state.specs.declared.Out.{Out}
 use Rattle.state.specs.declared.Out.TheVariants as out
 use Rattle.answers.specs.Answers.{Said, said, done, refused}

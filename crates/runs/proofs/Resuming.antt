@@ -29,7 +29,7 @@ use Rattle.talker.specs.UnderWay.{talking}
 use Rattle.loopside.specs.Sends.{rule_of, ended, removed_state, send_state, send_from}
 use Rattle.answers.specs.Refusals.{first_refusal}
 use Rattle.branches.proofs.Branches.{cond_false}
-use Rattle.state.specs.declared.Outcome.{Outcome}
+use Rattle.state.specs.Outcome.{Outcome}
 use Rattle.answers.specs.Answers.{said}
 use Rattle.loopside.specs.Frames.{device_clear}
 use Rattle.bridge.specs.Calls.{on, loop_frame, World, Did, checks, outcome, settled_by, step}

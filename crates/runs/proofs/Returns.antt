@@ -14,7 +14,7 @@ use Rattle.machine.specs.Machine.{Obeys, finally}
 use Rattle.frame.specs.Frame.{control_of, data_of, made, is_data, stripped, same_apart}
 use Rattle.talker.specs.declared.Talker.{Talker}
 use Rattle.state.specs.declared.State.{State}
-use Rattle.state.specs.declared.Outcome.{Outcome}
+use Rattle.state.specs.Outcome.{Outcome}
 use Rattle.answers.specs.Answers.{Said, said, frame, refused}
 use Rattle.line.specs.HoldingOff.{next_out}
 use Rattle.loopside.specs.Frames.{frame_taken, device_clear}

@@ -20,7 +20,7 @@ use Rattle.sending.specs.Sending.{given_of, send_held}
 use Rattle.talker.specs.declared.Talker.{Talker}
 use Rattle.talker.specs.Obeying.{obeyed_talker}
 use Rattle.state.specs.declared.State.{State}
-use Rattle.state.specs.declared.Outcome.{Outcome}
+use Rattle.state.specs.Outcome.{Outcome}
 use Rattle.answers.specs.Answers.{Said, said}
 use Rattle.state.specs.Conditions.{settled, after_status, after_status_back}
 use Rattle.line.specs.HoldingOff.{resumed, next_out}

@@ -11,7 +11,7 @@ use Rattle.reading.specs.Steps.{cut}
 use Rattle.reading.proofs.Reading.{send_ahead, send_none}
 use Rattle.reading.proofs.Lawful.{lawful}
 use Rattle.sending.specs.Sending.{given_of, send_held, sent_ring}
-use Rattle.state.specs.declared.Outcome.{Outcome}
+use Rattle.state.specs.Outcome.{Outcome}
 use Rattle.answers.specs.Answers.{Said, said, frame}
 use Rattle.talker.specs.UnderWay.{talking}
 use Rattle.loopside.specs.Sends.{rule_of, removed_state, send_state, send_from, ended}

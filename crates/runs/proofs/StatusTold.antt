@@ -8,7 +8,7 @@ use mathlib.Core.List.{[], ◌∷◌}
 use Rattle.branches.proofs.Branches.{cond_true}
 use Rattle.answers.specs.Refusals.{first_refusal}
 use Rattle.frame.specs.Frame.{made}
-use Rattle.state.specs.declared.Outcome.{Outcome}
+use Rattle.state.specs.Outcome.{Outcome}
 use Rattle.answers.specs.Answers.{said}
 use Rattle.state.specs.Conditions.{status_of, conditions}
 use Rattle.state.specs.Conditions as state-status

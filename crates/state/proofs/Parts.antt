@@ -19,7 +19,7 @@ use Rattle.status.specs.declared.Conditions.{Conditions}
 use Rattle.status.specs.declared.Events.{Events}
 use Rattle.status.specs.Status.{status_byte, both, begins, acknowledged}
 use Rattle.state.specs.declared.State.{State}
-use Rattle.state.specs.declared.Outcome.{Outcome}
+use Rattle.state.specs.Outcome.{Outcome}
 use Rattle.state.specs.State.{no_events, notes_with}
 use Rattle.state.specs.Sizes.{sizes_obeyed, start_state, fits}
 use Rattle.state.specs.Conditions.{conditions, enabled_by, asking, with_request, settled, settled_outcome, shows, status_of, after_status, after_status_back}

@@ -8,7 +8,7 @@ use Rattle.status.specs.declared.Conditions.{Conditions}
 use Rattle.status.specs.Status.{status_byte, both, begins, acknowledged}
 use Rattle.store.specs.Ring.{full}
 use Rattle.state.specs.declared.State.{State}
-use Rattle.state.specs.declared.Outcome.{Outcome}
+use Rattle.state.specs.Outcome.{Outcome}
 use Rattle.state.specs.State.{no_events, notes_with, with_break, with_key, noted}
 
 -- Status byte, bits: the seven conditions as they are in this state

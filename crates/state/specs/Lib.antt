@@ -1,3 +1,4 @@
+pub mod Outcome
 pub mod State
 pub mod Sizes
 pub mod Counts

@@ -1,7 +1,6 @@
 //! The state of the bridge by value, whether it fits its stores, and its service requests.
 #![tactic(auto)]
 
-use answers::Answer;
 use registers::Registers;
 use role::remote::Remote;
 use status::Events;
@@ -57,9 +56,5 @@ pub enum Out {
     Nothing,
 }
 
-// What a call answers, and the state after it.
-#[derive(Clone, Copy)]
-pub struct Outcome {
-    pub state: State,
-    pub answer: Answer,
-}
+// What a call on such a state answers, and the state after it.
+pub type Outcome = answers::Outcome<State>;

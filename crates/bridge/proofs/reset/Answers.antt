@@ -1,18 +1,16 @@
-use mathlib.Core.Bool.{not}
 use mathlib.Core.Path.{refl, ap}
-use Rattle.state.proofs.Fits.{is_misfit, is_fit}
-use Rattle.bridge.specs.Calls.{checks_on, done_with, outcome, room_of, settled_by, rx_after, tx_after, reset}
-use Rattle.bridge.proofs.Steps.{misfit_met, done_met}
+use Rattle.bridge.specs.Calls.{checks_on, done_with, outcome, room_of, settled_by, rx_after, tx_after, world, reset}
+use Rattle.bridge.proofs.Steps.{did_misfit, fit_found, done_met}
 use Rattle.bridge.proofs.reset.Goals as goal
 
-pub returns-then-not-state_fits : goal.returns-then-not-state_fits
-returns-then-not-state_fits c =
+pub returns-in_err-fitting : goal.returns-in_err-fitting
+returns-in_err-fitting c =
     let a = c.args in
-    misfit_met a.s a.rx.now a.tx.now (is_misfit c.state_fits.ensures (ap not c.if-not-state_fits.true)) reset _ c.refused.ensures
+    did_misfit a.s a.rx.now a.tx.now _ reset c.from_residual.result c.from_residual.ensures.1 c.in_err-fitting.ensures
 
 pub returns : goal.returns
 unfolding checks_on outcome settled_by rx_after tx_after room_of
 returns c =
     let a = c.args in
-    let e = is_fit c.state_fits.ensures (ap not c.if-not-state_fits.false) in
+    let e = fit_found (world a.s a.rx.now a.tx.now) c.in_ok-fitting.ensures in
     done_met a.s a.rx.now a.tx.now e reset _ _ _ _ refl (λ q. refl) (ap done_with c.start-t.ensures) refl refl refl c.done.ensures
