@@ -1,34 +1,30 @@
 -- What a reader may hold us to, first: two results that a call's promise allows are equal, the reply with the room that it tells, the state and every
 -- byte of both stores, refusals included. It is said of `Promised`, which the contracts of all eleven calls cite.
-use Rattle.std.specs.Prelude.{ℕ, ◌≡◌, true, false, List}
+use Rattle.std.specs.Prelude.{ℕ, ◌≡◌, true, false, List, Result}
 use Rattle.state.specs.declared.State.{State}
 use Rattle.state.specs.Outcome.{Outcome}
 use Rattle.answers.specs.declared.Answer.{Answer}
-use Rattle.answers.specs.Answers.{said, is_refusal}
+use Rattle.answers.specs.declared.Refusal.{Refusal}
+use Rattle.answers.specs.Answers.{said_by, is_refusal}
 use Rattle.bridge.specs.declared.Told.{Told}
 use Rattle.bridge.specs.Calls.{Store, ask_line_byte, Call, create, show, on, World, Did, world, did, told, looked, handed, step, Promised, unmade}
 
--- two results are the same
-pub record Same (o₁ o₂ : Outcome) (rx₁ rx₂ tx₁ tx₂ : List ℕ) : Type 0 where
-  pub reply : o₁.answer ≡ o₂.answer
-  pub state : o₁.state ≡ o₂.state
+-- two results are the same: the outcome, its answer and its state, or the refusal, and every byte of both stores
+pub record Same {X : Type 0} (o₁ o₂ : Result X Refusal) (rx₁ rx₂ tx₁ tx₂ : List ℕ) : Type 0 where
+  pub result : o₁ ≡ o₂
   pub rx : rx₁ ≡ rx₂
   pub tx : tx₁ ≡ tx₂
 
--- of a call that tells a room: it too
-pub record SameTold (t₁ t₂ : Told) (rx₁ rx₂ tx₁ tx₂ : List ℕ) : Type 0 where
-  pub outcome : Same t₁.outcome t₂.outcome rx₁ rx₂ tx₁ tx₂
-  pub room : t₁.room ≡ t₂.room
-
 pub record OneResult : Type 0 where
   -- of create and of the calls on a state that tell no room, but an ask
-  pub calls : (c : Call) (w : World) (o₁ o₂ : Outcome) (rx₁ rx₂ tx₁ tx₂ : List ℕ) →
-      Promised c w (did o₁ rx₁ tx₁) → Promised c w (did o₂ rx₂ tx₂) → Same o₁ o₂ rx₁ rx₂ tx₁ tx₂
-  -- of a line byte and a loop frame, which tell one
-  pub tells : (c : Call) (w : World) (t₁ t₂ : Told) (rx₁ rx₂ tx₁ tx₂ : List ℕ) →
-      Promised c w (told t₁ rx₁ tx₁) → Promised c w (told t₂ rx₂ tx₂) → SameTold t₁ t₂ rx₁ rx₂ tx₁ tx₂
+  pub calls : (c : Call) (w : World) (o₁ o₂ : Result Outcome Refusal) (rx₁ rx₂ tx₁ tx₂ : List ℕ) →
+      Promised c w (did w.state o₁ rx₁ tx₁) → Promised c w (did w.state o₂ rx₂ tx₂) → Same o₁ o₂ rx₁ rx₂ tx₁ tx₂
+  -- of a line byte and a loop frame, which tell one beside their outcome
+  pub tells : (c : Call) (w : World) (t₁ t₂ : Result Told Refusal) (rx₁ rx₂ tx₁ tx₂ : List ℕ) →
+      Promised c w (told w.state t₁ rx₁ tx₁) → Promised c w (told w.state t₂ rx₂ tx₂) → Same t₁ t₂ rx₁ rx₂ tx₁ tx₂
   -- an ask answers and changes nothing
-  pub asked : (w : World) (a₁ a₂ : Answer) → Promised (on ask_line_byte) w (looked (said a₁) w) → Promised (on ask_line_byte) w (looked (said a₂) w) → a₁ ≡ a₂
+  pub asked : (w : World) (a₁ a₂ : Result Answer Refusal) → Promised (on ask_line_byte) w (looked (said_by a₁) w) →
+      Promised (on ask_line_byte) w (looked (said_by a₂) w) → a₁ ≡ a₂
   -- showing returns a part and changes nothing
   pub shown : (side : Store) (w : World) (x₁ x₂ : List ℕ) → Promised (show side) w (handed x₁ w) → Promised (show side) w (handed x₂ w) → x₁ ≡ x₂
 
