@@ -8,7 +8,5 @@ use std::io::Input;
 fn main(rt: HostRuntime) -> io::Result<()> {
     let mut input = [0u8; 4096];
     let n = streams::read_full(&mut rt.reader(), &mut input)?;
-    let mut output = [0u8; 4096];
-    let k = transcript::run(&input[..n], &mut output);
-    rt.write_all(&output[..k])
+    rt.print(transcript::run(&input[..n]))
 }

@@ -14,6 +14,7 @@ pub fn read_full<R: Read>(stream: &mut R, buffer: &mut [u8]) -> io::Result<usize
     ensures bytes { IfOk result (λ n. Consumes (R.remaining stream.old) (R.remaining stream.new) (take n buffer.new)) }
     ensures whole { IfOk result (λ n. n < length buffer.new → IsAtEnd (R.remaining stream.new)) }
 {
+    // Kept: std's `read_exact` fails at an early end and does not say what it read, and `read_to_end` takes memory that grows.
     let mut at = 0;
     while at < buffer.len() {
         let n = stream.read(&mut buffer[at..])?;

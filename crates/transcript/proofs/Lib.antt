@@ -1,9 +1,7 @@
--- `Writing` serves what is written, `Parts` the sections of the input, `Turns` the loops,
--- `Whole` the run; `Asks` says that its asks are enough for a state that fits, `UntilNone` that those of a run do.
-pub mod Writing
-pub mod Parts
+-- `Printing` serves what is written, `Turns` the loops; `Asks` says that the asks of the run are enough for a state that fits, `UntilNone` that
+-- those of a run do.
+pub mod Printing
 pub mod Turns
-pub mod Whole
 pub mod Asks
 pub mod Start
 pub mod UntilNone

@@ -1,191 +1,177 @@
 -- One turn of each loop, on plain values: what is left to do from here is what was to be done. Assumes nothing.
-use Prim.Native.Nat.{ℕ, suc, ◌+◌, ◌-◌, ◌*◌, ◌≤◌, ◌<◌}
-use native.Mathlib.Omega.{arith}
-use mathlib.Core.Path.{◌≡◌, refl, sym, ap, ◌∙◌}
-use mathlib.Core.Bool.{Bool, true, false, cond, not}
-use mathlib.Core.List.{List, [], ◌∷◌, ◌++◌}
-use lib.ListN.{length, get_or, length-append}
+use Rattle.std.proofs.Common.{◌≡◌, ℕ, zero, suc, ◌+◌, ◌-◌, ◌*◌, ◌/◌, ◌≤◌, ◌<◌, List, [], ◌∷◌, ◌++◌, cond, false, length, get_or, take, drop, refl, sym, ap, ◌∙◌, arith, get_or-take, get_or-drop, drop-drop, length-take, length-drop, append_assoc, append-nil, eq-eqb, ne_eqb}
+use Rattle.std.specs.Simd.{first_chunks}
 use lib.Dec.{eqb}
-use borrow.Author.Tests.{eq-eqb, ne_eqb, not-true, not-false}
-use Rattle.state.specs.declared.State.{State}
-use Rattle.state.specs.Outcome.{Outcome}
 use Rattle.answers.specs.declared.Answer.{Answer}
-use Rattle.answers.specs.Answers.{said, fault_of, is_byte, byte_in}
-use Rattle.bridge.specs.declared.Told.{Told}
-use Rattle.bridge.specs.Calls.{on, write, line_byte, ask_line_byte, take_line_byte, loop_frame, World, world, Did, did, told, looked, step, ask_answer}
+use Rattle.answers.specs.declared.Answer.TheVariants.{Done, Nothing, Byte, Frame, Refused, Cell, Lines}
+use Rattle.answers.specs.Answers.{Said, said, byte, fault_of, is_byte, byte_in}
+use Rattle.bridge.specs.Calls.{on, write, line_byte, take_line_byte, loop_frame, World, step, ask_answer}
+use Rattle.bridge.proofs.Asks.{ask_leaves}
 use Rattle.transcript.specs.declared.Set.{Set}
-use Rattle.transcript.specs.Text.{decimal, answer_text, bytes_text, overwritten, Wrote}
+use Rattle.transcript.specs.Text.{answer_text}
 use Rattle.transcript.specs.Input.{high}
-use Rattle.transcript.specs.Transcript.{set_registers, line_bytes_in, frames_text, frames_world, Offers, next_taken, line_out}
-use Rattle.transcript.proofs.Writing.{overwritten_then, overwritten_none}
+use Rattle.transcript.specs.Transcript.{set_registers, line_bytes_in, frames_text, frames_world, next_taken, line_out}
 
-none_left : (n : ℕ) → n ≤ 0 → n ≡ 0
-none_left n h = omega arith
+-- ---- a part of the input, from i on
 
-one_left : (n : ℕ) → 0 < n → n ≡ suc (n - 1)
-one_left n h = omega arith
+-- n items: how many, and which
+pub part_length : (x : List ℕ) (i n : ℕ) → i + n ≤ length x → length (take (i + n - i) (drop i x)) ≡ n
+part_length x i n h = simp (length-take, length-drop) (omega arith)
 
--- ---- registers
+pub item_at : (x : List ℕ) (i n k : ℕ) → k < n → get_or (take (i + n - i) (drop i x)) k 0 ≡ get_or x (i + k) 0
+item_at x i n k h =
+    let e : k < i + n - i = omega arith in
+    get_or-take (i + n - i) (drop i x) k 0 e ∙ get_or-drop i x k 0
 
-module _ (x : List ℕ) (rx tx : List ℕ) where
-  set_step : (n i : ℕ) (w : World) → 0 < n → set_registers n x i w ≡
-      cond (eqb (fault_of (step (on (write (get_or x i 0) (get_or x (i + 1) 0))) w).said) 0)
-      (set_registers (n - 1) x (i + 2) (step (on (write (get_or x i 0) (get_or x (i + 1) 0))) w).world)
-      (record { state = w.state; fault = fault_of (step (on (write (get_or x i 0) (get_or x (i + 1) 0))) w).said })
-  unfolding set_registers
-  set_step n i w h = ap (λ (k : ℕ). set_registers k x i w) (one_left n h)
+-- m pairs, and which stands at k
+pair_of : (k m : ℕ) (xs d : List ℕ) → k < m → get_or (first_chunks 2 m xs) k d ≡ take 2 (drop (2 * k) xs)
+pair_of k zero xs d h = absurd (omega arith)
+pair_of zero (suc m) xs d h = refl
+pair_of (suc k) (suc m) xs d h =
+    let e : 2 * k + 2 ≡ 2 * suc k = omega arith in
+    pair_of k m (drop 2 xs) d (omega arith) ∙ ap (take 2) (drop-drop (2 * k) 2 xs) ∙ ap (λ (j : ℕ). take 2 (drop j xs)) (omega arith)
 
-  module _ (t : State) (i n a b : ℕ) (o : Outcome) (p : a ≡ get_or x i 0) (q : b ≡ get_or x (i + 1) 0)
-      (e : did o rx tx ≡ step (on (write a b)) (world t rx tx)) where
-    there : did o rx tx ≡ step (on (write (get_or x i 0) (get_or x (i + 1) 0))) (world t rx tx)
-    there = e ∙ (λ j. step (on (write (p j) (q j))) (world t rx tx))
+pub pair_at : (x : List ℕ) (i n k j : ℕ) {pairs : List (List ℕ)} → i + 2 * n ≤ length x → k < n → j < 2 →
+    pairs ≡ first_chunks 2 (length (take (i + 2 * n - i) (drop i x)) / 2) (take (i + 2 * n - i) (drop i x)) →
+    get_or (get_or pairs k []) j 0 ≡ get_or x (i + (2 * k + j)) 0
+pair_at x i n k j {pairs} h l s e =
+    let y = take (i + 2 * n - i) (drop i x) in
+    let m : k < length y / 2 = omega (arith, part_length x i (2 * n) h) in
+    let p : get_or pairs k [] ≡ take 2 (drop (2 * k) y) = ap (λ (ps : List (List ℕ)). get_or ps k []) e ∙ pair_of k (length y / 2) y [] m in
+    ap (λ (ds : List ℕ). get_or ds j 0) p ∙ get_or-take 2 (drop (2 * k) y) j 0 s ∙ get_or-drop (2 * k) y j 0 ∙ item_at x i (2 * n) (2 * k + j) (omega arith)
 
-    pub set_again : (k : ℕ) {total : Set} → 0 < n → k ≡ fault_of (said o.answer) → k ≡ 0 → set_registers n x i (world t rx tx) ≡ total →
-        set_registers (n - 1) x (i + 2) (world o.state rx tx) ≡ total
-    set_again k h f z inv =
-        let fine : fault_of (step (on (write (get_or x i 0) (get_or x (i + 1) 0))) (world t rx tx)).said ≡ 0 =
-        ap (λ (d : Did). fault_of d.said) (sym there) ∙ sym f ∙ z in
-        ap (λ (d : Did). set_registers (n - 1) x (i + 2) d.world) there ∙ sym (set_step n i (world t rx tx) h ∙ rw (eq-eqb _ 0 fine)) ∙ inv
+-- the number in a pair, high byte first
+pub high_pair : (x : List ℕ) (i n k : ℕ) {f : ℕ} {pairs : List (List ℕ)} → i + 2 * n ≤ length x → k < n →
+    pairs ≡ first_chunks 2 (length (take (i + 2 * n - i) (drop i x)) / 2) (take (i + 2 * n - i) (drop i x)) →
+    f ≡ get_or (get_or pairs k []) 0 0 * 256 + get_or (get_or pairs k []) 1 0 → f ≡ high x (i + 2 * k)
+high_pair x i n k h l e g =
+    let first = pair_at x i n k 0 h l (omega arith) e in
+    let second = pair_at x i n k 1 h l (omega arith) e in
+    let there : i + (2 * k + 0) ≡ i + 2 * k = omega arith in
+    let behind : i + (2 * k + 1) ≡ i + 2 * k + 1 = omega arith in
+    omega (arith, g, first, second, ap (λ (j : ℕ). get_or x j 0) there, ap (λ (j : ℕ). get_or x j 0) behind)
 
-    pub set_stops : (k : ℕ) {total : Set} → 0 < n → k ≡ fault_of (said o.answer) → (k ≡ 0 → ⊥) → set_registers n x i (world t rx tx) ≡ total →
-        ◌≡◌ {A = Set} (record { state = t; fault = k }) total
-    set_stops k h f z inv =
-        let same : fault_of (step (on (write (get_or x i 0) (get_or x (i + 1) 0))) (world t rx tx)).said ≡ k =
-        ap (λ (d : Did). fault_of d.said) (sym there) ∙ sym f in
-        sym (set_step n i (world t rx tx) h ∙ rw (same, ne_eqb k 0 z)) ∙ inv
+-- ---- the turns, by the items done
 
-  pub set_ends : (t : State) (i n : ℕ) {total : Set} → n ≤ 0 → set_registers n x i (world t rx tx) ≡ total →
-      ◌≡◌ {A = Set} (record { state = t; fault = 0 }) total
-  unfolding set_registers
-  set_ends t i n h inv = ap (λ (k : ℕ). set_registers k x i (world t rx tx)) (sym (none_left n h)) ∙ inv
+one_less : (n k : ℕ) → k < n → n - k ≡ suc (n - (k + 1))
+one_less n k h = omega arith
 
--- ---- line bytes in
+none_left : (n k : ℕ) → n ≤ k → 0 ≡ n - k
+none_left n k h = omega arith
 
-line_in_step : (x : List ℕ) (n i : ℕ) (w : World) → 0 < n → line_bytes_in n x i w ≡ line_bytes_in (n - 1) x (i + 1) (step (on (line_byte (get_or x i 0))) w).world
+pub registers_turn : (x : List ℕ) (i n k : ℕ) (w : World) → k < n →
+    set_registers (n - k) x (i + 2 * k) w ≡
+    cond (eqb (fault_of (step (on (write (get_or x (i + 2 * k) 0) (get_or x (i + 2 * k + 1) 0))) w).said) 0)
+    (set_registers (n - (k + 1)) x (i + 2 * k + 2) (step (on (write (get_or x (i + 2 * k) 0) (get_or x (i + 2 * k + 1) 0))) w).world)
+    (record { state = w.state; fault = fault_of (step (on (write (get_or x (i + 2 * k) 0) (get_or x (i + 2 * k + 1) 0))) w).said })
+unfolding set_registers
+registers_turn x i n k w h = ap (λ (m : ℕ). set_registers m x (i + 2 * k) w) (one_less n k h)
+
+pub line_in_turn : (x : List ℕ) (i n k : ℕ) (w : World) → k < n →
+    line_bytes_in (n - k) x (i + k) w ≡ line_bytes_in (n - (k + 1)) x (i + k + 1) (step (on (line_byte (get_or x (i + k) 0))) w).world
 unfolding line_bytes_in
-line_in_step x n i w h = ap (λ (k : ℕ). line_bytes_in k x i w) (one_left n h)
+line_in_turn x i n k w h = ap (λ (m : ℕ). line_bytes_in m x (i + k) w) (one_less n k h)
 
-pub line_in_again : (x rx rx' tx : List ℕ) (t : State) (i n : ℕ) (o : Told) {total : World} → 0 < n →
-    told o rx' tx ≡ step (on (line_byte (get_or x i 0))) (world t rx tx) →
-    line_bytes_in n x i (world t rx tx) ≡ total → line_bytes_in (n - 1) x (i + 1) (world o.outcome.state rx' tx) ≡ total
-line_in_again x rx rx' tx t i n o h e inv =
-    ap (λ (d : Did). line_bytes_in (n - 1) x (i + 1) d.world) e ∙ sym (line_in_step x n i (world t rx tx) h) ∙ inv
-
-pub line_in_ends : (x : List ℕ) (w : World) (i n : ℕ) {total : World} → n ≤ 0 → line_bytes_in n x i w ≡ total → w ≡ total
-unfolding line_bytes_in
-line_in_ends x w i n h inv = ap (λ (k : ℕ). line_bytes_in k x i w) (sym (none_left n h)) ∙ inv
-
--- ---- frames
-
-frames_step : (x : List ℕ) (n i : ℕ) (w : World) → 0 < n →
-    frames_text n x i w ≡ answer_text (step (on (loop_frame (high x i))) w).said ++ frames_text (n - 1) x (i + 2) (step (on (loop_frame (high x i))) w).world
+pub frames_turn : (x : List ℕ) (i n k : ℕ) (w : World) → k < n →
+    frames_text (n - k) x (i + 2 * k) w ≡
+    answer_text (step (on (loop_frame (high x (i + 2 * k)))) w).said ++ frames_text (n - (k + 1)) x (i + 2 * k + 2) (step (on (loop_frame (high x (i + 2 * k)))) w).world
 unfolding frames_text
-frames_step x n i w h = ap (λ (k : ℕ). frames_text k x i w) (one_left n h)
+frames_turn x i n k w h = ap (λ (m : ℕ). frames_text m x (i + 2 * k) w) (one_less n k h)
 
-world_step : (x : List ℕ) (n i : ℕ) (w : World) → 0 < n → frames_world n x i w ≡ frames_world (n - 1) x (i + 2) (step (on (loop_frame (high x i))) w).world
+pub world_turn : (x : List ℕ) (i n k : ℕ) (w : World) → k < n →
+    frames_world (n - k) x (i + 2 * k) w ≡ frames_world (n - (k + 1)) x (i + 2 * k + 2) (step (on (loop_frame (high x (i + 2 * k)))) w).world
 unfolding frames_world
-world_step x n i w h = ap (λ (k : ℕ). frames_world k x i w) (one_left n h)
+world_turn x i n k w h = ap (λ (m : ℕ). frames_world m x (i + 2 * k) w) (one_less n k h)
 
--- a text that is still to be written from k on: with what is written already, all of it from `to` on
-pub record Rest (out₀ : List ℕ) (to : ℕ) (all : List ℕ) (out : List ℕ) (k : ℕ) (left : List ℕ) : Type 0 where
-  pub bytes : overwritten k left out ≡ overwritten to all out₀
-  pub place : k + length left ≡ to + length all
-  pub size : length out ≡ length out₀
-
-pub rest_start : (out : List ℕ) (to : ℕ) (all : List ℕ) → Rest out to all out to all
-rest_start out to all = record { bytes = refl; place = refl; size = refl }
-
--- a piece of it is written
-pub rest_again : {out₀ out out₁ : List ℕ} {to k r : ℕ} {all a left : List ℕ} → k ≤ length out → Rest out₀ to all out k (a ++ left) → Wrote out k a out₁ r →
-    Rest out₀ to all out₁ r left
-rest_again {out₀} {out} {out₁} {to} {k} {r} {all} {a} {left} h p q =
-    record {
-      bytes = (λ j. overwritten (q.next j) left (q.bytes j)) ∙ overwritten_then k a left out h ∙ p.bytes;
-      place = omega (arith, q.next, p.place, length-append a left);
-      size = q.size ∙ p.size;
-    }
-
-pub rest_end : {out₀ out : List ℕ} {to k : ℕ} {all : List ℕ} → Rest out₀ to all out k [] → Wrote out₀ to all out k
-rest_end {out₀} {out} {to} {k} {all} p = record { bytes = sym (overwritten_none k out) ∙ p.bytes; next = omega (arith, p.place); size = p.size }
-
--- what the loop over the frames keeps
-pub record Offering (x rx tx₀ : List ℕ) (i n : ℕ) (out₀ : List ℕ) (to : ℕ) (t₀ : State) (tx out : List ℕ) (t : State) (at left k : ℕ) : Type 0 where
-  pub reached : frames_world left x at (world t rx tx) ≡ frames_world n x i (world t₀ rx tx₀)
-  pub text : Rest out₀ to (frames_text n x i (world t₀ rx tx₀)) out k (frames_text left x at (world t rx tx))
-  pub room : k + 12 * left ≤ to + 12 * n
-  pub fits : to + 12 * n ≤ length out
-  pub items : at + 2 * left ≤ length x
-  pub small : at + 2 * left < 65536
-
-pub offer_again : {x rx tx₀ : List ℕ} {i n : ℕ} {out₀ : List ℕ} {to : ℕ} {t₀ : State} {tx out : List ℕ} {t : State} {at left k : ℕ}
-    (o : Told) (f r : ℕ) (tx' out' : List ℕ) → 0 < left → Offering x rx tx₀ i n out₀ to t₀ tx out t at left k → f ≡ high x at →
-    told o rx tx' ≡ step (on (loop_frame f)) (world t rx tx) → (Wrote out k (answer_text (said o.outcome.answer)) out' r) × (r ≤ k + 12) →
-    Offering x rx tx₀ i n out₀ to t₀ tx' out' o.outcome.state (at + 2) (left - 1) r
-offer_again {x} {rx} {tx₀} {i} {n} {out₀} {to} {t₀} {tx} {out} {t} {at} {left} {k} o f r tx' out' h p q e w =
-    let d : told o rx tx' ≡ step (on (loop_frame (high x at))) (world t rx tx) = e ∙ ap (λ (g : ℕ). step (on (loop_frame g)) (world t rx tx)) q in
-    let next : frames_text left x at (world t rx tx) ≡
-    answer_text (said o.outcome.answer) ++ frames_text (left - 1) x (at + 2) (world o.outcome.state rx tx') =
-    frames_step x left at (world t rx tx) h ∙ ap (λ (g : Did). answer_text g.said ++ frames_text (left - 1) x (at + 2) g.world) (sym d) in
-    let there : Rest out₀ to (frames_text n x i (world t₀ rx tx₀)) out k
-    (answer_text (said o.outcome.answer) ++ frames_text (left - 1) x (at + 2) (world o.outcome.state rx tx')) = rw next at p.text in
-    record {
-      reached = ap (λ (g : Did). frames_world (left - 1) x (at + 2) g.world) d ∙ sym (world_step x left at (world t rx tx) h) ∙ p.reached;
-      text = rest_again (omega (arith, p.room, p.fits)) there w.0;
-      room = omega (arith, p.room, w.1);
-      fits = omega (arith, p.fits, w.0.size);
-      items = omega (arith, p.items);
-      small = omega (arith, p.small);
-    }
-
-pub offer_ends : {x rx tx₀ : List ℕ} {i n : ℕ} {out₀ : List ℕ} {to : ℕ} {t₀ : State} {tx out : List ℕ} {t : State} {at left k : ℕ} →
-    left ≤ 0 → Offering x rx tx₀ i n out₀ to t₀ tx out t at left k → Offers n x i (world t₀ rx tx₀) out₀ to t tx out k
-unfolding frames_world frames_text
-offer_ends {x} {rx} {tx₀} {i} {n} {out₀} {to} {t₀} {tx} {out} {t} {at} {left} {k} h p =
-    let z = none_left left h in
-    record {
-      world = ap (λ (m : ℕ). frames_world m x at (world t rx tx)) (sym z) ∙ p.reached;
-      wrote = rest_end (rw z at p.text);
-      short = omega (arith, p.room);
-    }
-
--- ---- line bytes out
-
-line_step : (n : ℕ) (w : World) → 0 < n → line_out n w ≡ cond (is_byte (ask_answer w)) (byte_in (ask_answer w) ∷ line_out (n - 1) (next_taken w)) []
+pub line_turn : (n k : ℕ) (w : World) → k < n →
+    line_out (n - k) w ≡ cond (is_byte (ask_answer w)) (byte_in (ask_answer w) ∷ line_out (n - (k + 1)) (next_taken w)) []
 unfolding line_out
-line_step n w h = ap (λ (k : ℕ). line_out k w) (one_left n h)
+line_turn n k w h = ap (λ (m : ℕ). line_out m w) (one_less n k h)
 
-module _ (rx tx : List ℕ) (t : State) (n : ℕ) (a : Answer) (r : Bool) (h : 0 < n)
-    (e : looked (said a) (world t rx tx) ≡ step (on ask_line_byte) (world t rx tx)) (b : r ≡ is_byte (said a)) where
-  line_is : line_out n (world t rx tx) ≡
-      cond (is_byte (said a)) (byte_in (said a) ∷ line_out (n - 1) (step (on (take_line_byte (byte_in (said a)))) (world t rx tx)).world) []
-  line_is =
-      line_step n (world t rx tx) h
-      ∙ ap
-      (λ (d : Did). cond (is_byte d.said) (byte_in d.said ∷ line_out (n - 1) (step (on (take_line_byte (byte_in d.said))) d.world).world) [])
-      (sym e)
+-- ---- what the loops keep
 
-  pub line_stops : not r ≡ true → line_out n (world t rx tx) ≡ []
-  line_stops q = line_is ∙ rw (← b, not-true r q)
+pub set_again : (x : List ℕ) (i n k a b f : ℕ) (w w' : World) {total : Set} → k < n → a ≡ get_or x (i + (2 * k + 0)) 0 → b ≡ get_or x (i + (2 * k + 1)) 0 →
+    f ≡ fault_of (step (on (write a b)) w).said → w' ≡ (step (on (write a b)) w).world → f ≡ 0 →
+    set_registers (n - k) x (i + 2 * k) w ≡ total → set_registers (n - (k + 1)) x (i + 2 * (k + 1)) w' ≡ total
+set_again x i n k a b f w w' h p q g e z inv =
+    let first : a ≡ get_or x (i + 2 * k) 0 = p ∙ ap (λ (j : ℕ). get_or x j 0) (omega arith) in
+    let second : b ≡ get_or x (i + 2 * k + 1) 0 = q ∙ ap (λ (j : ℕ). get_or x j 0) (omega arith) in
+    let told : fault_of (step (on (write (get_or x (i + 2 * k) 0) (get_or x (i + 2 * k + 1) 0))) w).said ≡ 0 = cc in
+    let next : w' ≡ (step (on (write (get_or x (i + 2 * k) 0) (get_or x (i + 2 * k + 1) 0))) w).world = cc in
+    let place : i + 2 * (k + 1) ≡ i + 2 * k + 2 = omega arith in
+    rw (place, next) (sym (registers_turn x i n k w h ∙ rw (eq-eqb _ 0 told)) ∙ inv)
 
-  -- the byte is taken by its name
-  pub line_goes : (x : ℕ) (o : Outcome) → not r ≡ false → x ≡ byte_in (said a) → did o rx tx ≡ step (on (take_line_byte x)) (world t rx tx) →
-      line_out n (world t rx tx) ≡ byte_in (said a) ∷ line_out (n - 1) (world o.state rx tx)
-  line_goes x o q p f =
-      line_is ∙ rw (← b, not-false r q)
-      (ap (λ (d : Did). byte_in (said a) ∷ line_out (n - 1) d.world) (sym (f ∙ ap (λ (y : ℕ). step (on (take_line_byte y)) (world t rx tx)) p)))
+pub set_stops : (x : List ℕ) (i n k a b f : ℕ) (w : World) {total : Set} → k < n → a ≡ get_or x (i + (2 * k + 0)) 0 → b ≡ get_or x (i + (2 * k + 1)) 0 →
+    f ≡ fault_of (step (on (write a b)) w).said → (f ≡ 0 → ⊥) →
+    set_registers (n - k) x (i + 2 * k) w ≡ total → ◌≡◌ {A = Set} (record { state = w.state; fault = f }) total
+set_stops x i n k a b f w h p q g z inv =
+    let first : a ≡ get_or x (i + 2 * k) 0 = p ∙ ap (λ (j : ℕ). get_or x j 0) (omega arith) in
+    let second : b ≡ get_or x (i + 2 * k + 1) 0 = q ∙ ap (λ (j : ℕ). get_or x j 0) (omega arith) in
+    let told : fault_of (step (on (write (get_or x (i + 2 * k) 0) (get_or x (i + 2 * k + 1) 0))) w).said ≡ f = cc in
+    sym (registers_turn x i n k w h ∙ rw (told, ne_eqb f 0 z)) ∙ inv
 
-pub line_none : (n : ℕ) (w : World) → n ≤ 0 → line_out n w ≡ []
+pub set_ends : (x : List ℕ) (i n k : ℕ) (w : World) {total : Set} → n ≤ k → set_registers (n - k) x (i + 2 * k) w ≡ total →
+    ◌≡◌ {A = Set} (record { state = w.state; fault = 0 }) total
+unfolding set_registers
+set_ends x i n k w h inv = ap (λ (m : ℕ). set_registers m x (i + 2 * k) w) (none_left n k h) ∙ inv
+
+pub line_in_again : (x : List ℕ) (i n k b : ℕ) (w w' : World) {total : World} → k < n → b ≡ get_or x (i + k) 0 → w' ≡ (step (on (line_byte b)) w).world →
+    line_bytes_in (n - k) x (i + k) w ≡ total → line_bytes_in (n - (k + 1)) x (i + (k + 1)) w' ≡ total
+line_in_again x i n k b w w' h e f inv = let t = line_in_turn x i n k w h in let a : i + (k + 1) ≡ i + k + 1 = omega arith in cc
+
+pub line_in_ends : (x : List ℕ) (i n k : ℕ) (w : World) {total : World} → n ≤ k → line_bytes_in (n - k) x (i + k) w ≡ total → w ≡ total
+unfolding line_bytes_in
+line_in_ends x i n k w h inv = ap (λ (m : ℕ). line_bytes_in m x (i + k) w) (none_left n k h) ∙ inv
+
+pub frames_again : (x : List ℕ) (i n k f : ℕ) (w w' : World) {total : World} → k < n → f ≡ high x (i + 2 * k) → w' ≡ (step (on (loop_frame f)) w).world →
+    frames_world (n - k) x (i + 2 * k) w ≡ total → frames_world (n - (k + 1)) x (i + 2 * (k + 1)) w' ≡ total
+frames_again x i n k f w w' h e g inv = let t = world_turn x i n k w h in let a : i + 2 * (k + 1) ≡ i + 2 * k + 2 = omega arith in cc
+
+pub frames_end : (x : List ℕ) (i n k : ℕ) (w : World) {total : World} → n ≤ k → frames_world (n - k) x (i + 2 * k) w ≡ total → w ≡ total
+unfolding frames_world
+frames_end x i n k w h inv = ap (λ (m : ℕ). frames_world m x (i + 2 * k) w) (none_left n k h) ∙ inv
+
+pub text_again : (x : List ℕ) (i n k f : ℕ) (w w' : World) (a : Said) (out : List ℕ) {out' total : List ℕ} → k < n → f ≡ high x (i + 2 * k) → a ≡ (step (on (loop_frame f)) w).said →
+    w' ≡ (step (on (loop_frame f)) w).world → out' ≡ out ++ answer_text a → out ++ frames_text (n - k) x (i + 2 * k) w ≡ total →
+    out' ++ frames_text (n - (k + 1)) x (i + 2 * (k + 1)) w' ≡ total
+text_again x i n k f w w' a out h e g l o inv =
+    let t = frames_turn x i n k w h in
+    let j : i + 2 * (k + 1) ≡ i + 2 * k + 2 = omega arith in
+    let s = append_assoc out (answer_text a) (frames_text (n - (k + 1)) x (i + 2 * (k + 1)) w') in
+    cc
+
+pub text_ends : (x : List ℕ) (i n k : ℕ) (w : World) {out total : List ℕ} → n ≤ k → out ++ frames_text (n - k) x (i + 2 * k) w ≡ total → out ≡ total
+unfolding frames_text
+text_ends x i n k w {out} h inv = sym (append-nil out) ∙ ap (λ (m : ℕ). out ++ frames_text m x (i + 2 * k) w) (none_left n k h) ∙ inv
+
+-- ---- the line bytes that go out
+
+-- an answer that is no line byte
+pub not_byte : (a : Answer) → ((x : ℕ) → a ≡ Byte x → ⊥) → is_byte (said a) ≡ false
+unfolding is_byte said
+not_byte Done h = refl
+not_byte Nothing h = refl
+not_byte (Byte x) h = absurd (h x refl)
+not_byte (Frame f) h = refl
+not_byte (Refused n) h = refl
+not_byte (Cell n) h = refl
+not_byte (Lines n) h = refl
+
+pub line_stops : (n k : ℕ) (w : World) (a : Said) {out total : List ℕ} → k < n → a ≡ ask_answer w → is_byte a ≡ false → out ++ line_out (n - k) w ≡ total → out ≡ total
+line_stops n k w a {out} h e f inv =
+    let none : line_out (n - k) w ≡ [] = line_turn n k w h ∙ rw (← e, f) in
+    sym (append-nil out) ∙ ap (λ (bs : List ℕ). out ++ bs) (sym none) ∙ inv
+
+pub line_goes : (n k b : ℕ) (w w' : World) (out : List ℕ) {out' total : List ℕ} → k < n → byte b ≡ ask_answer w → w' ≡ (step (on (take_line_byte b)) w).world →
+    out' ≡ out ++ (b ∷ []) → out ++ line_out (n - k) w ≡ total → out' ++ line_out (n - (k + 1)) w' ≡ total
+unfolding is_byte byte_in
+line_goes n k b w w' out h e f o inv =
+    let next : next_taken w ≡ w' =
+    (λ j. (step (on (take_line_byte (byte_in (sym e j)))) (ask_leaves w j)).world) ∙ sym f in
+    let t : line_out (n - k) w ≡ b ∷ line_out (n - (k + 1)) w' = line_turn n k w h ∙ rw (← e) (ap (λ (v : World). b ∷ line_out (n - (k + 1)) v) next) in
+    let s = append_assoc out (b ∷ []) (line_out (n - (k + 1)) w') in
+    cc
+
+pub line_ends : (n k : ℕ) (w : World) {out total : List ℕ} → n ≤ k → out ++ line_out (n - k) w ≡ total → out ≡ total
 unfolding line_out
-line_none n w h = rw (none_left n h)
-
-pub bytes_end : {out₀ out : List ℕ} {to k : ℕ} {all xs : List ℕ} → xs ≡ [] → Rest out₀ to all out k (bytes_text xs) → Wrote out₀ to all out k
-unfolding bytes_text
-bytes_end e p = rest_end (rw e at p)
-
-pub bytes_again : {out₀ out out₁ : List ℕ} {to k r : ℕ} {all xs : List ℕ} (b c : ℕ) (ys : List ℕ) → k ≤ length out → xs ≡ b ∷ ys → c ≡ b →
-    Rest out₀ to all out k (bytes_text xs) → Wrote out k ((32 ∷ []) ++ decimal c) out₁ r → Rest out₀ to all out₁ r (bytes_text ys)
-unfolding bytes_text
-bytes_again b c ys h e q p w = rest_again h (rw e at p) (rw q at w)
-
-pub count_ends : (k n total : ℕ) (w : World) → n ≤ 0 → k + length (line_out n w) ≡ total → k ≡ total
-count_ends k n total w h e = omega (arith, ap length (line_none n w h))
+line_ends n k w {out} h inv = sym (append-nil out) ∙ ap (λ (m : ℕ). out ++ line_out m w) (none_left n k h) ∙ inv

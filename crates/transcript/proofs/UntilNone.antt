@@ -12,8 +12,9 @@ use Rattle.bridge.specs.Calls.{Call, on, write, line_byte, loop_frame, World, wo
 use Rattle.laws.specs.Fitting.{Fits}
 use Rattle.laws.proofs.States.{start_fits}
 use Rattle.laws.proofs.Fitting.{keeps_fit, stores_stay}
+use Rattle.transcript.specs.declared.Sections.{Sections}
 use Rattle.transcript.specs.declared.Set.{Set}
-use Rattle.transcript.specs.Input.{high, sections_of}
+use Rattle.transcript.specs.Input.{high}
 use Rattle.answers.specs.Answers.{fault_of}
 use Rattle.transcript.specs.Transcript.{set_registers, line_bytes_in, frames_world, store}
 use Rattle.transcript.specs.UntilNone.{run_world, UntilNone}
@@ -62,8 +63,8 @@ unfolding frames_world
 frames_right zero x i w r = r
 frames_right (suc n) x i w r = frames_right n x (i + 2) (step (on (loop_frame (high x i))) w).world (step_right (on (loop_frame (high x i))) w r)
 
-run_right : (x : List ℕ) → Right (run_world x)
-run_right x = frames_right _ x _ _ (line_in_right _ x _ _ (set_right (sections_of x).regs x 2 (world (start_state 8 64 64) store store) start_right))
+run_right : (x : List ℕ) (p : Sections) → Right (run_world x p)
+run_right x p = frames_right _ x _ _ (line_in_right _ x _ _ (set_right p.regs x 2 (world (start_state 8 64 64) store store) start_right))
 
 pub asks_until_none : UntilNone
-asks_until_none x = let r : Right (run_world x) = run_right x in asks_enough (run_world x) r.fits r.size
+asks_until_none x p = let r : Right (run_world x p) = run_right x p in asks_enough (run_world x p) r.fits r.size

@@ -1,5 +1,5 @@
 -- What is printed, as a list of ASCII codes.
-use Rattle.std.specs.Prelude.{ℕ, ◌+◌, ◌/◌, ◌%◌, ◌≤◌, ◌≡◌, cond, List, [], ◌∷◌, ◌++◌, length, take, drop, ltb}
+use Rattle.std.specs.Prelude.{ℕ, ◌+◌, ◌/◌, ◌%◌, cond, List, [], ◌∷◌, ◌++◌, ltb}
 use Rattle.answers.specs.Answers.{Said, done, none, byte, frame, refused, part, cell, lines}
 
 -- the last decimal digit of a number
@@ -51,17 +51,3 @@ answer_text (lines n) = []
 unfoldable pub bytes_text : List ℕ → List ℕ
 bytes_text [] = []
 bytes_text (b ∷ bs) = ((32 ∷ []) ++ decimal b) ++ bytes_text bs
-
--- a list with the text written over it from a place on
-abbrev pub overwritten : ℕ → List ℕ → List ℕ → List ℕ
-overwritten at text out = take at out ++ (text ++ drop (at + length text) out)
-
--- the text is written from `at` on, and nothing else: out before, out' after, r the place behind it
-pub record Wrote (out : List ℕ) (at : ℕ) (text : List ℕ) (out' : List ℕ) (r : ℕ) : Type 0 where
-  pub bytes : out' ≡ overwritten at text out
-  pub next : r ≡ at + length text
-  pub size : length out' ≡ length out
-
--- r bytes stand at the start of out; the second part, which follows from the first, is what a caller that takes them is asked
-abbrev pub Within : ℕ → List ℕ → Type 0
-Within r out = (r ≤ length out) × (r ≡ length (take r out))

@@ -1,13 +1,13 @@
 -- Proved examples, the program onepass: what it prints, by the calls of the bridge.
-use Rattle.std.specs.Prelude.{ℕ, zero, suc, ◌+◌, ◌*◌, ◌≤◌, ◌≡◌, cond, List, [], ◌∷◌, ◌++◌, length, get_or, replicate, eqb}
-use Rattle.state.specs.declared.State.{State}
+use Rattle.std.specs.Prelude.{ℕ, zero, suc, ◌+◌, ◌*◌, cond, List, [], ◌∷◌, ◌++◌, length, get_or, replicate, eqb}
+use Rattle.std.specs.Option.{option_map_or}
 use Rattle.answers.specs.Answers.{Said, fault_of, is_byte, byte_in}
 use Rattle.state.specs.Sizes.{start_state}
 use Rattle.bridge.specs.Calls.{on, write, line_byte, ask_line_byte, take_line_byte, loop_frame, World, world, Did, step, ask_answer}
 use Rattle.transcript.specs.declared.Sections.{Sections}
 use Rattle.transcript.specs.declared.Set.{Set}
 use Rattle.transcript.specs.Input.{high, sections_of}
-use Rattle.transcript.specs.Text.{decimal, newline, first_line, line_word, refused_text, answer_text, bytes_text, Wrote}
+use Rattle.transcript.specs.Text.{decimal, newline, first_line, line_word, refused_text, answer_text, bytes_text}
 
 -- the program, registers: n pairs from place i are written, up to one that is refused
 unfoldable pub set_registers : ℕ → List ℕ → ℕ → World → Set
@@ -30,12 +30,6 @@ frames_text (suc n) x i w = answer_text (step (on (loop_frame (high x i))) w).sa
 unfoldable pub frames_world : ℕ → List ℕ → ℕ → World → World
 frames_world zero x i w = w
 frames_world (suc n) x i w = frames_world n x (i + 2) (step (on (loop_frame (high x i))) w).world
-
--- the same as a promise: t is the state after them and r the place behind what they print
-pub record Offers (n : ℕ) (x : List ℕ) (i : ℕ) (w : World) (out : List ℕ) (at : ℕ) (t : State) (tx' out' : List ℕ) (r : ℕ) : Type 0 where
-  pub world : world t w.rx tx' ≡ frames_world n x i w
-  pub wrote : Wrote out at (frames_text n x i w) out' r
-  pub short : r ≤ at + 12 * n
 
 -- the program, then: what a take of the byte that an ask answers does after it, with its answer and the world that it leaves
 abbrev pub then_takes : World → Did
@@ -88,4 +82,4 @@ store = replicate 64 0
 
 -- all that is printed; of malformed input one line with refusal 9
 unfoldable pub printed : List ℕ → List ℕ
-printed x = cond (sections_of x).ok (run_text x (sections_of x) store store) (refused_text 9)
+printed x = option_map_or (λ p. run_text x p store store) (sections_of x) (refused_text 9)

@@ -1,94 +1,49 @@
 // The input: numbers of two bytes, high byte first, and the three sections.
-ghost use Rattle.std.specs.Prelude.{◌≡◌, ◌+◌, ◌≤◌, ◌<◌, length};
-ghost use Rattle.transcript.specs.Input.{high, malformed, sections_of, second_of, third_of};
+ghost use Rattle.std.specs.Prelude.{◌≡◌, ◌+◌, ◌≤◌, ◌<◌, ◌^◌, length, IfSome};
+ghost use Rattle.transcript.specs.Input.{high, count_at, sections_of, Whole};
 
 use crate::Sections;
 
-// A byte in more bits: the caller is asked only for the place that it is read from.
-fn wide(x: u8) -> usize
-    ensures { (result ≡ x) × (result < 256) }
-{
-    x as usize
-}
-
 // The number in two bytes of the input, high byte first.
-fn high_at(x: &[u8], i: usize) -> usize
-    requires { i + 2 ≤ length x.now }
-    ensures { (result ≡ high x.now i) × (result < 65536) }
-{
-    256 * wide(x[i]) + wide(x[i + 1])
-}
-
-// The frame in two bytes of the input, high byte first.
-pub fn high32_at(x: &[u8], i: usize) -> u32
+fn high_at(x: &[u8], i: usize) -> u16
     requires { i + 2 ≤ length x.now }
     ensures { result ≡ high x.now i }
 {
-    high_at(x, i) as u32
+    u16::from_be_bytes([x[i], x[i + 1]])
 }
 
-// The sections of malformed input.
-fn malformed() -> Sections
-    ensures { result ≡ malformed }
+// The count that stands at a place of the input; none where the input ends before it, or where it is above 64.
+#[tactic(auto, unfolding(crate::specs::Input::count_at))]
+fn count_at(x: &[u8], i: usize) -> Option<usize>
+    requires { i + 2 < 2 ^ 64 }
+    ensures exact { result ≡ count_at x.now i }
+    ensures bound { IfSome result (λ n. n ≤ 64) }
 {
-    Sections {
-        ok: false,
-        regs: 0,
-        bytes: 0,
-        frames: 0,
+    if x.len() < i + 2 {
+        return None;
     }
+    let n = usize::from(high_at(x, i));
+    if n > 64 {
+        return None;
+    }
+    Some(n)
 }
 
-// The sections, when the first two have a and b items.
-fn third_of(x: &[u8], a: usize, b: usize) -> Sections
-    requires { (a ≤ 64) × (b ≤ 64) }
-    ensures { result ≡ third_of x.now a b }
+// The sections of the input; none where it is malformed.
+#[tactic(auto, unfolding(crate::specs::Input::sections_of, crate::specs::Input::second_of, crate::specs::Input::third_of, crate::specs::Input::end_of))]
+pub fn sections_of(x: &[u8]) -> Option<Sections>
+    ensures exact { result ≡ sections_of x.now }
+    ensures whole { IfSome result (Whole x.now) }
 {
-    let at = 4 + 2 * a + b;
-    if at + 2 > x.len() {
-        return malformed();
+    let regs = count_at(x, 0)?;
+    let bytes = count_at(x, 2 + 2 * regs)?;
+    let frames = count_at(x, 4 + 2 * regs + bytes)?;
+    if x.len() != 6 + 2 * regs + bytes + 2 * frames {
+        return None;
     }
-    let c = high_at(x, at);
-    if c > 64 {
-        return malformed();
-    }
-    if x.len() != 6 + 2 * a + b + 2 * c {
-        return malformed();
-    }
-    Sections {
-        ok: true,
-        regs: a,
-        bytes: b,
-        frames: c,
-    }
-}
-
-// The sections, when the first has a items.
-fn second_of(x: &[u8], a: usize) -> Sections
-    requires { a ≤ 64 }
-    ensures { result ≡ second_of x.now a }
-{
-    let at = 2 + 2 * a;
-    if at + 2 > x.len() {
-        return malformed();
-    }
-    let b = high_at(x, at);
-    if b > 64 {
-        return malformed();
-    }
-    third_of(x, a, b)
-}
-
-// The sections of the input.
-pub fn sections_of(x: &[u8]) -> Sections
-    ensures { result ≡ sections_of x.now }
-{
-    if 2 > x.len() {
-        return malformed();
-    }
-    let a = high_at(x, 0);
-    if a > 64 {
-        return malformed();
-    }
-    second_of(x, a)
+    Some(Sections {
+        regs,
+        bytes,
+        frames,
+    })
 }

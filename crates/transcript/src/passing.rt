@@ -1,57 +1,43 @@
 // The passing of registers, line bytes and frames to the bridge, and the asking for and taking of line bytes. The room that a call tells is not printed.
-ghost use Rattle.std.specs.Prelude.{◌≡◌, ◌+◌, ◌*◌, ◌≤◌, ◌<◌, length};
+ghost use Rattle.std.specs.Prelude.{◌≡◌, ◌+◌, ◌*◌, ◌≤◌, ◌++◌, length};
 ghost use Rattle.bridge.specs.Calls.{world};
-ghost use Rattle.transcript.specs.Text.{bytes_text, Wrote};
-ghost use Rattle.transcript.specs.Transcript.{set_registers, Offers, line_bytes_in, line_out};
+ghost use Rattle.transcript.specs.Transcript.{set_registers, line_bytes_in, frames_text, frames_world, line_out, asks};
 
-use crate::{Offered, Set};
+use crate::Set;
+use crate::text::Page;
+use answers::Answer;
+use arrayvec::ArrayVec;
 use state::State;
 
-// A byte in more bits: the caller is asked only for the place that it is read from.
-fn wide32(x: u8) -> u32
-    ensures { result ≡ x }
-{
-    x as u32
-}
+// The line bytes of a full store, our own go or stop, and the none.
+pub const ASKS: usize = 66;
 
 // Writes n registers from place i of the input, until one is refused.
 pub fn set_registers(s: State, rx: &[u16], tx: &[u8], x: &[u8], i: usize, n: usize) -> Set
-    requires { (i + 2 * n ≤ length x.now) × (i + 2 * n < 65536) }
+    requires { i + 2 * n ≤ length x.now }
     ensures { result ≡ set_registers n x.now i (world s rx.now tx.now) }
 {
     let mut t = s;
-    let mut at = i;
-    let mut left = n;
-    while 0 < left {
-        let o = bridge::write_register(t, rx, tx, wide32(x[at]), wide32(x[at + 1]));
-        let a = o.answer;
-        let fault = answers::fault_of(a);
+    let (pairs, _) = x[i..i + 2 * n].as_chunks::<2>();
+    for &[number, value] in pairs {
+        let o = bridge::write_register(t, rx, tx, u32::from(number), u32::from(value));
+        let fault = answers::fault_of(o.answer);
         if fault != 0 {
-            return Set {
-                state: t,
-                fault: fault,
-            };
+            return Set { state: t, fault };
         }
         t = o.state;
-        at = at + 2;
-        left = left - 1;
     }
     Set { state: t, fault: 0 }
 }
 
 // Takes in n line bytes from place i of the input.
 pub fn line_bytes_in(s: State, rx: &mut [u16], tx: &[u8], x: &[u8], i: usize, n: usize) -> State
-    requires { (i + n ≤ length x.now) × (i + n < 65536) }
+    requires { i + n ≤ length x.now }
     ensures { world result rx.new tx.now ≡ line_bytes_in n x.now i (world s rx.old tx.now) }
 {
     let mut t = s;
-    let mut at = i;
-    let mut left = n;
-    while 0 < left {
-        let told = bridge::line_byte(t, rx, tx, x[at]);
-        t = told.outcome.state;
-        at = at + 1;
-        left = left - 1;
+    for &b in &x[i..i + n] {
+        t = bridge::line_byte(t, rx, tx, b).outcome.state;
     }
     t
 }
@@ -64,68 +50,36 @@ pub fn offer_frames(
     x: &[u8],
     i: usize,
     n: usize,
-    out: &mut [u8],
-    to: usize,
-) -> Offered
-    requires { ((i + 2 * n ≤ length x.now) × (i + 2 * n < 65536)) × (to + 12 * n ≤ length out.old) }
-    ensures { Offers n x.now i (world s rx.now tx.old)
-        out.old to result.state tx.new out.new result.at }
+    page: &mut Page,
+) -> State
+    requires items { i + 2 * n ≤ length x.now }
+    requires room { length page.old.bytes + 12 * n ≤ 1200 }
+    ensures world { world result rx.now tx.new ≡ frames_world n x.now i (world s rx.now tx.old) }
+    ensures text { page.new.bytes ≡ page.old.bytes ++ frames_text n x.now i (world s rx.now tx.old) }
+    ensures short { length page.new.bytes ≤ length page.old.bytes + 12 * n }
 {
     let mut t = s;
-    let mut at = i;
-    let mut left = n;
-    let mut k = to;
-    while 0 < left {
-        let told = bridge::loop_frame(t, rx, tx, crate::input::high32_at(x, at));
-        let o = told.outcome;
-        let a = o.answer;
-        k = crate::text::put_answer(out, k, a);
+    let (frames, _) = x[i..i + 2 * n].as_chunks::<2>();
+    for &frame in frames {
+        let o = bridge::loop_frame(t, rx, tx, u32::from(u16::from_be_bytes(frame))).outcome;
+        crate::text::put_answer(page, o.answer);
         t = o.state;
-        at = at + 2;
-        left = left - 1;
     }
-    Offered { state: t, at: k }
+    t
 }
 
-// How many line bytes are asked for and taken until none, in n asks at most.
-pub fn count_line(s: State, rx: &[u16], tx: &[u8], n: usize) -> usize
-    ensures { (result ≡ length (line_out n (world s rx.now tx.now))) × (result ≤ n) }
+// The line bytes that are asked for and taken until there is none.
+pub fn line_out(s: State, rx: &[u16], tx: &[u8]) -> ArrayVec<u8, ASKS>
+    ensures { result.items ≡ line_out asks (world s rx.now tx.now) }
 {
+    let mut line = ArrayVec::new();
     let mut t = s;
-    let mut left = n;
-    let mut k = 0;
-    while 0 < left {
-        let a = bridge::ask_line_byte(t, rx, tx);
-        if !answers::is_byte(a) {
-            return k;
-        }
-        let o = bridge::take_line_byte(t, rx, tx, answers::byte_in(a));
-        k = k + 1;
-        t = o.state;
-        left = left - 1;
+    for _ in 0..ASKS {
+        let Answer::Byte(b) = bridge::ask_line_byte(t, rx, tx) else {
+            return line;
+        };
+        t = bridge::take_line_byte(t, rx, tx, b).state;
+        line.push(b);
     }
-    k
-}
-
-// Writes the line bytes that are asked for and taken until none, in n asks at most, each after a space.
-pub fn put_line(s: State, rx: &[u16], tx: &[u8], n: usize, out: &mut [u8], to: usize) -> usize
-    requires { to + 4 * n ≤ length out.old }
-    ensures { (Wrote out.old to (bytes_text (line_out n (world s rx.now tx.now))) out.new result)
-        × (result ≤ to + 4 * n) }
-{
-    let mut t = s;
-    let mut left = n;
-    let mut k = to;
-    while 0 < left {
-        let a = bridge::ask_line_byte(t, rx, tx);
-        if !answers::is_byte(a) {
-            return k;
-        }
-        let b = answers::byte_in(a);
-        let o = bridge::take_line_byte(t, rx, tx, b);
-        k = crate::text::put_byte(out, k, b);
-        t = o.state;
-        left = left - 1;
-    }
-    k
+    line
 }

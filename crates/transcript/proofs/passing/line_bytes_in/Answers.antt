@@ -1,35 +1,12 @@
-use borrow.Author.Rules.{rules}
-use native.Mathlib.Omega.{arith}
-use mathlib.Core.Path.{refl}
-use Rattle.transcript.proofs.Turns.{line_in_again, line_in_ends}
+use Rattle.std.proofs.Common.{arith, ap, ◌<◌}
+use Rattle.bridge.specs.Calls.{Did}
+use Rattle.transcript.proofs.Turns.{part_length, item_at, line_in_again, line_in_ends}
 use Rattle.transcript.proofs.passing.line_bytes_in.Goals as goal
 
-pub loop-left-init : goal.loop-left-init
-loop-left-init c = (refl, (c.requires, refl))
-
-pub bounds-x-at : goal.bounds-x-at
-bounds-x-at c = omega arith
-
-pub overflow_add-at : goal.overflow_add-at
-overflow_add-at c =
-    omega
-    (arith, c.loop-left.invariant.1.0.1, c.loop-left-test.true)
-
-pub overflow_sub-left : goal.overflow_sub-left
-overflow_sub-left c = omega arith
-
-pub loop-left-smaller : goal.loop-left-smaller
-loop-left-smaller c = omega arith
-
-pub loop-left-preserved : goal.loop-left-preserved
-loop-left-preserved c = (
-  line_in_again _ _ _ _ _ _ _ _ c.loop-left-test.true c.line_byte-told.ensures
-      c.loop-left.invariant.0,
-  ((omega arith, omega arith), search rules),
-)
-
-pub shape_of-rx : goal.shape_of-rx
-shape_of-rx c = c.loop-left.invariant.1.1
+pub loop-b-preserved : goal.loop-b-preserved
+loop-b-preserved c =
+    let more : c.loop-b.b-index < c.args.n = omega (arith, part_length c.args.x.now c.args.i c.args.n c.requires) in
+    line_in_again _ _ _ _ _ _ _ more (item_at _ _ _ _ more) (ap (λ (d : Did). d.world) c.line_byte.ensures) c.loop-b.invariant
 
 pub returns : goal.returns
-returns c = line_in_ends _ _ _ _ c.loop-left-test.false c.loop-left.invariant.0
+returns c = line_in_ends _ _ _ _ _ (omega (arith, part_length c.args.x.now c.args.i c.args.n c.requires)) c.loop-b.invariant

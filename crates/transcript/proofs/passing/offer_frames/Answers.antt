@@ -1,63 +1,25 @@
-use borrow.Author.Rules.{rules}
-use native.Mathlib.Omega.{arith}
-use mathlib.Core.Path.{refl}
-use Rattle.transcript.proofs.Turns.{rest_start, offer_again, offer_ends}
+use Rattle.std.proofs.Common.{arith, ap, ◌≡◌, ◌+◌, ◌*◌, ◌<◌, ◌∙◌}
+use Rattle.bridge.specs.Calls.{Did}
+use Rattle.transcript.specs.Input.{high}
+use Rattle.transcript.proofs.Turns.{part_length, high_pair, frames_again, frames_end, text_again, text_ends}
 use Rattle.transcript.proofs.passing.offer_frames.Goals as goal
 
-pub loop-left-init : goal.loop-left-init
-loop-left-init c = (
-  record {
-    reached = refl;
-    text = rest_start _ _ _;
-    room = omega arith;
-    fits = c.requires.1;
-    items =
-        c.requires.0.0;
-    small = c.requires.0.1;
-  },
-  refl,
-)
+pub loop-frame-preserved : goal.loop-frame-preserved
+loop-frame-preserved c =
+    let all = c.requires.items in
+    let more : c.loop-frame.frame-index < c.args.n = omega (arith, part_length c.args.x.now c.args.i (2 * c.args.n) all) in
+    let frame : c.from.result ≡ high c.args.x.now (c.args.i + 2 * c.loop-frame.frame-index) =
+    high_pair _ _ _ _ all more c.as_chunks.ensures.front (c.from.ensures ∙ c.from_be_bytes.ensures) in
+    let world = ap (λ (d : Did). d.world) c.loop_frame.ensures in
+    record {
+      reached = frames_again _ _ _ _ _ _ _ more frame world c.loop-frame.invariant.reached;
+      text =
+          text_again _ _ _ _ _ _ _ _ _ more frame (ap (λ (d : Did). d.said) c.loop_frame.ensures) world c.put_answer.ensures.text c.loop-frame.invariant.text;
+      short = omega (arith, c.put_answer.ensures.short, c.loop-frame.invariant.short);
+    }
 
-pub high32_at-requires : goal.high32_at-requires
-high32_at-requires c = omega (arith, c.loop-left-test.true, c.loop-left.invariant.0.items)
+pub returns-clause-world : goal.returns-clause-world
+returns-clause-world c = frames_end _ _ _ _ _ (omega (arith, part_length c.args.x.now c.args.i (2 * c.args.n) c.requires.items)) c.loop-frame.invariant.reached
 
-pub put_answer-k-requires : goal.put_answer-k-requires
-put_answer-k-requires c =
-    omega (
-      arith,
-      c.loop-left-test.true,
-      c.loop-left.invariant.0.room,
-      c.loop-left.invariant.0.fits,
-    )
-
-pub overflow_add-at : goal.overflow_add-at
-overflow_add-at c =
-    omega (
-      arith,
-      c.loop-left.invariant.0.small,
-      c.loop-left-test.true,
-    )
-
-pub overflow_sub-left : goal.overflow_sub-left
-overflow_sub-left c = omega (arith, c.loop-left-test.true)
-
-pub loop-left-smaller : goal.loop-left-smaller
-loop-left-smaller c = omega (arith, c.loop-left-test.true)
-
-pub loop-left-preserved : goal.loop-left-preserved
-loop-left-preserved c = (
-  offer_again _ _ _ _ _ c.loop-left-test.true
-      c.loop-left.invariant.0
-      c.high32_at.ensures
-      c.loop_frame-told.ensures c.put_answer-k.ensures,
-  search rules,
-)
-
-pub shape_of-tx : goal.shape_of-tx
-shape_of-tx c = c.loop-left.invariant.1
-
-pub shape_of-out : goal.shape_of-out
-shape_of-out c = c.loop-left.invariant.0.text.size
-
-pub returns : goal.returns
-returns c = offer_ends c.loop-left-test.false c.loop-left.invariant.0
+pub returns-clause-text : goal.returns-clause-text
+returns-clause-text c = text_ends _ _ _ _ _ (omega (arith, part_length c.args.x.now c.args.i (2 * c.args.n) c.requires.items)) c.loop-frame.invariant.text

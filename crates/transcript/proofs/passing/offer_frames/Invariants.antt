@@ -1,10 +1,14 @@
-use Rattle.std.proofs.Common.{◌≡◌, length}
-use Rattle.transcript.proofs.Turns.{Offering}
+use Rattle.std.proofs.Common.{◌≡◌, ◌+◌, ◌-◌, ◌*◌, ◌≤◌, ◌++◌, length}
+use Rattle.bridge.specs.Calls.{world}
+use Rattle.transcript.specs.Transcript.{frames_text, frames_world}
 use Rattle.transcript.proofs.passing.offer_frames.Given as goal
 
-abbrev pub invariant-loop-left : goal.invariant-loop-left
-invariant-loop-left l =
-    (Offering l.x l.rx l.initial.tx l.i l.n l.initial.out l.to l.initial.t l.tx l.out l.t l.at l.left l.k) × (length l.tx ≡ length l.initial.tx)
-
-abbrev pub decreases-loop-left : goal.decreases-loop-left
-decreases-loop-left l = l.left
+abbrev pub invariant-loop-frame : goal.invariant-loop-frame
+invariant-loop-frame l = record {
+  reached :
+      frames_world (l.n - l.frame-index) l.x (l.i + 2 * l.frame-index) (world l.t l.rx l.tx) ≡ frames_world l.n l.x l.i (world l.initial.t l.rx l.initial.tx);
+  text :
+      l.page.bytes ++ frames_text (l.n - l.frame-index) l.x (l.i + 2 * l.frame-index) (world l.t l.rx l.tx)
+      ≡ l.initial.page.bytes ++ frames_text l.n l.x l.i (world l.initial.t l.rx l.initial.tx);
+  short : length l.page.bytes ≤ length l.initial.page.bytes + 12 * l.frame-index;
+}

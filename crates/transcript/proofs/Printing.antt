@@ -1,0 +1,29 @@
+-- What the library prints of a number, and line bytes one behind the other. Assumes nothing.
+use Rattle.std.proofs.Common.{◌≡◌, ℕ, ◌+◌, ◌/◌, ◌≤◌, ◌<◌, List, [], ◌∷◌, ◌++◌, length, get_or, drop, ap, ◌∙◌, arith, add-one, drop-cons, decimal as printed, drop_of_length-le}
+use Rattle.std.proofs.lemmas.Fmt.{decimal_digit, decimal_step, length-decimal-le}
+use Rattle.transcript.specs.Text.{digit, decimal, bytes_text}
+
+-- a number below 1,000 is printed in at most three digits
+pub short_number : (n : ℕ) → n < 1000 → length (printed n) ≤ 3
+short_number n h = length-decimal-le 3 n (omega arith) (omega arith) (omega arith)
+
+one_digit : (n : ℕ) → n < 10 → printed n ≡ digit n ∷ []
+one_digit n h =
+    let e : 48 + n ≡ digit n = omega arith in
+    decimal_digit n h ∙ ap (λ (d : ℕ). d ∷ []) e
+
+two_digits : (n : ℕ) → 10 ≤ n → n < 100 → printed n ≡ digit (n / 10) ∷ digit n ∷ []
+two_digits n l h = decimal_step n l (omega arith) ∙ ap (λ (ds : List ℕ). ds ++ (digit n ∷ [])) (one_digit (n / 10) (omega arith))
+
+pub three_digits : (n : ℕ) → n < 1000 → printed n ≡ decimal n
+unfolding decimal
+three_digits n h = grind (arith, one_digit n, two_digits n, decimal_step n, two_digits (n / 10))
+
+-- the next of the line bytes, and none behind the last
+pub bytes_step : (k : ℕ) (xs : List ℕ) → k < length xs → bytes_text (drop k xs) ≡ ((32 ∷ []) ++ decimal (get_or xs k 0)) ++ bytes_text (drop (k + 1) xs)
+unfolding bytes_text
+bytes_step k xs h = rw (add-one, drop-cons xs k 0)
+
+pub bytes_none : (k : ℕ) (xs : List ℕ) → length xs ≤ k → bytes_text (drop k xs) ≡ []
+unfolding bytes_text
+bytes_none k xs h = rw (drop_of_length-le xs h)
