@@ -5,6 +5,8 @@ use borrow.Author.Tests.{eqb-false, le-leb, lt-leb}
 use Rattle.registers.specs.declared.Registers.{Registers}
 use Rattle.registers.specs.Meanings.{protocol_on, stop}
 use Rattle.store.specs.declared.Ring.{Ring}
+use Rattle.store.specs.declared.Offered.{Offered}
+use Rattle.store.proofs.Laws.{stored_after, full_after, stored_room, full_room}
 use Rattle.std.specs.Prelude.{Some, None}
 use Rattle.store.specs.Ring.{Within, held, room}
 use Rattle.store.specs.Promises.{Put, Dropped}
@@ -34,28 +36,29 @@ module _ (s : State) (rx : List ℕ) (b : ℕ) where
       record { state = rw (q, e); room = ring_told t (flowed s b) left q l; within = ring_within t (flowed s b) q h; bytes = rw e; size = refl }
 
   module _ (rx' : List ℕ) (t : State) (e : is_go_or_stop s.regs b ≡ false) where
-    pub taken_stored : (q : Ring) (left : ℕ) → Put rx s.rx b rx' (Some q) → t ≡ stored_with s q → left ≡ room q →
-        Taken s rx b rx' (record { state = t; room = left })
-    unfolding line_state line_bytes stored_with
-    taken_stored q left p h l =
-        record {
-          state = rw (e, lt-leb s.rx.cap s.rx.len p.offering.0, ← p.offering.1) h;
-          room = ring_told t (stored_with s q) left h l;
-          within = ring_within t (stored_with s q) h (subst Within (sym p.offering.1) p.fit.within);
-          bytes = rw e p.bytes;
-          size = p.size;
-        }
+    module _ (o : Offered) (p : Put rx s.rx b rx' o) where
+      pub taken_stored : (q : Ring) → o.after ≡ Some q → t ≡ stored_with s q → Taken s rx b rx' (record { state = t; room = o.room })
+      unfolding line_state line_bytes stored_with
+      taken_stored q i h =
+          let a = stored_after s.rx o p.offering q i in
+          record {
+            state = rw (e, lt-leb s.rx.cap s.rx.len a.0, ← a.1) h;
+            room = ring_told t (stored_with s q) o.room h (stored_room s.rx o p.offering q i);
+            within = ring_within t (stored_with s q) h (subst Within (sym a.1) p.fit.within);
+            bytes = rw e p.bytes;
+            size = p.size;
+          }
 
-    pub taken_lost : Put rx s.rx b rx' None → t ≡ lost_state s → Within s.rx → Taken s rx b rx' (record { state = t; room = 0 })
-    unfolding line_state line_bytes lost_state
-    taken_lost p h f =
-        record {
-          state = rw (e, le-leb s.rx.cap s.rx.len p.offering) h;
-          room = ring_told t (lost_state s) 0 h (omega (arith, p.offering));
-          within = ring_within t (lost_state s) h f;
-          bytes = rw e p.bytes;
-          size = p.size;
-        }
+      pub taken_lost : o.after ≡ None → t ≡ lost_state s → Within s.rx → Taken s rx b rx' (record { state = t; room = o.room })
+      unfolding line_state line_bytes lost_state
+      taken_lost i h f =
+          record {
+            state = rw (e, le-leb s.rx.cap s.rx.len (full_after s.rx o p.offering i)) h;
+            room = ring_told t (lost_state s) o.room h (full_room s.rx o p.offering i);
+            within = ring_within t (lost_state s) h f;
+            bytes = rw e p.bytes;
+            size = p.size;
+          }
 
 -- ---- a register written
 

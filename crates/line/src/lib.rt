@@ -63,7 +63,7 @@ fn lost(s: State) -> State
     t
 }
 
-// A byte that comes in from the line: go and stop are never stored, any other byte is stored or lost. The room told is that of the ring which holds then.
+// A byte that comes in from the line: go and stop are never stored, any other byte is stored or lost. The room told is what the store answered.
 pub fn taken(s: State, rx: &mut [u16], b: u8) -> Took
     requires { RxFits s rx.old }
     ensures { Taken s rx.old b rx.new result }
@@ -74,19 +74,14 @@ pub fn taken(s: State, rx: &mut [u16], b: u8) -> Took
             room: store::room(s.rx),
         };
     }
-    match store::put(rx, s.rx, b as u16) {
-        Some(ring) => {
-            let left = store::room(ring);
-            Took {
-                state: stored(s, ring, left),
-                room: left,
-            }
-        }
-        // A full store has no room, before and after.
-        None => Took {
-            state: lost(s),
-            room: 0,
-        },
+    let o = store::put(rx, s.rx, u16::from(b));
+    let state = match o.after {
+        Some(ring) => stored(s, ring, o.room),
+        None => lost(s),
+    };
+    Took {
+        state,
+        room: o.room,
     }
 }
 

@@ -32,7 +32,7 @@ pub fn leave(s: &mut [u16], w: Way, c: u16) -> Way
     requires { Fit s.old w.ring }
     ensures { Left s.old w c s.new result }
 {
-    let ring = store::put(s, w.ring, c).unwrap_or(w.ring);
+    let ring = store::put(s, w.ring, c).after.unwrap_or(w.ring);
     let news = if w.ring.len == 0 {
         news::came()
     } else {
