@@ -1,5 +1,5 @@
 -- The bit of one of eight lines, and a byte joined with it. Assumes nothing.
-use Prim.Native.Nat.{ℕ, ◌+◌, ◌-◌, ◌*◌, ◌/◌, ◌%◌, ◌^◌}
+use Prim.Native.Nat.{ℕ, ◌+◌, ◌-◌, ◌*◌, ◌/◌, ◌%◌, ◌^◌, ◌≤◌, ◌<◌}
 use native.Mathlib.Omega.{arith}
 use mathlib.Core.Path.{◌≡◌, ap, ◌∙◌}
 use mathlib.Core.Bool.{Bool, true, false, cond, ◌&&◌, not}
@@ -23,11 +23,11 @@ pub weight_or : (d n : ℕ) → bit_or d (2 ^ n) ≡ cond (not (has_bit d n)) (d
 weight_or d n =
     let x : ℕ = d / 2 ^ n % 2 in
     ⊎_elim
-    (λ z.
+    (λ (z : x < 1).
     let e : x ≡ 0 = omega arith in
     let a : bit_and d (2 ^ n) ≡ 0 * 2 ^ n = weight_and d n ∙ ap (λ (m : ℕ). m * 2 ^ n) e in
     simp (ne_eqb x 1 (λ h. omega arith)) (omega (arith, a, or_add_and d (2 ^ n))))
-    (λ o.
+    (λ (o : 1 ≤ x).
     let e : x ≡ 1 = omega arith in
     let a : bit_and d (2 ^ n) ≡ 1 * 2 ^ n = weight_and d n ∙ ap (λ (m : ℕ). m * 2 ^ n) e in
     simp (eq-eqb x 1 e) (omega (arith, a, or_add_and d (2 ^ n))))
