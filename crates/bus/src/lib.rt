@@ -5,10 +5,11 @@ ghost use Rattle.std.specs.Prelude.{◌≡◌, ◌<◌};
 ghost use Rattle.bus.specs.Bus.{start_bus, response_after, serial_after, commanded, interface_cleared, clears, fetch_of, poll_bits, fit_test};
 
 use polls::Response;
-use role::{Order, Role};
+use role::{ADDRESSED, IDLE, Order, Role};
 
 // role: the bus address, talker or not, listener or not. serial: in serial poll mode. read: the status byte was handed over since the last
 // command. configuring: the next secondary command sets the response. polled: a parallel poll is answered, on this line of the eight.
+// Kept: the line stands beside polled and is no Option, since a packed state keeps it while polled is false, and a line above 7 is refused there too.
 #[derive(Clone, Copy)]
 pub struct Bus {
     pub role: Role,
@@ -33,8 +34,8 @@ pub fn start(address: u8) -> Bus
 {
     Bus {
         role: Role {
-            address: address,
-            phase: 0,
+            address,
+            phase: IDLE,
             listener: false,
         },
         serial: false,
@@ -46,6 +47,7 @@ pub fn start(address: u8) -> Bus
 }
 
 // The response after the command c.
+#[tactic(auto, unfolding(crate::specs::Bus::response_after))]
 fn response_after(b: Bus, c: u8) -> Response
     ensures { result ≡ response_after b c }
 {
@@ -63,6 +65,7 @@ fn response_after(b: Bus, c: u8) -> Response
 }
 
 // Whether it is in serial poll mode after the command c.
+#[tactic(auto, unfolding(crate::specs::Bus::serial_after))]
 fn serial_after(serial: bool, c: u8) -> bool
     ensures { result ≡ serial_after serial c }
 {
@@ -76,16 +79,15 @@ fn serial_after(serial: bool, c: u8) -> bool
 }
 
 // The device after the command c.
+#[tactic(auto, unfolding(crate::specs::Bus::commanded))]
 pub fn commanded(b: Bus, c: u8) -> Bus
     ensures { result ≡ commanded b c }
 {
     let o = role::order_of(31, b.role, c);
-    let r = role::obeyed(b.role, o);
     let p = response_after(b, c);
-    let s = serial_after(b.serial, c);
     Bus {
-        role: r,
-        serial: s,
+        role: role::obeyed(b.role, o),
+        serial: serial_after(b.serial, c),
         read: false,
         configuring: (c == 5) & b.role.listener,
         polled: p.on,
@@ -94,13 +96,13 @@ pub fn commanded(b: Bus, c: u8) -> Bus
 }
 
 // The device after an interface clear.
+#[tactic(auto, unfolding(crate::specs::Bus::interface_cleared))]
 pub fn interface_cleared(b: Bus) -> Bus
     ensures { result ≡ interface_cleared b }
 {
-    let r = role::obeyed(b.role, Order::Deselect);
     let p = response_after(b, 0);
     Bus {
-        role: r,
+        role: role::obeyed(b.role, Order::Deselect),
         serial: false,
         read: false,
         configuring: false,
@@ -110,6 +112,7 @@ pub fn interface_cleared(b: Bus) -> Bus
 }
 
 // Whether the command c clears what the device was left by the bus.
+#[tactic(auto, unfolding(crate::specs::Bus::clears))]
 pub fn clears(b: Bus, c: u8) -> bool
     ensures { result ≡ clears b c }
 {
@@ -117,6 +120,7 @@ pub fn clears(b: Bus, c: u8) -> bool
 }
 
 // The bits that answer a parallel poll while service is requested, or while it is not.
+#[tactic(auto, unfolding(crate::specs::Bus::poll_bits))]
 pub fn poll_bits(b: Bus, requested: bool) -> u8
     requires { b.line < 8 }
     ensures { result ≡ poll_bits b requested }
@@ -130,10 +134,11 @@ pub fn poll_bits(b: Bus, requested: bool) -> u8
 }
 
 // What the bus is given when it asks for a byte now.
+#[tactic(auto, unfolding(crate::specs::Bus::fetch_of))]
 pub fn fetch_of(b: Bus) -> Fetch
     ensures { result ≡ fetch_of b }
 {
-    if b.role.phase == 0 {
+    if b.role.phase == IDLE {
         return Fetch::Silent;
     }
     if b.serial & b.read {
@@ -146,8 +151,9 @@ pub fn fetch_of(b: Bus) -> Fetch
 }
 
 // Whether every field is in its range and the device is not talker and listener at once.
+#[tactic(auto, unfolding(crate::specs::Bus::fit_test))]
 pub fn bus_fits(b: Bus) -> bool
     ensures { result ≡ fit_test b }
 {
-    role::role_fits(b.role) & (b.role.address <= 30) & (b.role.phase <= 1) & (b.line < 8)
+    role::role_fits(b.role) & (b.role.address <= 30) & (b.role.phase <= ADDRESSED) & (b.line < 8)
 }

@@ -5,7 +5,7 @@ ghost use Rattle.std.specs.Prelude.{◌≡◌};
 ghost use Rattle.news.specs.News.{no_news, come, sent_status, returned, news_byte};
 
 // request: service is requested. available: something came that no status byte has told. again: it came since a status byte was sent.
-#[derive(Clone, Copy)]
+#[derive(Clone, Copy, Default)]
 pub struct News {
     pub request: bool,
     pub available: bool,
@@ -16,11 +16,7 @@ pub struct News {
 pub fn none() -> News
     ensures { result ≡ no_news }
 {
-    News {
-        request: false,
-        available: false,
-        again: false,
-    }
+    News::default()
 }
 
 // Something has come into an empty way.
@@ -35,14 +31,11 @@ pub fn came() -> News
 }
 
 // The status byte that tells it.
+#[tactic(auto, unfolding(crate::specs::News::news_byte))]
 pub fn byte_of(n: News) -> u8
     ensures { result ≡ news_byte n }
 {
-    if n.request {
-        if n.available { 65 } else { 64 }
-    } else {
-        if n.available { 1 } else { 0 }
-    }
+    64 * u8::from(n.request) + u8::from(n.available)
 }
 
 // A status byte has been sent on the loop.
@@ -51,8 +44,8 @@ pub fn sent(n: News) -> News
 {
     News {
         request: false,
-        available: n.available,
         again: false,
+        ..n
     }
 }
 
@@ -61,8 +54,7 @@ pub fn returned(n: News, d: u8) -> News
     ensures { result ≡ returned n d }
 {
     News {
-        request: n.request,
         available: n.available & !((d % 2 == 1) & !n.again),
-        again: n.again,
+        ..n
     }
 }

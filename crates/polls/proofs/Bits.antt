@@ -1,22 +1,15 @@
 -- The bit of one of eight lines, and a byte joined with it. Assumes nothing.
-use Prim.Native.Nat.{ℕ, ◌+◌, ◌-◌, ◌*◌, ◌/◌, ◌%◌, ◌^◌, ◌<◌}
+use Prim.Native.Nat.{ℕ, ◌+◌, ◌-◌, ◌*◌, ◌/◌, ◌%◌, ◌^◌, ◌≤◌, ◌<◌}
 use native.Mathlib.Omega.{arith}
 use mathlib.Core.Path.{◌≡◌, ap, ◌∙◌}
 use mathlib.Core.Bool.{Bool, true, false, cond, ◌&&◌, not}
 use mathlib.Core.Logic.{⊎_elim}
-use lib.Pow.{pow-lt, pow-add}
+use lib.Pow.{pow-add}
 use lib.Bits.{bit_and, bit_or, and_high, or_add_and, or_zero_r}
 use borrow.Author.Tests.{eq-eqb, ne_eqb}
 use Rattle.branches.proofs.Branches.{split}
 use Rattle.polls.specs.declared.Response.{Response}
 use Rattle.polls.specs.Polls.{answers, answer_bits, has_bit, joined}
-
--- a weight of eight bits
-pub weight_small : (n : ℕ) → n < 8 → 2 ^ n < 256
-weight_small n h = pow-lt h
-
-pub weight_met : (n : ℕ) → n < 8 → (1 * 2 ^ n) % 256 ≡ 2 ^ n
-weight_met n h = omega (arith, weight_small n h)
 
 -- the bits of a byte that are the weight's
 weight_and : (d n : ℕ) → bit_and d (2 ^ n) ≡ (d / 2 ^ n % 2) * 2 ^ n
@@ -30,11 +23,11 @@ pub weight_or : (d n : ℕ) → bit_or d (2 ^ n) ≡ cond (not (has_bit d n)) (d
 weight_or d n =
     let x : ℕ = d / 2 ^ n % 2 in
     ⊎_elim
-    (λ z.
+    (λ (z : x < 1).
     let e : x ≡ 0 = omega arith in
     let a : bit_and d (2 ^ n) ≡ 0 * 2 ^ n = weight_and d n ∙ ap (λ (m : ℕ). m * 2 ^ n) e in
     simp (ne_eqb x 1 (λ h. omega arith)) (omega (arith, a, or_add_and d (2 ^ n))))
-    (λ o.
+    (λ (o : 1 ≤ x).
     let e : x ≡ 1 = omega arith in
     let a : bit_and d (2 ^ n) ≡ 1 * 2 ^ n = weight_and d n ∙ ap (λ (m : ℕ). m * 2 ^ n) e in
     simp (eq-eqb x 1 e) (omega (arith, a, or_add_and d (2 ^ n))))

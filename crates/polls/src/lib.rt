@@ -5,7 +5,8 @@ ghost use Rattle.std.specs.Prelude.{◌≡◌, ◌<◌, ◌^◌};
 ghost use Rattle.polls.specs.Polls.{no_response, loop_response, bus_response, answers, answer_bits, joined, fit_test};
 
 // on: it answers at all. line: on which of the eight, 0 to 7. sense: it answers while service is requested, or while it is not.
-#[derive(Clone, Copy)]
+// Kept: line and sense stand beside on, since a packed state keeps them while on is false, and a line above 7 is refused there too.
+#[derive(Clone, Copy, Default)]
 pub struct Response {
     pub on: bool,
     pub line: u8,
@@ -16,11 +17,7 @@ pub struct Response {
 pub fn none() -> Response
     ensures { result ≡ no_response }
 {
-    Response {
-        on: false,
-        line: 0,
-        sense: false,
-    }
+    Response::default()
 }
 
 // What the loop's enable message with the data byte d sets, d from 128 to 143.
@@ -53,6 +50,7 @@ pub fn response_fits(p: Response) -> bool
 }
 
 // The weight of a line's bit.
+// Kept: the line is asked to be below 8, here and by whoever answers a poll, since for any other line the promised bit is in no byte.
 fn weight(line: u8) -> u8
     requires { line < 8 }
     ensures { result ≡ 2 ^ line }
@@ -61,11 +59,12 @@ fn weight(line: u8) -> u8
 }
 
 // The bits that answer a poll while service is requested, or while it is not.
+#[tactic(auto, unfolding(crate::specs::Polls::answer_bits))]
 pub fn answer(p: Response, requested: bool) -> u8
     requires { p.line < 8 }
     ensures { result ≡ answer_bits p requested }
 {
-    if p.on & ((p.sense & requested) | (!p.sense & !requested)) {
+    if p.on & (p.sense == requested) {
         weight(p.line)
     } else {
         0
@@ -73,6 +72,7 @@ pub fn answer(p: Response, requested: bool) -> u8
 }
 
 // The data byte d of an identify frame with the answer joined to it.
+#[tactic(auto, using(crate::proofs::Bits::joined_met))]
 pub fn join(p: Response, requested: bool, d: u8) -> u8
     requires { p.line < 8 }
     ensures { result ≡ joined p requested d }

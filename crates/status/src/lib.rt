@@ -17,32 +17,26 @@ pub struct Conditions {
 }
 
 // The three things that happen and are told until a status byte has told them.
-#[derive(Clone, Copy)]
+#[derive(Clone, Copy, Default)]
 pub struct Events {
     pub brk: bool,
     pub overrun: bool,
     pub key: bool,
 }
 
-// The value v where t holds, and 0 where not.
-fn weighed(t: bool, v: u8) -> u8
-    ensures { (result ≡ cond t v 0) × (result ≤ v) }
-{
-    if t { v } else { 0 }
-}
-
 // The status byte that shows these conditions and whether service is requested.
+#[tactic(auto, using(crate::proofs::Weights::weighs), unfolding(crate::specs::Status::status_byte))]
 pub fn status_byte(c: Conditions, requested: bool) -> u8
     ensures { result ≡ status_byte c requested }
 {
-    let low = weighed(c.txempty, 1)
-        + weighed(c.txnotfull, 2)
-        + weighed(c.rxnotempty, 4)
-        + weighed(c.rxfull, 8);
-    let high = weighed(c.brk, 16)
-        + weighed(c.overrun, 32)
-        + weighed(requested, 64)
-        + weighed(c.key, 128);
+    let low = u8::from(c.txempty)
+        + 2 * u8::from(c.txnotfull)
+        + 4 * u8::from(c.rxnotempty)
+        + 8 * u8::from(c.rxfull);
+    let high = 16 * u8::from(c.brk)
+        + 32 * u8::from(c.overrun)
+        + 64 * u8::from(requested)
+        + 128 * u8::from(c.key);
     low + high
 }
 

@@ -1,3 +1,2 @@
--- `Parts` composes the functions of this crate; `FitLaws` says what keeps a talker fitting.
-pub mod Parts
+-- `FitLaws` says what keeps a talker fitting.
 pub mod FitLaws

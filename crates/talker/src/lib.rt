@@ -9,10 +9,11 @@ ghost use Rattle.talker.specs.UnderWay.{talking, ended_talker};
 ghost use Rattle.talker.specs.Returning.{return_of};
 ghost use Rattle.talker.specs.TalkerFit.{fit_test};
 
-use role::{Order, Role};
+use role::{ADDRESSED, Order, Role, SENDING_DATA, SENDING_STATUS};
 
 // The frame under way, which calls keep without its service bit, and whether sending ends after it.
-#[derive(Clone, Copy)]
+// Kept: the frame is a number and no Option, since a packed state keeps it while nothing is under way, and it must come back as it was.
+#[derive(Clone, Copy, Default)]
 pub struct Under {
     pub frame: u16,
     pub finishing: bool,
@@ -40,48 +41,51 @@ pub fn start() -> Talker
 {
     Talker {
         role: role::start(),
-        under: Under {
-            frame: 0,
-            finishing: false,
-        },
+        under: Under::default(),
     }
 }
 
 // The talker after an order; an active one forgets the frame under way.
+#[tactic(auto, unfolding(crate::specs::Obeying::obeyed_talker, crate::specs::Obeying::forgotten))]
 pub fn obeyed(t: Talker, o: Order) -> Talker
     ensures { result ≡ obeyed_talker t o }
 {
-    let mut q = t;
-    let r = role::obeyed(t.role, o);
-    q.role = r;
-    if t.role.phase >= 2 {
-        q.under.frame = 0;
-        q.under.finishing = false;
-        return q;
+    let under = if t.role.phase >= SENDING_DATA {
+        Under::default()
+    } else {
+        t.under
+    };
+    Talker {
+        role: role::obeyed(t.role, o),
+        under,
     }
-    q
 }
 
 // The talker with the address that the ready byte d = 128+n gives.
 pub fn assigned(t: Talker, d: u8) -> Talker
     ensures { result ≡ assigned_talker t d }
 {
-    let mut q = t;
-    let r = role::assigned(t.role, d);
-    q.role = r;
-    q
+    Talker {
+        role: role::assigned(t.role, d),
+        ..t
+    }
 }
 
 // Sending ends after the frame under way.
 pub fn finishing(t: Talker) -> Talker
     ensures { result ≡ finishing_talker t }
 {
-    let mut q = t;
-    q.under.finishing = true;
-    q
+    Talker {
+        under: Under {
+            finishing: true,
+            ..t.under
+        },
+        ..t
+    }
 }
 
 // The talker in another phase, with this frame under way.
+#[tactic(auto, unfolding(crate::specs::UnderWay::talking))]
 pub fn talking(t: Talker, phase: u8, f: u16) -> Talker
     ensures { result ≡ talking t phase f }
 {
@@ -98,17 +102,18 @@ pub fn talking(t: Talker, phase: u8, f: u16) -> Talker
 pub fn ended(t: Talker) -> Talker
     ensures { result ≡ ended_talker t }
 {
-    talking(t, 1, 0)
+    talking(t, ADDRESSED, 0)
 }
 
 // What the data frame f is that comes back.
+#[tactic(auto, unfolding(crate::specs::Returning::return_of))]
 pub fn return_of(t: Talker, f: u16) -> Return
     ensures { result ≡ return_of t f }
 {
     if !frame::same_apart(f, t.under.frame) {
         return Return::Damaged;
     }
-    if t.role.phase == 3 {
+    if t.role.phase == SENDING_STATUS {
         return Return::StatusBack;
     }
     if t.under.finishing {
@@ -118,6 +123,7 @@ pub fn return_of(t: Talker, f: u16) -> Return
 }
 
 // Whether the role fits, and the frame under way is a data frame.
+#[tactic(auto, unfolding(crate::specs::TalkerFit::fit_test))]
 pub fn talker_fits(t: Talker) -> bool
     ensures { result ≡ fit_test t }
 {
