@@ -40,7 +40,6 @@ SmallFrame (answer.Frame f) = f < 2048
 SmallFrame answer.Done = ⊥
 SmallFrame answer.Nothing = ⊥
 SmallFrame (answer.Byte b) = ⊥
-SmallFrame (answer.Refused n) = ⊥
 SmallFrame (answer.Cell n) = ⊥
 SmallFrame (answer.Lines n) = ⊥
 
@@ -89,7 +88,6 @@ by_frame (answer.Frame f) h = λ i. lt-ltb (control_of f) 8 (omega arith) i && l
 by_frame answer.Done h = absurd h
 by_frame answer.Nothing h = absurd h
 by_frame (answer.Byte b) h = absurd h
-by_frame (answer.Refused n) h = absurd h
 by_frame (answer.Cell n) h = absurd h
 by_frame (answer.Lines n) h = absurd h
 
