@@ -21,11 +21,7 @@ pub fn sizes_obeyed(m: usize, rx: usize, tx: usize) -> bool
 pub fn no_events() -> Events
     ensures { result ≡ no_events }
 {
-    Events {
-        brk: false,
-        overrun: false,
-        key: false,
-    }
+    Events::default()
 }
 
 // The state after create and reset.
@@ -39,21 +35,9 @@ pub fn start(m: usize, rx: usize, tx: usize) -> State
         remote: role::remote::start(),
         rx: store::emptied(rx),
         tx: store::emptied(tx),
-        line: Line {
-            holding: false,
-            forbidden: false,
-            stopped: false,
-        },
-        notes: Notes {
-            seen: no_events(),
-            again: no_events(),
-            request: false,
-        },
-        counts: Counts {
-            stored: 0,
-            lost: 0,
-            sent: 0,
-        },
+        line: Line::default(),
+        notes: Notes::default(),
+        counts: Counts::default(),
     }
 }
 

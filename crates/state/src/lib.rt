@@ -11,7 +11,7 @@ pub mod fitting;
 pub mod requests;
 
 // Whether we hold the line off, whether the other end forbids our sending, and whether stop was the last of go and stop that we sent.
-#[derive(Clone, Copy)]
+#[derive(Clone, Copy, Default)]
 pub struct Line {
     pub holding: bool,
     pub forbidden: bool,
@@ -19,7 +19,7 @@ pub struct Line {
 }
 
 // What happened and is to be told, what happened again since a status byte was sent, and whether service is requested.
-#[derive(Clone, Copy)]
+#[derive(Clone, Copy, Default)]
 pub struct Notes {
     pub seen: Events,
     pub again: Events,
@@ -27,7 +27,7 @@ pub struct Notes {
 }
 
 // Bytes stored in the receive store, bytes lost, and data frames sent from it.
-#[derive(Clone, Copy)]
+#[derive(Clone, Copy, Default)]
 pub struct Counts {
     pub stored: u32,
     pub lost: u32,

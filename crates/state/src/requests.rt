@@ -50,22 +50,22 @@ fn settled(before: State, after: State) -> State
     ensures { result ≡ settled before after }
 {
     let begins = status::request_begins(asking(before), asking(after));
-    let mut t = after;
-    let request = after.notes.request | begins;
-    t.notes.request = request;
-    t
+    State {
+        notes: Notes {
+            request: after.notes.request | begins,
+            ..after.notes
+        },
+        ..after
+    }
 }
 
 // What a call on a state gives, with the request that it began: requests begin here and nowhere else.
 pub fn settle(before: State, o: Outcome) -> Outcome
     ensures { result ≡ settled_outcome before o }
 {
-    let after = o.state;
-    let answer = o.answer;
-    let t = settled(before, after);
     Outcome {
-        state: t,
-        answer: answer,
+        state: settled(before, o.state),
+        ..o
     }
 }
 
@@ -94,33 +94,29 @@ pub fn status_of(s: State) -> u8
 pub fn with_notes(s: State, seen: Events, again: Events, request: bool) -> State
     ensures { result ≡ notes_with s seen again request }
 {
-    let notes = Notes {
-        seen: seen,
-        again: again,
-        request: request,
-    };
-    let mut t = s;
-    t.notes = notes;
-    t
+    State {
+        notes: Notes {
+            seen,
+            again,
+            request,
+        },
+        ..s
+    }
 }
 
 // The state after a status byte was sent.
 pub fn status_sent(s: State) -> State
     ensures { result ≡ after_status s }
 {
-    let seen = s.notes.seen;
-    let none = crate::fitting::no_events();
-    with_notes(s, seen, none, false)
+    with_notes(s, s.notes.seen, Events::default(), false)
 }
 
 // The state after the status byte d came back unchanged.
 pub fn status_back(s: State, d: u8) -> State
     ensures { result ≡ after_status_back s d }
 {
-    let seen = s.notes.seen;
-    let again = s.notes.again;
-    let left = status::acknowledged(seen, again, d);
-    with_notes(s, left, again, s.notes.request)
+    let left = status::acknowledged(s.notes.seen, s.notes.again, d);
+    with_notes(s, left, s.notes.again, s.notes.request)
 }
 
 // The state after a break.
