@@ -17,6 +17,8 @@ pub struct Sending {
     pub ring: Ring,
 }
 
+// Kept: the slice and its ring are two arguments, with `Fit` in each contract. A type of both and its proofs are longer than the clauses it saves.
+
 // What the k-th oldest cell stands for, and 0 where fewer are held.
 #[tactic(auto, using(crate::proofs::Chain::past))]
 fn oldest(s: &[u16], r: Ring, k: usize) -> Item
