@@ -1,4 +1,3 @@
--- `Fits` says what fitting gives, `Serviced` what the service bit is, `Parts` composes the functions of this crate.
+-- `Fits` says what fitting gives, `Parts` that it is the fitting of the parts.
 pub mod Fits
-pub mod Serviced
 pub mod Parts

@@ -7,6 +7,7 @@ use crate::{Counts, Line, Notes, State};
 use status::Events;
 
 // Whether the margin and the lengths obey the sizes.
+#[tactic(auto, unfolding(crate::specs::Sizes::sizes_obeyed))]
 pub fn sizes_obeyed(m: usize, rx: usize, tx: usize) -> bool
     ensures { result ≡ sizes_obeyed m rx tx }
 {
@@ -25,6 +26,7 @@ pub fn no_events() -> Events
 }
 
 // The state after create and reset.
+#[tactic(auto, unfolding(crate::specs::Sizes::start_state))]
 pub fn start(m: usize, rx: usize, tx: usize) -> State
     ensures { result ≡ start_state m rx tx }
 {

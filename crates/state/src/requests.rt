@@ -9,6 +9,7 @@ use registers::Registers;
 use status::{Conditions, Events};
 
 // The conditions that hold.
+#[tactic(auto, unfolding(crate::specs::Conditions::conditions))]
 fn conditions(s: State) -> Conditions
     ensures { result ≡ conditions s }
 {
@@ -24,6 +25,7 @@ fn conditions(s: State) -> Conditions
 }
 
 // The conditions that the registers enable.
+#[tactic(auto, unfolding(crate::specs::Conditions::enabled_by))]
 fn enabled(g: Registers) -> Conditions
     ensures { result ≡ enabled_by g }
 {
@@ -39,6 +41,7 @@ fn enabled(g: Registers) -> Conditions
 }
 
 // The conditions that are enabled and hold.
+#[tactic(auto, unfolding(crate::specs::Conditions::asking))]
 fn asking(s: State) -> Conditions
     ensures { result ≡ asking s }
 {
@@ -46,6 +49,7 @@ fn asking(s: State) -> Conditions
 }
 
 // The state after a call, with the request that the call began.
+#[tactic(auto, unfolding(crate::specs::Conditions::settled))]
 fn settled(before: State, after: State) -> State
     ensures { result ≡ settled before after }
 {
@@ -70,6 +74,7 @@ pub fn settle(before: State, o: Outcome) -> Outcome
 }
 
 // Whether a request shows.
+#[tactic(auto, unfolding(crate::specs::Conditions::shows))]
 pub fn shows(s: State) -> bool
     ensures { result ≡ shows s }
 {
@@ -77,6 +82,7 @@ pub fn shows(s: State) -> bool
 }
 
 // The frame with the service bit if a request shows, and as it was otherwise.
+#[tactic(auto, unfolding(crate::specs::Conditions::serviced))]
 pub fn serviced(s: State, f: u16) -> u16
     ensures { result ≡ serviced s f }
 {
@@ -84,6 +90,7 @@ pub fn serviced(s: State, f: u16) -> u16
 }
 
 // The status byte of the moment.
+#[tactic(auto, unfolding(crate::specs::Conditions::status_of))]
 pub fn status_of(s: State) -> u8
     ensures { result ≡ status_of s }
 {
@@ -105,6 +112,7 @@ pub fn with_notes(s: State, seen: Events, again: Events, request: bool) -> State
 }
 
 // The state after a status byte was sent.
+#[tactic(auto, unfolding(crate::specs::Conditions::after_status))]
 pub fn status_sent(s: State) -> State
     ensures { result ≡ after_status s }
 {
@@ -112,6 +120,7 @@ pub fn status_sent(s: State) -> State
 }
 
 // The state after the status byte d came back unchanged.
+#[tactic(auto, unfolding(crate::specs::Conditions::after_status_back))]
 pub fn status_back(s: State, d: u8) -> State
     ensures { result ≡ after_status_back s d }
 {
@@ -120,6 +129,7 @@ pub fn status_back(s: State, d: u8) -> State
 }
 
 // The state after a break.
+#[tactic(auto, unfolding(crate::specs::Conditions::break_state))]
 pub fn broken(s: State) -> State
     ensures { result ≡ break_state s }
 {
@@ -130,6 +140,7 @@ pub fn broken(s: State) -> State
 }
 
 // The state after a press of the MSRQ key.
+#[tactic(auto, unfolding(crate::specs::Conditions::key_state))]
 pub fn pressed(s: State) -> State
     ensures { result ≡ key_state s }
 {
