@@ -176,7 +176,7 @@ pub fn show_receive<'a>(s: State, rx: &'a [u16], tx: &[u8]) -> &'a [u16]
     if !state::fitting::state_fits(s, rx.len(), tx.len()) {
         return &rx[0..0];
     }
-    cells::show(rx, s.rx)
+    store::show(rx, s.rx)
 }
 
 // Shows the longest unbroken run of bytes from the oldest one in the transmit store.

@@ -22,8 +22,7 @@ use Rattle.talker.specs.Obeying.{obeyed_talker}
 use Rattle.talker.specs.Readied.{assigned_talker, finishing_talker}
 use Rattle.talker.specs.UnderWay.{talking, ended_talker}
 use Rattle.talker.specs.Returning.{return_of}
-use Rattle.sending.specs.declared.Given.{Given}
-use Rattle.sending.specs.declared.Given.TheVariants.{Nothing, One}
+use Rattle.std.specs.Prelude.{Option, Some, None}
 use Rattle.sending.specs.declared.Sending.{Sending}
 use Rattle.sending.specs.Sending.{Sends}
 use Rattle.state.specs.declared.State.{State}
@@ -66,11 +65,11 @@ module _ (s : State) (f d : ℕ) (o : Order) (t : State) (b : Bool) (hd : d ≡ 
 
 -- ---- sends
 
-pub send_nothing : (before after : State) (g : Given) (o : Outcome) → g ≡ Nothing → o ≡ ended after 64 → o ≡ send_state before after g
+pub send_nothing : (before after : State) (g : Option ℕ) (o : Outcome) → g ≡ None → o ≡ ended after 64 → o ≡ send_state before after g
 unfolding send_state
 send_nothing before after g o e q = rw e q
 
-pub send_frame : (before after : State) (g : Given) (f n out : ℕ) (t : Talker) → g ≡ One f → t ≡ talking after.talker 2 f → n ≡ counted after.counts.sent → out ≡ serviced before f →
+pub send_frame : (before after : State) (g : Option ℕ) (f n out : ℕ) (t : Talker) → g ≡ Some f → t ≡ talking after.talker 2 f → n ≡ counted after.counts.sent → out ≡ serviced before f →
     record { state = with_counts (with_talker after t) (record { stored = after.counts.stored; lost = after.counts.lost; sent = n }); answer = Frame out } ≡ send_state before after g
 unfolding send_state
 send_frame before after g f n out t e p q r = rw (e, p, q, r)

@@ -9,8 +9,7 @@ use Rattle.role.specs.ReadyFrames.{ready_of}
 use Rattle.talker.specs.declared.Return.{Return}
 use Rattle.talker.specs.declared.Return.TheVariants.{Damaged, StatusBack, Finished, Next}
 use Rattle.talker.specs.Returning.{return_of}
-use Rattle.sending.specs.declared.Given.{Given}
-use Rattle.sending.specs.declared.Given.TheVariants.{Nothing, One}
+use Rattle.std.specs.Prelude.{Option, Some, None}
 use Rattle.sending.specs.Sending.{given_of, send_held}
 use Rattle.store.specs.Ring.{Within}
 use Rattle.state.specs.declared.State.{State}
@@ -28,10 +27,10 @@ abbrev Gives : Outcome → Type 0
 Gives o = In o.state
 
 -- what is sent leaves the transmit store alone
-sent_in : (before after : State) (g : Given) → In after → Gives (send_state before after g)
+sent_in : (before after : State) (g : Option ℕ) → In after → Gives (send_state before after g)
 unfolding send_state ended
-sent_in before after Nothing h = h
-sent_in before after (One f) h = h
+sent_in before after None h = h
+sent_in before after (Some f) h = h
 
 -- so does a request that begins
 pub settled_in : (s : State) (p o : Outcome) → Within p.state.tx → o ≡ settled_outcome s p → Within o.state.tx

@@ -4,8 +4,7 @@ use Rattle.frame.specs.Frame.{made}
 use Rattle.registers.specs.declared.Registers.{Registers}
 use Rattle.registers.specs.Meanings.{end_detected}
 use Rattle.reading.specs.declared.Rule.{Rule}
-use Rattle.sending.specs.declared.Given.{Given}
-use Rattle.sending.specs.declared.Given.TheVariants.{Nothing, One}
+use Rattle.std.specs.Prelude.{Option, Some, None}
 use Rattle.sending.specs.Sending.{given_of, send_held, sent_ring}
 use Rattle.role.specs.Role.{active_data, active_status}
 use Rattle.talker.specs.UnderWay.{talking, ended_talker}
@@ -30,9 +29,9 @@ unfoldable pub removed_state : State → List ℕ → State
 removed_state s rx = resumed (with_rx s (sent_ring (rule_of s.regs) rx s.rx))
 
 -- Frames, ready 96: what is given goes out, or sending ends; from the state before the call and the one after the removal
-unfoldable pub send_state : State → State → Given → Outcome
-send_state before after Nothing = ended after 64
-send_state before after (One f) = record { state = sent_more (with_talker after (talking after.talker active_data f)); answer = Frame (serviced before f) }
+unfoldable pub send_state : State → State → Option ℕ → Outcome
+send_state before after None = ended after 64
+send_state before after (Some f) = record { state = sent_more (with_talker after (talking after.talker active_data f)); answer = Frame (serviced before f) }
 
 unfoldable pub send_from : State → List ℕ → Outcome
 send_from s rx = send_state s (removed_state s rx) (given_of (send_held (rule_of s.regs) rx s.rx))

@@ -40,20 +40,13 @@ fn leave(s: State, tx: &mut [u8], f: u16) -> State
     requires { TxFits s tx.old }
     ensures { Added s tx.old f tx.new result }
 {
-    let mut t = s;
-    let d = frame::data_byte(f);
-    let first = store::put(tx, s.tx, d);
-    let one = first.ring;
+    let one = store::put(tx, s.tx, frame::data_byte(f)).after.unwrap_or(s.tx);
     if frame::is_end(f) & registers::meanings::end_inserted(s.regs) {
-        let second = store::put(tx, one, s.regs.c02);
-        let two = second.ring;
-        let third = store::put(tx, two, s.regs.c03);
-        let three = third.ring;
-        t.tx = three;
-        return t;
+        let two = store::put(tx, one, s.regs.c02).after.unwrap_or(one);
+        let three = store::put(tx, two, s.regs.c03).after.unwrap_or(two);
+        return State { tx: three, ..s };
     }
-    t.tx = one;
-    t
+    State { tx: one, ..s }
 }
 
 // The state after a device clear.

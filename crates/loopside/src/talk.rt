@@ -6,7 +6,6 @@ ghost use Rattle.loopside.specs.Sends.{ended, rule_of, send_state, send_from, se
 use answers::Answer;
 use reading::Rule;
 use registers::Registers;
-use sending::Given;
 use state::{Outcome, State};
 
 // The ready frame 5,d ends our sending.
@@ -34,12 +33,12 @@ fn rule_of(g: Registers) -> Rule
 }
 
 // What is given is sent, or sending ends.
-fn send_state(before: State, after: State, given: Given) -> Outcome
+fn send_state(before: State, after: State, given: Option<u16>) -> Outcome
     ensures { result ≡ send_state before after given }
 {
     match given {
-        Given::Nothing => ended(after, 64),
-        Given::One(f) => {
+        None => ended(after, 64),
+        Some(f) => {
             let mut t = after;
             let active = talker::talking(after.talker, 2, f);
             t.talker = active;

@@ -91,7 +91,7 @@ fn data_given(s: State, tobus: &[u16]) -> Outcome
             answer: Answer::Nothing,
         };
     }
-    let c = cells::look(tobus, s.tobus.ring, 0);
+    let c = store::look(tobus, s.tobus.ring, 0);
     let tobus = way::fetched(s.tobus);
     Outcome {
         state: State { tobus, ..s },
@@ -248,10 +248,10 @@ pub fn show<'a>(s: State, tobus: &'a [u16], toloop: &'a [u16], side: u32) -> &'a
         return &tobus[0..0];
     }
     if side == 0 {
-        return cells::show(tobus, s.tobus.ring);
+        return store::show(tobus, s.tobus.ring);
     }
     if side == 1 {
-        return cells::show(toloop, s.toloop.ring);
+        return store::show(toloop, s.toloop.ring);
     }
     &tobus[0..0]
 }

@@ -76,7 +76,7 @@ pub fn send_waiting(s: State, toloop: &[u16]) -> Outcome
     if s.toloop.ring.len == 0 {
         return ended(s, 64);
     }
-    let c = cells::look(toloop, s.toloop.ring, 0);
+    let c = store::look(toloop, s.toloop.ring, 0);
     let f = frame_of(c);
     let toloop = way::fetched(s.toloop);
     sends(s, State { toloop, ..s }, f, 0)

@@ -18,5 +18,6 @@ drop_again = laws.drop_again
 pub puts_none : {A : Type 0} → PutsNone A
 puts_none = several.puts_none
 
-pub puts_more : {A : Type 0} {s : List A} {r : Ring} {b : A} {l : List A} {s₁ s₂ : List A} {o₁ : Offered} {o₂ : Ring} → PutsMore s r b l s₁ s₂ o₁ o₂
+pub puts_more : {A : Type 0} {s : List A} {r : Ring} {b : A} {l : List A} {s₁ s₂ : List A} {o : Offered} {r₁ r₂ : Ring} →
+    PutsMore s r b l s₁ s₂ o r₁ r₂
 puts_more = several.puts_more

@@ -8,6 +8,7 @@ use lib.Seq.{append_snoc}
 use Rattle.store.specs.declared.Ring.{Ring}
 use Rattle.store.specs.declared.Offered.{Offered}
 use Rattle.store.specs.Ring.{Fit, held, put_ring, put_bytes, puts_ring, puts_bytes}
+use Rattle.std.specs.Prelude.{unwrap_or}
 use Rattle.store.specs.Promises.{Put, Puts}
 use Rattle.store.proofs.Laws.{put_size, put_fit, held_put, ring_len, put_cap}
 
@@ -49,7 +50,9 @@ pub puts_none : {A : Type 0} (s : List A) (r : Ring) → Puts s r [] s r
 unfolding puts_bytes puts_ring
 puts_none s r = record { ring = refl; bytes = refl; size = refl }
 
-pub puts_more : {A : Type 0} {s : List A} {r : Ring} {b : A} {l : List A} {s₁ s₂ : List A} {o₁ : Offered} {o₂ : Ring} →
-    Put s r b s₁ o₁ → Puts s₁ (put_ring r) l s₂ o₂ → Puts s r (b ∷ l) s₂ o₂
+pub puts_more : {A : Type 0} {s : List A} {r : Ring} {b : A} {l : List A} {s₁ s₂ : List A} {o : Offered} {r₁ r₂ : Ring} →
+    Put s r b s₁ o → r₁ ≡ unwrap_or o.after r → Puts s₁ r₁ l s₂ r₂ → Puts s r (b ∷ l) s₂ r₂
 unfolding puts_bytes puts_ring
-puts_more {r} {l} p q = record { ring = q.ring; bytes = q.bytes ∙ ap (λ x. puts_bytes x (put_ring r) l) p.bytes; size = q.size ∙ p.size }
+puts_more {l} p e q =
+    let same = e ∙ p.ring in
+    record { ring = q.ring ∙ ap (λ x. puts_ring x l) same; bytes = q.bytes ∙ (λ i. puts_bytes (p.bytes i) (same i) l); size = q.size ∙ p.size }

@@ -1,6 +1,6 @@
 -- What each call of the store promises: first what fixes the result and every byte, then what callers use of it. Then what the store promises of
 -- the definitions that these name. The crates that carry frames know nothing else of it.
-use Rattle.std.specs.Prelude.{ℕ, ◌+◌, ◌-◌, ◌≤◌, ◌<◌, min, ◌≡◌, MatchOption, List, [], ◌∷◌, ◌++◌, cond, length, take, drop}
+use Rattle.std.specs.Prelude.{ℕ, ◌+◌, ◌-◌, ◌≤◌, ◌<◌, min, ◌≡◌, MatchOption, unwrap_or, List, [], ◌∷◌, ◌++◌, cond, length, take, drop}
 use Rattle.std.specs.declared.ops.Range.{Range}
 use Rattle.store.specs.declared.Ring.{Ring}
 use Rattle.store.specs.declared.Offered.{Offered}
@@ -11,9 +11,10 @@ pub record Offering (r : Ring) (o : Offered) : Type 0 where
   pub after : MatchOption o.after (r.cap ≤ r.len) (λ q. (r.len < r.cap) × (q ≡ put_ring r))
   pub room : o.room ≡ room (put_ring r)
 
--- a byte b offered: s and r before, s' after, and the answer o
+-- a byte b offered: s and r before, s' after, and the answer o; where there is no ring in it the ring stays
 pub record Put {A : Type 0} (s : List A) (r : Ring) (b : A) (s' : List A) (o : Offered) : Type 0 where
   pub offering : Offering r o
+  pub ring : unwrap_or o.after r ≡ put_ring r
   pub bytes : s' ≡ put_bytes s r b
   pub size : length s' ≡ length s
   pub fit : Fit s' (put_ring r)
@@ -62,5 +63,5 @@ DropAgain = (r : Ring) (n m : ℕ) → Within r → n + m ≤ r.len → drop_rin
 abbrev pub PutsNone : Type 0 → Type 0
 PutsNone A = (s : List A) (r : Ring) → Puts s r [] s r
 
-abbrev pub PutsMore : {A : Type 0} → List A → Ring → A → List A → List A → List A → Offered → Ring → Type 0
-PutsMore s r b l s₁ s₂ o₁ o₂ = Put s r b s₁ o₁ → Puts s₁ (put_ring r) l s₂ o₂ → Puts s r (b ∷ l) s₂ o₂
+abbrev pub PutsMore : {A : Type 0} → List A → Ring → A → List A → List A → List A → Offered → Ring → Ring → Type 0
+PutsMore s r b l s₁ s₂ o r₁ r₂ = Put s r b s₁ o → r₁ ≡ unwrap_or o.after r → Puts s₁ r₁ l s₂ r₂ → Puts s r (b ∷ l) s₂ r₂

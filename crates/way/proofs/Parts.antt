@@ -10,7 +10,6 @@ use Rattle.std.specs.Prelude.{unwrap_or}
 use Rattle.store.specs.declared.Ring.{Ring}
 use Rattle.store.specs.declared.Offered.{Offered}
 use Rattle.store.specs.Promises.{Put}
-use Rattle.store.proofs.Laws.{offered_after}
 use Rattle.news.specs.declared.News.{News}
 use Rattle.news.specs.News.{come}
 use Rattle.way.specs.declared.Way.{Way}
@@ -19,7 +18,7 @@ use Rattle.way.specs.Way.{left_in, Left}
 pub left_met : (s : List ℕ) (w : Way) (c : ℕ) (s' : List ℕ) (o : Offered) (r : Ring) (n : News) → Put s w.ring c s' o → r ≡ unwrap_or o.after w.ring →
     n ≡ cond (eqb w.ring.len 0) come w.news → Left s w c s' (record { ring = r; news = n })
 unfolding left_in
-left_met s w c s' o r n p e f = rw (e, f, offered_after w.ring o p.offering) (record { way = refl; cells = p.bytes; size = p.size; fit = p.fit })
+left_met s w c s' o r n p e f = rw (e, f, p.ring) (record { way = refl; cells = p.bytes; size = p.size; fit = p.fit })
 
 -- behind others it is no news
 pub left_more : (s : List ℕ) (w : Way) (c : ℕ) (s' : List ℕ) (o : Offered) (r : Ring) → Put s w.ring c s' o → r ≡ unwrap_or o.after w.ring →
