@@ -37,7 +37,6 @@ Small answer.Done = Unit {0}
 Small answer.Nothing = Unit {0}
 Small (answer.Byte b) = b < 65536
 Small (answer.Frame f) = f < 65536
-Small (answer.Refused n) = n < 65536
 Small (answer.Cell n) = ⊥
 Small (answer.Lines n) = ⊥
 
@@ -50,7 +49,6 @@ small_tells answer.Done h = words.done_told byte
 small_tells answer.Nothing h = words.none_told byte
 small_tells (answer.Byte b) h = words.byte_told b h
 small_tells (answer.Frame f) h = words.frame_told byte (control_of f) (data_of f) (omega arith) (omega arith)
-small_tells (answer.Refused n) h = words.refusal_told byte n h
 small_tells (answer.Cell n) h = absurd h
 small_tells (answer.Lines n) h = absurd h
 
@@ -62,7 +60,6 @@ frame_told (answer.Frame f) h = omega arith
 frame_told answer.Done h = absurd h
 frame_told answer.Nothing h = absurd h
 frame_told (answer.Byte b) h = absurd h
-frame_told (answer.Refused n) h = absurd h
 frame_told (answer.Cell n) h = absurd h
 frame_told (answer.Lines n) h = absurd h
 

@@ -2,30 +2,32 @@
 //! 64 bits.
 #![tactic(auto)]
 
-ghost use Rattle.std.specs.Prelude.{◌≡◌, false, length};
-ghost use Rattle.answers.specs.Answers.{said, is_refusal};
-ghost use Rattle.block.specs.Packed.{block_len};
+ghost use Rattle.std.specs.Prelude.{◌≡◌, length, OnOk, MatchResult};
+ghost use Rattle.answers.specs.Answers.{said, refused, number_of};
+ghost use Rattle.block.specs.Packed.{block_len, packed};
 ghost use Rattle.bridge.specs.Calls.{create, show, receive, transmit, on, reset, write, line_byte, line_break, key};
 ghost use Rattle.bridge.specs.Calls.{ask_line_byte, take_line_byte, loop_frame};
-ghost use Rattle.answers.specs.Word.{word_with};
-ghost use Rattle.raftershim.specs.CCalls.{lent, c_did, block_after, CPromised};
+ghost use Rattle.answers.specs.Word.{word, word_with};
+ghost use Rattle.raftershim.specs.CCalls.{lent, c_did, CPromised};
 
-use answers::Answer;
+use answers::Refusal;
 use state::Outcome;
 
-// Writes the state over the block, unless the call was refused, and gives the answer's number, which tells this room; 0 where none is told.
-fn finished(block: &mut [u8], o: Outcome, room: u16) -> u64
-    requires { is_refusal (said o.answer) ≡ false → length block.old ≡ block_len }
-    ensures { (result ≡ word_with (said o.answer) room) × (block.new ≡ block_after block.old (said o.answer) o.state) }
+// Writes the state over the block, unless the call was refused, and gives the number of its answer, which tells this room, 0 where none is told; a
+// refusal is its number alone.
+fn finished(block: &mut [u8], o: Result<Outcome, Refusal>, room: u16) -> u64
+    requires { OnOk o (length block.old ≡ block_len) }
+    ensures { MatchResult o
+        (λ x. (result ≡ word_with (said x.answer) room) × (block.new ≡ packed x.state))
+        (λ r. (result ≡ word (refused (number_of r))) × (block.new ≡ block.old)) }
 {
-    let a = o.answer;
-    let w = answers::word_with(a, room);
-    if answers::is_refusal(a) {
-        return w;
+    match o {
+        Ok(given) => {
+            block::pack(block, given.state);
+            answers::word_with(Ok(given.answer), room)
+        }
+        Err(r) => answers::word_of(Err(r)),
     }
-    let s = o.state;
-    block::pack(block, s);
-    w
 }
 
 // The length of the block that every other call takes.
@@ -44,7 +46,7 @@ pub extern "C" fn raftershim_create(block: &mut [u8], rx: &[u16], tx: &[u8], mar
         (c_did result block.new rx.now tx.now) }
 {
     if block.len() != block::LENGTH {
-        return answers::word_of(Answer::Refused(1));
+        return answers::word_of(Err(Refusal::Sizes));
     }
     let o = bridge::create(rx, tx, margin as usize);
     finished(block, o, 0)
@@ -88,9 +90,10 @@ pub extern "C" fn raftershim_line_byte(block: &mut [u8], rx: &mut [u16], tx: &[u
         (c_did result block.new rx.new tx.now) }
 {
     let s = block::meaning(block);
-    let taken = bridge::line_byte(s, rx, tx, byte);
-    let o = taken.outcome;
-    finished(block, o, taken.room)
+    match bridge::line_byte(s, rx, tx, byte) {
+        Ok(taken) => finished(block, Ok(taken.outcome), taken.room),
+        Err(r) => finished(block, Err(r), 0),
+    }
 }
 
 // Takes a break on the line, and marks it behind the newest byte of the receive store.
@@ -159,9 +162,10 @@ pub extern "C" fn raftershim_loop_frame(
         (c_did result block.new rx.now tx.new) }
 {
     let s = block::meaning(block);
-    let given = bridge::loop_frame(s, rx, tx, frame);
-    let o = given.outcome;
-    finished(block, o, given.room)
+    match bridge::loop_frame(s, rx, tx, frame) {
+        Ok(given) => finished(block, Ok(given.outcome), given.room),
+        Err(r) => finished(block, Err(r), 0),
+    }
 }
 
 // Shows the receive store: where the longest unbroken run of cells from the oldest one starts, and how long it is.

@@ -1,15 +1,12 @@
 use Rattle.bridge.specs.Calls.{line_byte}
-use Rattle.boundary.proofs.Closing.{may_write, written_with}
-use Rattle.raftershim.specs.Bridge.{bridges}
-use Rattle.raftershim.proofs.Forming.{formed}
+use Rattle.raftershim.proofs.Giving.{may_give, outcome_written, refusal_written}
 use Rattle.raftershim.proofs.raftershim_line_byte.Goals as goal
 
 pub finished-requires : goal.finished-requires
-finished-requires c =
-    may_write bridges formed (line_byte _) _ _ _ _ c.meaning-s.ensures _
-    c.line_byte-taken.ensures
+finished-requires c = may_give (line_byte _) _ _ _ _ c.meaning-s.ensures _ _ _ _ c.in-Ok.ensures
 
-pub returns : goal.returns
-returns c =
-    written_with bridges formed (line_byte _) _ _ _ _ c.meaning-s.ensures _
-    c.line_byte-taken.ensures _ _ c.finished.ensures
+pub returns-in-Ok : goal.returns-in-Ok
+returns-in-Ok c = outcome_written (line_byte _) _ _ _ _ c.meaning-s.ensures _ _ _ _ c.in-Ok.ensures _ _ c.finished.ensures
+
+pub returns-in-Err : goal.returns-in-Err
+returns-in-Err c = refusal_written (line_byte _) _ _ _ _ c.meaning-s.ensures _ _ _ c.in-Err.ensures _ _ c.finished-in-Err.ensures

@@ -1,15 +1,12 @@
 use Rattle.bridge.specs.Calls.{loop_frame}
-use Rattle.boundary.proofs.Closing.{may_write, written_with}
-use Rattle.raftershim.specs.Bridge.{bridges}
-use Rattle.raftershim.proofs.Forming.{formed}
+use Rattle.raftershim.proofs.Giving.{may_give, outcome_written, refusal_written}
 use Rattle.raftershim.proofs.raftershim_loop_frame.Goals as goal
 
 pub finished-requires : goal.finished-requires
-finished-requires c =
-    may_write bridges formed (loop_frame _) _ _ _ _ c.meaning-s.ensures _
-    c.loop_frame-given.ensures
+finished-requires c = may_give (loop_frame _) _ _ _ _ c.meaning-s.ensures _ _ _ _ c.in-Ok.ensures
 
-pub returns : goal.returns
-returns c =
-    written_with bridges formed (loop_frame _) _ _ _ _ c.meaning-s.ensures _
-    c.loop_frame-given.ensures _ _ c.finished.ensures
+pub returns-in-Ok : goal.returns-in-Ok
+returns-in-Ok c = outcome_written (loop_frame _) _ _ _ _ c.meaning-s.ensures _ _ _ _ c.in-Ok.ensures _ _ c.finished.ensures
+
+pub returns-in-Err : goal.returns-in-Err
+returns-in-Err c = refusal_written (loop_frame _) _ _ _ _ c.meaning-s.ensures _ _ _ c.in-Err.ensures _ _ c.finished-in-Err.ensures
