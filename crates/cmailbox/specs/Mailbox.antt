@@ -1,12 +1,15 @@
 -- A mailbox as a product with C functions: what they are made of, and what each of them promises.
-use Rattle.std.specs.Prelude.{ℕ}
-use Rattle.answers.specs.Answers.{cell}
+use Rattle.std.specs.Prelude.{ℕ, ◌≡◌, List, Result, Ok, Err}
+use Rattle.answers.specs.declared.Refusal.{Refusal}
+use Rattle.answers.specs.Answers.{said, refused, number_of, cell}
+use Rattle.answers.specs.Word.{word}
 use Rattle.cells.specs.Cells.{Cells}
 use Rattle.boundary.specs.Product.{Product, held, Kind, creating, showing, calling}
 use Rattle.boundary.specs.CCalls as boundary
 use Rattle.mailstate.specs.declared.State.{State}
+use Rattle.mailstate.specs.Outcome.{Outcome}
 use Rattle.mailstate.specs.Sizes.{sizes_obeyed, fits}
-use Rattle.mailblock.specs.Packed.{layout}
+use Rattle.mailblock.specs.Packed.{layout, packed}
 use Rattle.mailblock.specs.States.{no_state}
 use Rattle.mailbox.specs.Calls.{OnState, Call, create, show, on, World, world, Did, checks_on, step}
 use Rattle.maillaws.specs.Mailboxes.{mailbox, ByteCall}
@@ -55,3 +58,9 @@ mailboxes =
 -- what every C function promises, lent these buffers: it did this
 abbrev pub CPromised : Call → boundary.Lent → boundary.CDid → Type 0
 CPromised c l x = boundary.CPromised mailboxes c l x
+
+-- what a C function writes when the call that it made is over: the number, and over a block that has the one length the state after a call
+-- that is not refused
+abbrev pub Finished : List ℕ → Result Outcome Refusal → ℕ → List ℕ → Type 0
+Finished b (Ok o) n b' = (n ≡ word (said o.answer)) × (b' ≡ packed o.state)
+Finished b (Err r) n b' = (n ≡ word (refused (number_of r))) × (b' ≡ b)

@@ -1,30 +1,27 @@
 //! The mailbox as C functions: a lent block that holds the state, two lent stores of cells, and numbers. Each answers one number of 64 bits.
 #![tactic(auto)]
 
-ghost use Rattle.std.specs.Prelude.{◌≡◌, false, not, length, eqb};
-ghost use Rattle.answers.specs.Answers.{said, is_refusal};
-ghost use Rattle.answers.specs.Word.{word};
-ghost use Rattle.boundary.specs.CCalls.{lent, c_did, block_after, place_of};
+ghost use Rattle.std.specs.Prelude.{◌≡◌, not, length, eqb, OnOk};
+ghost use Rattle.boundary.specs.CCalls.{lent, c_did, place_of};
 ghost use Rattle.mailblock.specs.Packed.{block_len};
 ghost use Rattle.mailbox.specs.Calls.{create, show, on, reset, loop_frame, bus_command, bus_byte, bus_fetch, bus_clear, bus_lines};
-ghost use Rattle.cmailbox.specs.Mailbox.{mailboxes, CPromised};
+ghost use Rattle.cmailbox.specs.Mailbox.{mailboxes, CPromised, Finished};
 
-use answers::Answer;
+use answers::Refusal;
 use mailstate::{Outcome, State};
 
 // Writes the state over the block, unless the call was refused, and gives the answer's number.
-fn finished(block: &mut [u8], o: Outcome) -> u64
-    requires { is_refusal (said o.answer) ≡ false → length block.old ≡ block_len }
-    ensures { (result ≡ word (said o.answer)) × (block.new ≡ block_after mailboxes block.old (said o.answer) o.state) }
+fn finished(block: &mut [u8], o: Result<Outcome, Refusal>) -> u64
+    requires { OnOk o (length block.old ≡ block_len) }
+    ensures { Finished block.old o result block.new }
 {
-    let a = o.answer;
-    let w = answers::word_of(a);
-    if answers::is_refusal(a) {
-        return w;
+    match o {
+        Ok(done) => {
+            mailblock::pack(block, done.state);
+            answers::word_of(Ok(done.answer))
+        }
+        Err(r) => answers::word_of(Err(r)),
     }
-    let s = o.state;
-    mailblock::pack(block, s);
-    w
 }
 
 // The length of the block that every other call takes.
@@ -48,7 +45,7 @@ pub extern "C" fn raftershim_mailbox_create(
         (c_did result block.new tobus.now toloop.now) }
 {
     if block.len() != mailblock::LENGTH {
-        return answers::word_of(Answer::Refused(1));
+        return answers::word_of(Err(Refusal::Sizes));
     }
     let o = mailbox::create(tobus, toloop, address);
     finished(block, o)
@@ -158,9 +155,10 @@ pub extern "C" fn raftershim_mailbox_bus_lines(block: &[u8], tobus: &[u16], tolo
         (c_did result block.now tobus.now toloop.now) }
 {
     let s = mailblock::meaning(block);
-    let o = mailbox::bus_lines(s, tobus, toloop);
-    let a = o.answer;
-    answers::word_of(a)
+    match mailbox::bus_lines(s, tobus, toloop) {
+        Ok(shown) => answers::word_of(Ok(shown.answer)),
+        Err(refusal) => answers::word_of(Err(refusal)),
+    }
 }
 
 // Where the oldest cell of a side's store is.

@@ -1,14 +1,9 @@
-use mathlib.Core.Path.{refl}
 use Rattle.mailbox.specs.Calls.{bus_fetch}
-use Rattle.boundary.proofs.Closing.{may_write, written}
-use Rattle.cmailbox.specs.Mailbox.{mailboxes}
-use Rattle.cmailbox.proofs.Forming.{formed}
+use Rattle.cmailbox.proofs.Finishing.{may_finish, finished_met}
 use Rattle.cmailbox.proofs.raftershim_mailbox_bus_fetch.Goals as goal
 
 pub finished-requires : goal.finished-requires
-finished-requires c = may_write mailboxes formed bus_fetch _ _ _ _ c.meaning-s.ensures _ c.bus_fetch-o.ensures
+finished-requires c = may_finish bus_fetch _ _ _ _ _ _ c.meaning-s.ensures _ c.bus_fetch-o.ensures
 
 pub returns : goal.returns
-returns c =
-    written mailboxes formed bus_fetch _ _ _ _ c.meaning-s.ensures _ c.bus_fetch-o.ensures _ _
-    c.finished.ensures refl
+returns c = finished_met bus_fetch _ _ _ _ _ _ c.meaning-s.ensures _ c.bus_fetch-o.ensures _ _ c.finished.ensures
