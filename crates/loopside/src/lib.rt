@@ -175,7 +175,7 @@ pub fn frame_taken(s: State, rx: &[u16], tx: &mut [u8], f: u16) -> Outcome
     ensures { Framed s rx.now tx.old f tx.new result }
 {
     if frame::is_data(f) {
-        if s.talker.role.phase >= 2 {
+        if s.talker.role.phase >= role::SENDING_DATA {
             return state::requests::settle(s, back(s, rx, f));
         }
         return state::requests::settle(s, pass_data(s, tx, f));

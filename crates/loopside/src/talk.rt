@@ -40,7 +40,7 @@ fn send_state(before: State, after: State, given: Option<u16>) -> Outcome
         None => ended(after, 64),
         Some(f) => {
             let mut t = after;
-            let active = talker::talking(after.talker, 2, f);
+            let active = talker::talking(after.talker, role::SENDING_DATA, f);
             t.talker = active;
             let count = std::num::wrapping_add_u32(after.counts.sent, 1);
             t.counts.sent = count;
@@ -74,7 +74,7 @@ pub fn send_status(s: State) -> Outcome
     let f = frame::make(0, state::requests::status_of(s));
     let out = state::requests::serviced(s, f);
     let mut t = state::requests::status_sent(s);
-    let active = talker::talking(s.talker, 3, f);
+    let active = talker::talking(s.talker, role::SENDING_STATUS, f);
     t.talker = active;
     Outcome {
         state: t,

@@ -93,10 +93,10 @@ fn identities(s: State, f: u16) -> Outcome
     ensures { result ≡ identities s f }
 {
     let d = frame::data_byte(f);
-    if (d == 98) & (s.talker.role.phase == 1) {
+    if (d == 98) & (s.talker.role.phase == role::ADDRESSED) {
         return talk::send_id(s, 0);
     }
-    if (d == 99) & (s.talker.role.phase == 1) {
+    if (d == 99) & (s.talker.role.phase == role::ADDRESSED) {
         return talk::send_accessory(s);
     }
     passed(s, f)
@@ -184,7 +184,7 @@ pub fn frame_taken(s: State, tobus: &mut [u16], toloop: &[u16], f: u16) -> Outco
     ensures { Framed s tobus.old toloop.now f tobus.new result }
 {
     if frame::is_data(f) {
-        if s.talker.role.phase >= 2 {
+        if s.talker.role.phase >= role::SENDING_DATA {
             return back(s, toloop, f);
         }
         if s.talker.role.listener {

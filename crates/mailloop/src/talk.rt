@@ -57,7 +57,7 @@ fn sends(before: State, after: State, f: u16, source: u8) -> Outcome
     ensures { result ≡ sends before after f source }
 {
     let out = serviced(before, f);
-    let talker = talker::talking(after.talker, 2, f);
+    let talker = talker::talking(after.talker, role::SENDING_DATA, f);
     Outcome {
         state: State {
             talker,
@@ -119,7 +119,7 @@ pub fn send_status(s: State) -> Outcome
     let out = serviced(s, f);
     let n = news::sent(s.toloop.news);
     let toloop = way::told(s.toloop, n);
-    let talker = talker::talking(s.talker, 3, f);
+    let talker = talker::talking(s.talker, role::SENDING_STATUS, f);
     Outcome {
         state: State {
             toloop,

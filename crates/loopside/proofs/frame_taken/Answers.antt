@@ -2,13 +2,13 @@ use Rattle.std.proofs.Common.{sym, ◌∙◌}
 use Rattle.loopside.proofs.Taken.{taken_back, taken_passed, taken_command, taken_ready, taken_identify, identify_met}
 use Rattle.loopside.proofs.frame_taken.Goals as goal
 
-pub returns-then-s-ge2 : goal.returns-then-s-ge2
-returns-then-s-ge2 c =
-    taken_back _ _ _ _ _ c.requires.tx_fits.ring.within _ (sym c.is_data.ensures ∙ c.if-is_data.true) c.if-s-ge2.true c.back.ensures c.settle.ensures
+pub returns-then-s-ge-SENDING_DATA : goal.returns-then-s-ge-SENDING_DATA
+returns-then-s-ge-SENDING_DATA c =
+    taken_back _ _ _ _ _ c.requires.tx_fits.ring.within _ (sym c.is_data.ensures ∙ c.if-is_data.true) c.if-s-ge-SENDING_DATA.true c.back.ensures c.settle.ensures
 
 pub returns-then-is_data : goal.returns-then-is_data
 returns-then-is_data c =
-    taken_passed _ _ _ _ _ c.requires.tx_fits.ring.within _ _ (sym c.is_data.ensures ∙ c.if-is_data.true) c.if-s-ge2.false
+    taken_passed _ _ _ _ _ c.requires.tx_fits.ring.within _ _ (sym c.is_data.ensures ∙ c.if-is_data.true) c.if-s-ge-SENDING_DATA.false
     c.pass_data.ensures c.settle-then-is_data.ensures
 
 pub returns-then-control-eq4 : goal.returns-then-control-eq4
