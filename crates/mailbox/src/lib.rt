@@ -153,6 +153,7 @@ pub fn create(tobus: &[u16], toloop: &[u16], address: u32) -> Result<Outcome, Re
     if !mailstate::sizes_obeyed(address, tobus.len(), toloop.len()) {
         return Err(Refusal::Sizes);
     }
+    // Kept: an address that is obeyed is at most 30, so the cast loses no bit.
     let a = address as u8;
     let s = mailstate::start(a, tobus.len(), toloop.len());
     Ok(done(s))
@@ -180,6 +181,7 @@ pub fn loop_frame(
     if frame > 2047 {
         return Err(Refusal::LargeFrame);
     }
+    // Kept: the test above leaves eleven bits, so the cast loses none.
     let f = frame as u16;
     if mailloop::busy(s, f) {
         return Err(Refusal::Busy);
@@ -195,6 +197,7 @@ pub fn bus_command(s: State, tobus: &[u16], toloop: &[u16], c: u32) -> Result<Ou
     if c > 127 {
         return Err(Refusal::LargeCommand);
     }
+    // Kept: the test above leaves seven bits, so the cast loses none.
     Ok(commanded(s, c as u8))
 }
 
