@@ -11,12 +11,12 @@ use lib.Seq.{ext_get_or, get_or-take}
 use borrow.Author.Tests.{le-leb, lt-leb}
 use Rattle.branches.proofs.Branches.{split}
 use Rattle.store.specs.declared.Ring.{Ring}
-use Rattle.store.specs.declared.Offered.{Offered}
-use Rattle.store.specs.declared.Stretch.{Stretch}
+use Rattle.std.specs.Prelude.{Option}
+use Rattle.std.specs.declared.ops.Range.{Range}
 use Rattle.store.specs.Ring.{Within, Fit, wrap, held, run, full, put_bytes, drop_ring}
 use Rattle.store.specs.Promises.{Offering, Put, Dropped, Spanned, Shown}
 use Rattle.store.proofs.Laws.{wrap_low, wrap_high, held_at, held_length, run_part}
-use Rattle.store.proofs.Laws.{offered_room, offered_full, offered_one, put_at, put_kept, drop_met, shown_met}
+use Rattle.store.proofs.Laws.{offered_room, offered_one, put_at, put_kept, drop_met, shown_met}
 use Rattle.cells.specs.Newest.{replaced_cells}
 use Rattle.cells.proofs.Newest.{replaced_at}
 use Rattle.places.specs.GoingRound.{by_remainder, together, offered, place_by, put_by, replace_by, look_by, drop_by, bytes_by}
@@ -55,15 +55,15 @@ look s r k f h = held_at s r k f h ∙ ap (λ (n : ℕ). get_or s n 0) (place r 
 offered_so : (r : Ring) → Offering r (offered r)
 offered_so r =
     ⊎_elim
-    (λ l. rw (lt-leb r.cap r.len l) (offered_room r _ l refl))
-    (λ g. rw (le-leb r.cap r.len g) (offered_full r g))
+    (λ l. rw (lt-leb r.cap r.len l) (offered_room r l))
+    (λ g. rw (le-leb r.cap r.len g) g)
     (split r.len r.cap)
 
-put : (s : List ℕ) (r : Ring) (b : ℕ) (o : List ℕ) (a : Offered) → Fit s r → Put s r b o a → (o ≡ put_by by_remainder s r b) × (a ≡ offered r)
+put : (s : List ℕ) (r : Ring) (b : ℕ) (o : List ℕ) (a : Option Ring) → Fit s r → Put s r b o a → (o ≡ put_by by_remainder s r b) × (a ≡ offered r)
 unfolding put_bytes
 put s r b o a f p = (
   p.bytes ∙ ap (λ (n : ℕ). cond (full r) s (set s n b)) (place r r.len f.within (omega arith)),
-  offered_one p.offering (offered_so r),
+  offered_one r a (offered r) p.offering (offered_so r),
 )
 
 replaced_by : (s : List ℕ) (r : Ring) (b : ℕ) → Fit s r → replaced_cells s r b ≡ replace_by by_remainder s r b
@@ -77,7 +77,7 @@ dropped r n o f h d = d.ring ∙ (λ i. record { cap = r.cap; oldest = place r n
 first_place : (r : Ring) → Within r → place_by by_remainder r 0 ≡ r.oldest
 first_place r f = let first : r.oldest + 0 ≡ r.oldest = omega arith in ap (λ (n : ℕ). n % r.cap) first ∙ mod-eq_of_lt f.oldest
 
-span : (r : Ring) (o : Stretch) → Within r → Spanned r o → (o.start ≡ place_by by_remainder r 0) × (o.end ≡ o.start + together r)
+span : (r : Ring) (o : Range ℕ) → Within r → Spanned r o → (o.start ≡ place_by by_remainder r 0) × (o.end ≡ o.start + together r)
 span r o f p = (p.start ∙ sym (first_place r f), omega (arith, p.size, p.order))
 
 -- a list that begins what is held
@@ -119,8 +119,8 @@ put_given s r b f =
     ⊎_elim
     (λ l.
     rw (lt-leb r.cap r.len l)
-    (put_at s r b (place_by by_remainder r r.len) _ f (offered_room r _ l refl) refl (sym (place r r.len f.within (omega arith)))))
-    (λ g. rw (le-leb r.cap r.len g) (put_kept s r b _ f (offered_full r g) refl))
+    (put_at s r b (place_by by_remainder r r.len) _ f (offered_room r l) (sym (place r r.len f.within (omega arith)))))
+    (λ g. rw (le-leb r.cap r.len g) (put_kept s r b f g))
     (split r.len r.cap)
 
 spanned_from : (r : Ring) (p : ℕ) → Within r → p ≡ r.oldest → Spanned r (record { start = p; end = p + together r })

@@ -1,9 +1,8 @@
 -- The ring of a store by any way of going round, and a law of any store: what its calls give is what the ring by the remainder gives. The
 -- stores themselves go round by a comparison; a ring is mostly known by the remainder.
-use Rattle.std.specs.Prelude.{ℕ, zero, suc, ◌+◌, ◌-◌, ◌%◌, ◌≤◌, ◌<◌, min, ◌≡◌, true, false, cond, List, [], ◌∷◌, leb, get_or, set}
+use Rattle.std.specs.Prelude.{ℕ, zero, suc, ◌+◌, ◌-◌, ◌%◌, ◌≤◌, ◌<◌, min, ◌≡◌, Option, Some, None, cond, List, [], ◌∷◌, leb, get_or, set}
 use Rattle.store.specs.declared.Ring.{Ring}
-use Rattle.store.specs.declared.Offered.{Offered}
-use Rattle.store.specs.declared.Stretch.{Stretch}
+use Rattle.std.specs.declared.ops.Range.{Range}
 use Rattle.store.specs.Ring.{Within, Fit, wrap, held}
 use Rattle.store.specs.Promises.{Put, Dropped, Spanned, Shown}
 use Rattle.cells.specs.Newest.{Replaced}
@@ -22,12 +21,9 @@ by_remainder cap p = p % cap
 abbrev pub together : Ring → ℕ
 together r = min r.len (r.cap - r.oldest)
 
--- what a byte offered is answered: whether it is stored, the ring after it and the room that is left; the place of the oldest stays
-abbrev pub offered : Ring → Offered
-offered r =
-    cond (leb r.cap r.len)
-    (record { stored = false; ring = r; room = 0 })
-    (record { stored = true; ring = record { cap = r.cap; oldest = r.oldest; len = r.len + 1 }; room = r.cap - (r.len + 1) })
+-- what a byte offered is answered: none where the store is full, and else the ring after it; the place of the oldest stays
+abbrev pub offered : Ring → Option Ring
+offered r = cond (leb r.cap r.len) None (Some (record { cap = r.cap; oldest = r.oldest; len = r.len + 1 }))
 
 module _ (g : GoingRound) where
   -- the place of the k-th oldest byte, from 0, and of the next one where k are held
@@ -61,22 +57,22 @@ module _ (g : GoingRound) where
 -- answers, the ring that a drop leaves, the places of the part that is shown, and the part
 pub record Giving : Type 1 where
   pub Place : Ring → ℕ → ℕ → Type 0
-  pub Puts : List ℕ → Ring → ℕ → List ℕ → Offered → Type 0
+  pub Puts : List ℕ → Ring → ℕ → List ℕ → Option Ring → Type 0
   pub Replaces : List ℕ → Ring → ℕ → List ℕ → Type 0
   pub Looks : List ℕ → Ring → ℕ → ℕ → Type 0
   pub Drops : Ring → ℕ → Ring → Type 0
-  pub Spans : Ring → Stretch → Type 0
+  pub Spans : Ring → Range ℕ → Type 0
   pub Shows : List ℕ → Ring → List ℕ → Type 0
 
 -- the law, wherever a call may be made: in a ring within its capacity, whose list has as many places, and of bytes that are held. Nothing is
 -- given but what the ring by the remainder gives
 pub record AsByRemainder (S : Giving) : Type 0 where
   pub place : (r : Ring) (k o : ℕ) → Within r → k ≤ r.len → S.Place r k o → o ≡ place_by by_remainder r k
-  pub put : (s : List ℕ) (r : Ring) (b : ℕ) (o : List ℕ) (a : Offered) → Fit s r → S.Puts s r b o a → (o ≡ put_by by_remainder s r b) × (a ≡ offered r)
+  pub put : (s : List ℕ) (r : Ring) (b : ℕ) (o : List ℕ) (a : Option Ring) → Fit s r → S.Puts s r b o a → (o ≡ put_by by_remainder s r b) × (a ≡ offered r)
   pub replaced : (s : List ℕ) (r : Ring) (b : ℕ) (o : List ℕ) → Fit s r → 0 < r.len → S.Replaces s r b o → o ≡ replace_by by_remainder s r b
   pub look : (s : List ℕ) (r : Ring) (k o : ℕ) → Fit s r → k < r.len → S.Looks s r k o → o ≡ look_by by_remainder s r k
   pub dropped : (r : Ring) (n : ℕ) (o : Ring) → Within r → n ≤ r.len → S.Drops r n o → o ≡ drop_by by_remainder r n
-  pub span : (r : Ring) (o : Stretch) → Within r → S.Spans r o → (o.start ≡ place_by by_remainder r 0) × (o.end ≡ o.start + together r)
+  pub span : (r : Ring) (o : Range ℕ) → Within r → S.Spans r o → (o.start ≡ place_by by_remainder r 0) × (o.end ≡ o.start + together r)
   pub show : (s : List ℕ) (r : Ring) (o : List ℕ) → Fit s r → S.Shows s r o → o ≡ bytes_by by_remainder s r 0 (together r)
 
 -- and all that it gives is given, so that no call is left without an answer
