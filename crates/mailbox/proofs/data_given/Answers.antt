@@ -5,4 +5,4 @@ pub returns-then-s-eq0 : goal.returns-then-s-eq0
 returns-then-s-eq0 c = data_none _ _ c.if-s-eq0.true
 
 pub returns : goal.returns
-returns c = data_met _ _ _ _ c.if-s-eq0.false c.look-c.ensures c.fetched-tobus.ensures
+returns c = data_met _ _ _ _ c.if-s-eq0.false (c.look-c.ensures 0) c.fetched-tobus.ensures

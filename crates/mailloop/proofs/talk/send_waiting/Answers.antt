@@ -9,5 +9,5 @@ returns-then-s-eq0 c =
 pub returns : goal.returns
 returns c =
     let a = c.args in
-    oldest_sent a.s a.toloop.now _ _ _ _ c.if-s-eq0.false c.look-c.ensures c.frame_of-f.ensures
+    oldest_sent a.s a.toloop.now _ _ _ _ c.if-s-eq0.false (c.look-c.ensures 0) c.frame_of-f.ensures
     c.fetched-toloop.ensures c.sends.ensures
