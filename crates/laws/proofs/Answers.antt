@@ -5,8 +5,7 @@ use mathlib.Core.Bool.{true, false, false≢true}
 use mathlib.Core.List.{List}
 use Rattle.answers.specs.Refusals.{first_refusal}
 use Rattle.machine.specs.Machine.{Obeys}
-use Rattle.sending.specs.declared.Given.{Given}
-use Rattle.sending.specs.declared.Given.TheVariants.{Nothing, One}
+use Rattle.std.specs.Prelude.{Option, Some, None}
 use Rattle.state.specs.declared.State.{State}
 use Rattle.state.specs.Outcome.{Outcome}
 use Rattle.state.specs.declared.Out.{Out}
@@ -36,10 +35,10 @@ record Framed (x : Said) : Type 0 where
 framed : (k d : ℕ) → Framed (frame k d)
 framed k d = record { frame = refl; answer = refl; taken = refl }
 
-send_framed : (s t : State) (g : Given) → Framed (said (send_state s t g).answer)
+send_framed : (s t : State) (g : Option ℕ) → Framed (said (send_state s t g).answer)
 unfolding send_state ended said
-send_framed s t Nothing = framed _ _
-send_framed s t (One f) = framed _ _
+send_framed s t None = framed _ _
+send_framed s t (Some f) = framed _ _
 
 way_framed : (s : State) (rx : List ℕ) (f : ℕ) (o : Outcome) → Way s rx f o → Framed (said o.answer)
 unfolding send_from send_status ended said

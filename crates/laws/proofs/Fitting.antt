@@ -17,8 +17,7 @@ use Rattle.store.specs.declared.Ring.{Ring}
 use Rattle.store.specs.Ring as store-ring
 use Rattle.store.proofs.Laws as store-laws
 use Rattle.store.proofs.Several.{puts_cap, puts_fit, puts_size}
-use Rattle.sending.specs.declared.Given.{Given}
-use Rattle.sending.specs.declared.Given.TheVariants.{Nothing, One}
+use Rattle.std.specs.Prelude.{Option, Some, None}
 use Rattle.sending.specs.Sending.{given_of, send_held, sent_ring}
 use Rattle.talker.specs.UnderWay.{talking}
 use Rattle.state.specs.declared.State.{State}
@@ -116,10 +115,10 @@ module _ (rx tx : List ℕ) where
   unfolding ended
   ended_good q d e h = talking_good q 1 0 e h (omega arith) (omega arith)
 
-  given_good : (p q : State) (d : Given) → G q → 1 ≤ q.talker.role.phase → ((g : ℕ) → d ≡ One g → g < 1024) → G (send_state p q d).state
+  given_good : (p q : State) (d : Option ℕ) → G q → 1 ≤ q.talker.role.phase → ((g : ℕ) → d ≡ Some g → g < 1024) → G (send_state p q d).state
   unfolding send_state
-  given_good p q Nothing e h k = ended_good q 64 e h
-  given_good p q (One g) e h k = unfold fits in talking_good q 2 g e h (omega arith) (k g refl)
+  given_good p q None e h k = ended_good q 64 e h
+  given_good p q (Some g) e h k = unfold fits in talking_good q 2 g e h (omega arith) (k g refl)
 
   module _ (s : State) (e : G s) where
     t : T s

@@ -9,8 +9,7 @@ use lib.ListN.{length}
 use borrow.Author.Tests.{ltb-true, ne_eqb}
 use Rattle.frame.specs.Frame.{control_of, data_of, is_data}
 use Rattle.store.specs.Ring.{Fit, empty_ring, puts_ring}
-use Rattle.sending.specs.declared.Given.{Given}
-use Rattle.sending.specs.declared.Given.TheVariants.{Nothing, One}
+use Rattle.std.specs.Prelude.{Option, Some, None}
 use Rattle.sending.specs.Sending.{given_of, send_held, sent_ring}
 use Rattle.state.specs.declared.State.{State}
 use Rattle.state.specs.Outcome.{Outcome}
@@ -51,9 +50,9 @@ module _ (rx : List ℕ) (s : State) (fit : Fit rx s.rx) where
       removed : next_place (length rx) (removed_state s rx).rx ≡ next_place (length rx) s.rx
       removed = places_go_on.removed rx s.rx _ fit (omega arith)
 
-      go : (g : Given) → S (send_state s (removed_state s rx) g).state
-      go Nothing = unfold send_state ended talking in record { place = removed; ring = refl }
-      go (One g) = unfold send_state talking in record { place = removed; ring = refl }
+      go : (g : Option ℕ) → S (send_state s (removed_state s rx) g).state
+      go None = unfold send_state ended talking in record { place = removed; ring = refl }
+      go (Some g) = unfold send_state talking in record { place = removed; ring = refl }
 
   module _ (f : ℕ) where
     abbrev K : State → Type 0

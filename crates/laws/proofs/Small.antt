@@ -13,15 +13,15 @@ use Rattle.reading.specs.Reading.{Sent, none, one, send}
 use Rattle.reading.specs.Received.{Received, received_in}
 use Rattle.reading.specs.Steps.{cut}
 use Rattle.reading.proofs.Bytes.{sent_frame}
-use Rattle.sending.specs.declared.Given.TheVariants.{One}
+use Rattle.std.specs.Prelude.{Some}
 use Rattle.sending.specs.Sending.{given_of, send_held}
 
 -- the frame of a send
-pub given_small : (r : Rule) (s : List ℕ) (q : Ring) (f : ℕ) → given_of (send_held r s q) ≡ One f → f < 1024
+pub given_small : (r : Rule) (s : List ℕ) (q : Ring) (f : ℕ) → given_of (send_held r s q) ≡ Some f → f < 1024
 unfolding send_held
 given_small r s q f e = go (send (cut r) (received_in (held s q))) refl e
   where
-    go : (x : Sent Received ℕ) → send (cut r) (received_in (held s q)) ≡ x → given_of x ≡ One f → f < 1024
+    go : (x : Sent Received ℕ) → send (cut r) (received_in (held s q)) ≡ x → given_of x ≡ Some f → f < 1024
     go (none t) p e = let z : ◌≡◌ {A = ℕ} 0 1 = cc in absurd (omega arith)
     go (one g t) p e =
         let z : g ≡ f = cc in

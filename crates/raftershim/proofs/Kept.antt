@@ -12,8 +12,7 @@ use Rattle.answers.specs.Answers.{done, refused}
 use Rattle.frame.specs.Frame.{data_of, is_end}
 use Rattle.registers.specs.Meanings.{end_inserted}
 use Rattle.registers.specs.Writing.{written}
-use Rattle.sending.specs.declared.Given.{Given}
-use Rattle.sending.specs.declared.Given.TheVariants.{Nothing, One}
+use Rattle.std.specs.Prelude.{Option, Some, None}
 use Rattle.sending.specs.Sending.{given_of, send_held}
 use Rattle.store.specs.Ring.{full, put_bytes, puts_bytes}
 use Rattle.state.specs.declared.State.{State}
@@ -84,10 +83,10 @@ removed_counts : (s : State) (rx : List ℕ) → Counted s → Counted (removed_
 unfolding removed_state resumed
 removed_counts s rx k = k
 
-send_counts : (s t : State) (g : Given) → Counted t → Counts (send_state s t g)
+send_counts : (s t : State) (g : Option ℕ) → Counted t → Counts (send_state s t g)
 unfolding send_state ended
-send_counts s t Nothing k = k
-send_counts s t (One f) k = record { stored = k.stored; lost = k.lost; sent = counted_ranged t.counts.sent }
+send_counts s t None k = k
+send_counts s t (Some f) k = record { stored = k.stored; lost = k.lost; sent = counted_ranged t.counts.sent }
 
 from_counts : (s : State) (rx : List ℕ) → Counted s → Counts (send_from s rx)
 unfolding send_from

@@ -10,8 +10,7 @@ use Rattle.branches.proofs.Branches.{by_cond}
 use Rattle.machine.specs.Machine.{Obeys}
 use Rattle.frame.specs.Frame.{control_of, data_of, made}
 use Rattle.frame.proofs.Laws.{service_small}
-use Rattle.sending.specs.declared.Given.{Given}
-use Rattle.sending.specs.declared.Given.TheVariants as given
+use Rattle.std.specs.Prelude.{Option, Some, None}
 use Rattle.sending.specs.Sending.{given_of, send_held}
 use Rattle.state.specs.declared.State.{State}
 use Rattle.state.specs.Outcome.{Outcome}
@@ -54,10 +53,10 @@ ended_small : (s : State) (d : ℕ) → d < 256 → SmallOut (ended s d)
 unfolding ended
 ended_small s d h = omega arith
 
-send_small : (s t : State) (g : Given) → ((f : ℕ) → g ≡ given.One f → f < 1024) → SmallOut (send_state s t g)
+send_small : (s t : State) (g : Option ℕ) → ((f : ℕ) → g ≡ Some f → f < 1024) → SmallOut (send_state s t g)
 unfolding send_state
-send_small s t given.Nothing h = ended_small t 64 (omega arith)
-send_small s t (given.One f) h = serviced_small s f (omega (arith, h f refl))
+send_small s t None h = ended_small t 64 (omega arith)
+send_small s t (Some f) h = serviced_small s f (omega (arith, h f refl))
 
 module _ (s : State) (rx : List ℕ) where
   from_small : SmallOut (send_from s rx)

@@ -12,8 +12,7 @@ use Rattle.registers.specs.Meanings.{go, stop}
 use Rattle.registers.specs.Writing.{written}
 use Rattle.registers.proofs.Fits.{fit_differ}
 use Rattle.store.specs.Ring.{full, held}
-use Rattle.sending.specs.declared.Given.{Given}
-use Rattle.sending.specs.declared.Given.TheVariants as given
+use Rattle.std.specs.Prelude.{Option, Some, None}
 use Rattle.sending.specs.Sending.{given_of, send_held}
 use Rattle.state.specs.declared.State.{State}
 use Rattle.state.specs.declared.Line.{Line}
@@ -65,9 +64,9 @@ module _ (s : State) (rx : List ℕ) (f : ℕ) where
   unfolding send_from send_state ended talking removed_state resumed
   send_same = go (given_of (send_held (rule_of s.regs) rx s.rx))
     where
-      go : (g : Given) → Same s (send_state s (removed_state s rx) g).state
-      go given.Nothing = refl
-      go (given.One x) = refl
+      go : (g : Option ℕ) → Same s (send_state s (removed_state s rx) g).state
+      go None = refl
+      go (Some x) = refl
 
   frame_same : (o : Outcome) → Kind s rx f o → Same s o.state
   unfolding send_status ended talking cleared obeyed added_state status.after_status status.after_status_back
