@@ -24,6 +24,8 @@ pub fn block_len() -> usize
     LENGTH
 }
 
+// Kept beside its twin in mailblock: a trait for both would need a type of its own here, as the state is another crate's, and is longer than they are.
+
 // Writes the bytes of a state over a block.
 pub fn pack(block: &mut [u8], s: State)
     requires { length block.old ≡ block_len }

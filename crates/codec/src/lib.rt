@@ -53,7 +53,7 @@ pub fn ring_bytes(r: Ring) -> [u8; 6]
     [cap[0], cap[1], oldest[0], oldest[1], len[0], len[1]]
 }
 
-// Whether these bytes are flags, each 1 or 0, and what stands before them is right.
+// Whether these bytes are flags, each 1 or 0, and what stands before them is right. A fold tests them with no branch; `all` would have one at each.
 pub fn flags_right(flags: &[u8], before: bool) -> bool
     ensures { result ≡ flags_right flags.now before }
 {
