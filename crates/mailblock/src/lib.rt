@@ -47,8 +47,11 @@ fn no_state() -> State
 pub fn meaning(b: &[u8]) -> State
     ensures { result ≡ meaning b.now }
 {
-    match <&[u8; LENGTH]>::try_from(b) {
-        Ok(block) if testing::right(block) => reading::unpack(block),
-        _ => no_state(),
+    let Ok(block) = <&[u8; LENGTH]>::try_from(b) else {
+        return no_state();
+    };
+    if !testing::right(block) {
+        return no_state();
     }
+    reading::unpack(block)
 }
