@@ -11,8 +11,5 @@ pub fn right(b: &[u8; LENGTH]) -> bool
     let version = b[0] == VERSION;
     let listener = (b[29] <= 1) & version;
     let finishing = (b[32] <= 1) & listener;
-    let line = codec::three_right(b, 44, finishing);
-    let seen = codec::three_right(b, 47, line);
-    let again = codec::three_right(b, 50, seen);
-    codec::three_right(b, 53, again)
+    codec::flags_right(&b[44..], finishing)
 }

@@ -1,3 +1,2 @@
--- `Tested` serves the proofs of the functions, `Laws` are the laws of the block.
-pub mod Tested
+-- `Laws` are the laws of the block.
 pub mod Laws

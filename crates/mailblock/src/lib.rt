@@ -24,6 +24,8 @@ pub fn block_len() -> usize
     LENGTH
 }
 
+// Kept beside its twin in block: a trait for both would need a type of its own here, as the state is another crate's, and is longer than they are.
+
 // Writes the bytes of a state over a block.
 pub fn pack(block: &mut [u8], s: State)
     requires { length block.old ≡ block_len }
@@ -45,8 +47,11 @@ fn no_state() -> State
 pub fn meaning(b: &[u8]) -> State
     ensures { result ≡ meaning b.now }
 {
-    match <&[u8; LENGTH]>::try_from(b) {
-        Ok(block) if testing::right(block) => reading::unpack(block),
-        _ => no_state(),
+    let Ok(block) = <&[u8; LENGTH]>::try_from(b) else {
+        return no_state();
+    };
+    if !testing::right(block) {
+        return no_state();
     }
+    reading::unpack(block)
 }

@@ -11,9 +11,5 @@ pub fn right(b: &[u8; LENGTH]) -> bool
     let version = b[0] == VERSION;
     let listener = (b[19] <= 1) & version;
     let finishing = (b[20] <= 1) & listener;
-    let first = codec::three_right(b, 26, finishing);
-    let second = codec::three_right(b, 29, first);
-    let third = codec::three_right(b, 32, second);
-    let fourth = codec::three_right(b, 35, third);
-    codec::three_right(b, 38, fourth)
+    codec::flags_right(&b[26..], finishing)
 }

@@ -1,0 +1,7 @@
+use mathlib.Core.Path.{◌∙◌}
+use native.Mathlib.Omega.{arith}
+use Rattle.codec.proofs.Flags.{flags_between}
+use Rattle.mailblock.proofs.testing.right.Goals as goal
+
+pub returns : goal.returns
+returns c = c.flags_right.ensures ∙ flags_between c.args.b.now 26 15 _ (omega arith)
