@@ -1,13 +1,13 @@
--- The masks and the shift by nine, in terms of / and %. Assumes nothing.
-use Prim.Native.Nat.{ℕ, ◌*◌, ◌/◌, ◌%◌, ◌<◌}
+-- The mask of the service bit, in terms of / and %. Assumes nothing.
+use Prim.Native.Nat.{ℕ, ◌*◌, ◌/◌, ◌%◌}
 use mathlib.Core.Path.{◌≡◌, refl}
 use mathlib.Core.Bool.{Bool, true, false, not}
 use native.Mathlib.Omega.{arith}
-use lib.Bits.{bit_and, bit_or, and_high, or_add_and, or_shifted}
+use lib.Bits.{bit_and, bit_or, and_high, or_add_and}
 use lib.Dec.{eqb}
 use borrow.Author.Tests.{eqb-true, eqb-false, eq-eqb, ne_eqb}
 use Rattle.branches.proofs.Branches.{same_test}
-use Rattle.frame.specs.Frame.{made, is_end, has_service, stripped, with_service, same_apart}
+use Rattle.frame.specs.Frame.{has_service, stripped, with_service, same_apart}
 
 -- the mask of the service bit
 pub and_service : (f : ℕ) → bit_and f 256 ≡ f / 256 % 2 * 256
@@ -30,13 +30,3 @@ test_same f g =
     same_test (eqb (bit_or f 256) (bit_or g 256)) (same_apart f g)
     (λ e. eq-eqb (stripped f) (stripped g) (omega (arith, eqb-true (bit_or f 256) (bit_or g 256) e, or_service f, or_service g)))
     (λ e. eq-eqb (bit_or f 256) (bit_or g 256) (omega (arith, eqb-true (stripped f) (stripped g) e, or_service f, or_service g)))
-
--- the shift by nine
-pub shift_end : (f : ℕ) → eqb (f / 512) 1 ≡ is_end f
-shift_end f = let e : f / 512 ≡ f / 256 / 2 = omega arith in rw e
-
--- the control bits above the data byte
-pub shift_made : (c d : ℕ) → c < 256 → d < 256 → bit_or (c * 256 % 65536) d ≡ made c d
-shift_made c d h k =
-    let e : c * 256 % 65536 ≡ c * 256 = omega arith in
-    rw e (or_shifted c 8 d k)

@@ -7,7 +7,6 @@ use mathlib.Core.List.{List, [], ◌∷◌}
 use lib.Bits.{or_lt}
 use lib.Dec.{eqb, ltb}
 use lib.ListN.{get_or}
-use lib.Pow.{pow-lt}
 use borrow.Author.Tests.{ltb-true}
 use Rattle.branches.proofs.Branches.{and_left, and_right, by_cond}
 use Rattle.frame.specs.Frame.{made}
@@ -15,7 +14,7 @@ use Rattle.news.specs.declared.News.{News}
 use Rattle.news.specs.News.{news_byte}
 use Rattle.polls.specs.declared.Response.{Response}
 use Rattle.polls.specs.Polls.{answers, answer_bits, joined}
-use Rattle.polls.proofs.Bits.{joined_met}
+use Rattle.polls.proofs.Bits.{weight_small, joined_met}
 use Rattle.mailloop.specs.Sends.{frame_of, device_id, id_byte}
 
 pub news_small : (n : News) → news_byte n < 256
@@ -44,7 +43,7 @@ frame_small c = by_cond (λ (k : ℕ). made k (c % 256) < 1024) (eqb (c / 256 % 
 -- the bit of a line, and a byte joined with it
 pub bits_small : (p : Response) (requested : Bool) → p.line < 8 → answer_bits p requested < 256
 unfolding answer_bits
-bits_small p requested h = by_cond (λ (n : ℕ). n < 256) (answers p requested) (2 ^ p.line) 0 (λ _. pow-lt h) (λ _. omega arith)
+bits_small p requested h = by_cond (λ (n : ℕ). n < 256) (answers p requested) (2 ^ p.line) 0 (λ _. weight_small p.line h) (λ _. omega arith)
 
 pub joined_small : (p : Response) (requested : Bool) (d : ℕ) → p.line < 8 → d < 256 → joined p requested d < 256
 joined_small p requested d h k = subst (λ (n : ℕ). n < 256) (joined_met p requested d) (or_lt 8 d (answer_bits p requested) k (bits_small p requested h))

@@ -4,12 +4,16 @@ use native.Mathlib.Omega.{arith}
 use mathlib.Core.Path.{◌≡◌, ap, ◌∙◌}
 use mathlib.Core.Bool.{Bool, true, false, cond, ◌&&◌, not}
 use mathlib.Core.Logic.{⊎_elim}
-use lib.Pow.{pow-add}
+use lib.Pow.{pow-lt, pow-add}
 use lib.Bits.{bit_and, bit_or, and_high, or_add_and, or_zero_r}
 use borrow.Author.Tests.{eq-eqb, ne_eqb}
 use Rattle.branches.proofs.Branches.{split}
 use Rattle.polls.specs.declared.Response.{Response}
 use Rattle.polls.specs.Polls.{answers, answer_bits, has_bit, joined}
+
+-- a weight of eight bits
+pub weight_small : (n : ℕ) → n < 8 → 2 ^ n < 256
+weight_small n h = pow-lt h
 
 -- the bits of a byte that are the weight's
 weight_and : (d n : ℕ) → bit_and d (2 ^ n) ≡ (d / 2 ^ n % 2) * 2 ^ n

@@ -31,6 +31,7 @@ pub enum Decision {
 }
 
 // What a cell stands for: its low eight bits are the byte, bit 8 says that a break follows, and the bits above do not count.
+// Kept: it is a function and no From, since the pages of what is promised name it beside its definition.
 pub fn item_of(cell: u16) -> Item
     ensures { result ≡ item_of cell }
 {
