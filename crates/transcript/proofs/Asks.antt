@@ -71,7 +71,7 @@ next_taken_lem w h =
     let x = asked_next (byte_in (ask_answer w)) w (is_byte_lem (ask_answer w) h) in
     ap (step (on (take_line_byte (byte_in (ask_answer w))))) (ask_leaves w) ∙ take_fits (byte_in (ask_answer w)) w x.0 x.1
 
-take_done : (w : World) → is_byte (ask_answer w) ≡ true → take_answer w ≡ done
+pub take_done : (w : World) → is_byte (ask_answer w) ≡ true → take_answer w ≡ done
 unfolding not_refused outcome said
 take_done w h = ap (λ (d : Did). d.said) (next_taken_lem w h)
 

@@ -16,8 +16,9 @@ use Rattle.answers.specs.Refusals.{first_refusal}
 use Rattle.bridge.specs.Calls.{on, write, World, Did, of_reading_rule, held_line, checks, outcome, settled_by, not_refused, step}
 use Rattle.bridge.proofs.Checks.{ten_given}
 use Rattle.laws.proofs.Refusing.{by_refusal}
-use Rattle.transcript.specs.declared.Set.{Set}
-use Rattle.transcript.specs.Transcript.{set_registers}
+use Rattle.std.specs.Prelude.{Some}
+use Rattle.std.proofs.lemmas.Option.{none-some, same_Some}
+use Rattle.transcript.specs.Transcript.{Set, set_registers}
 use Rattle.transcript.specs.RegistersFirst.{NeverTen}
 
 abbrev Nothing : World → Type 0
@@ -40,15 +41,15 @@ module _ (n v : ℕ) (w : World) (none : Nothing w) where
   unfolding not_refused outcome said fault_of
   not_ten = by_refusal (λ (d : Did). fault_of d.said ≡ 10 → ⊥) (on (write n v)) w (λ _ e. omega arith) (λ _. not_held)
 
-set_never : (n : ℕ) (x : List ℕ) (i : ℕ) (w : World) → Nothing w → (set_registers n x i w).fault ≡ 10 → ⊥
+set_never : (n : ℕ) (x : List ℕ) (i : ℕ) (w : World) → Nothing w → (set_registers n x i w).refusal ≡ Some 10 → ⊥
 unfolding set_registers
-set_never zero x i w none = λ e. omega arith
+set_never zero x i w none = none-some 10
 set_never (suc n) x i w none =
     let k = get_or x i 0 in
     let v = get_or x (i + 1) 0 in
-    by_cond (λ (g : Set). g.fault ≡ 10 → ⊥) (eqb (fault_of (step (on (write k v)) w).said) 0) _ _
+    by_cond (λ (g : Set). g.refusal ≡ Some 10 → ⊥) (eqb (fault_of (step (on (write k v)) w).said) 0) _ _
     (λ _. set_never n x (i + 2) (step (on (write k v)) w).world (write_nothing k v w none))
-    (λ _. not_ten k v w none)
+    (λ _ e. not_ten k v w none (same_Some _ _ e))
 
 pub never_ten : NeverTen
 unfolding start_state

@@ -1,16 +1,19 @@
 -- One turn of each loop, on plain values: what is left to do from here is what was to be done. Assumes nothing.
-use Rattle.std.proofs.Common.{◌≡◌, ℕ, zero, suc, ◌+◌, ◌-◌, ◌*◌, ◌/◌, ◌≤◌, ◌<◌, List, [], ◌∷◌, ◌++◌, cond, false, length, get_or, take, drop, refl, sym, ap, ◌∙◌, arith, get_or-take, get_or-drop, drop-drop, length-take, length-drop, append_assoc, append-nil, eq-eqb, ne_eqb}
+use Rattle.std.proofs.Common.{◌≡◌, ℕ, zero, suc, rules, Result, Ok, Err, IsOk, IsErrAnd, Some, None, ap₂, ◌+◌, ◌-◌, ◌*◌, ◌/◌, ◌≤◌, ◌<◌, List, [], ◌∷◌, ◌++◌, cond, false, length, get_or, take, drop, refl, sym, ap, ◌∙◌, arith, get_or-take, get_or-drop, drop-drop, length-take, length-drop, append_assoc, append-nil, eq-eqb, ne_eqb}
 use Rattle.std.specs.Simd.{first_chunks}
 use lib.Dec.{eqb}
-use Rattle.answers.specs.declared.Answer.{Answer}
-use Rattle.answers.specs.declared.Answer.TheVariants.{Done, Nothing, Byte, Frame, Refused, Cell, Lines}
-use Rattle.answers.specs.Answers.{Said, said, byte, fault_of, is_byte, byte_in}
-use Rattle.bridge.specs.Calls.{on, write, line_byte, take_line_byte, loop_frame, World, step, ask_answer}
+use Rattle.answers.specs.declared.Refusal.{Refusal}
+use Rattle.answers.specs.declared.Refusal.TheVariants as refusal
+use Rattle.state.specs.declared.State.{State}
+use Rattle.answers.specs.Answers.{Said, done, byte, refused, number_of, fault_of, is_byte, byte_in}
+use Rattle.answers.proofs.Answers.{answer_faultless, refusal_numbered}
+use Rattle.state.specs.Outcome.{Outcome}
+use Rattle.bridge.specs.Calls.{on, write, line_byte, take_line_byte, loop_frame, World, world, Did, did, step, ask_answer}
 use Rattle.bridge.proofs.Asks.{ask_leaves}
-use Rattle.transcript.specs.declared.Set.{Set}
 use Rattle.transcript.specs.Text.{answer_text}
 use Rattle.transcript.specs.Input.{high}
-use Rattle.transcript.specs.Transcript.{set_registers, line_bytes_in, frames_text, frames_world, next_taken, line_out}
+use Rattle.transcript.specs.Transcript.{Set, Sets, set_registers, line_bytes_in, frames_text, frames_world, then_takes, next_taken, line_out}
+use Rattle.transcript.proofs.Asks.{take_done}
 
 -- ---- a part of the input, from i on
 
@@ -63,7 +66,7 @@ pub registers_turn : (x : List ℕ) (i n k : ℕ) (w : World) → k < n →
     set_registers (n - k) x (i + 2 * k) w ≡
     cond (eqb (fault_of (step (on (write (get_or x (i + 2 * k) 0) (get_or x (i + 2 * k + 1) 0))) w).said) 0)
     (set_registers (n - (k + 1)) x (i + 2 * k + 2) (step (on (write (get_or x (i + 2 * k) 0) (get_or x (i + 2 * k + 1) 0))) w).world)
-    (record { state = w.state; fault = fault_of (step (on (write (get_or x (i + 2 * k) 0) (get_or x (i + 2 * k + 1) 0))) w).said })
+    (record { state = w.state; refusal = Some (fault_of (step (on (write (get_or x (i + 2 * k) 0) (get_or x (i + 2 * k + 1) 0))) w).said) })
 unfolding set_registers
 registers_turn x i n k w h = ap (λ (m : ℕ). set_registers m x (i + 2 * k) w) (one_less n k h)
 
@@ -90,30 +93,57 @@ line_turn n k w h = ap (λ (m : ℕ). line_out m w) (one_less n k h)
 
 -- ---- what the loops keep
 
-pub set_again : (x : List ℕ) (i n k a b f : ℕ) (w w' : World) {total : Set} → k < n → a ≡ get_or x (i + (2 * k + 0)) 0 → b ≡ get_or x (i + (2 * k + 1)) 0 →
-    f ≡ fault_of (step (on (write a b)) w).said → w' ≡ (step (on (write a b)) w).world → f ≡ 0 →
-    set_registers (n - k) x (i + 2 * k) w ≡ total → set_registers (n - (k + 1)) x (i + 2 * (k + 1)) w' ≡ total
-set_again x i n k a b f w w' h p q g e z inv =
-    let first : a ≡ get_or x (i + 2 * k) 0 = p ∙ ap (λ (j : ℕ). get_or x j 0) (omega arith) in
-    let second : b ≡ get_or x (i + 2 * k + 1) 0 = q ∙ ap (λ (j : ℕ). get_or x j 0) (omega arith) in
-    let told : fault_of (step (on (write (get_or x (i + 2 * k) 0) (get_or x (i + 2 * k + 1) 0))) w).said ≡ 0 = cc in
-    let next : w' ≡ (step (on (write (get_or x (i + 2 * k) 0) (get_or x (i + 2 * k + 1) 0))) w).world = cc in
-    let place : i + 2 * (k + 1) ≡ i + 2 * k + 2 = omega arith in
-    rw (place, next) (sym (registers_turn x i n k w h ∙ rw (eq-eqb _ 0 told)) ∙ inv)
+-- every refusal has a number above 0
+some_number : (r : Refusal) → number_of r ≡ 0 → ⊥
+some_number refusal.Sizes e = omega (arith, e)
+some_number refusal.Misfit e = omega (arith, e)
+some_number refusal.LargeFrame e = omega (arith, e)
+some_number refusal.Busy e = omega (arith, e)
+some_number refusal.NotCarried e = omega (arith, e)
+some_number refusal.LargeValue e = omega (arith, e)
+some_number refusal.BitNotCarried e = omega (arith, e)
+some_number refusal.GoIsStop e = omega (arith, e)
+some_number refusal.Malformed e = omega (arith, e)
+some_number refusal.HeldLine e = omega (arith, e)
+some_number refusal.NotNext e = omega (arith, e)
+some_number refusal.LargeCommand e = omega (arith, e)
 
-pub set_stops : (x : List ℕ) (i n k a b f : ℕ) (w : World) {total : Set} → k < n → a ≡ get_or x (i + (2 * k + 0)) 0 → b ≡ get_or x (i + (2 * k + 1)) 0 →
-    f ≡ fault_of (step (on (write a b)) w).said → (f ≡ 0 → ⊥) →
-    set_registers (n - k) x (i + 2 * k) w ≡ total → ◌≡◌ {A = Set} (record { state = w.state; fault = f }) total
-set_stops x i n k a b f w h p q g z inv =
+-- a write that is done, and one that is refused
+pub set_again : (x : List ℕ) (i n k a b : ℕ) (w : World) (t : State) (rx' tx' : List ℕ) (o : Outcome) {total : Set} → k < n → a ≡ get_or x (i + (2 * k + 0)) 0 →
+    b ≡ get_or x (i + (2 * k + 1)) 0 → did t (Ok o) rx' tx' ≡ step (on (write a b)) w →
+    set_registers (n - k) x (i + 2 * k) w ≡ total → set_registers (n - (k + 1)) x (i + 2 * (k + 1)) (world o.state rx' tx') ≡ total
+set_again x i n k a b w t rx' tx' o h p q e inv =
     let first : a ≡ get_or x (i + 2 * k) 0 = p ∙ ap (λ (j : ℕ). get_or x j 0) (omega arith) in
     let second : b ≡ get_or x (i + 2 * k + 1) 0 = q ∙ ap (λ (j : ℕ). get_or x j 0) (omega arith) in
-    let told : fault_of (step (on (write (get_or x (i + 2 * k) 0) (get_or x (i + 2 * k + 1) 0))) w).said ≡ f = cc in
-    sym (registers_turn x i n k w h ∙ rw (told, ne_eqb f 0 z)) ∙ inv
+    let there : did t (Ok o) rx' tx' ≡ step (on (write (get_or x (i + 2 * k) 0) (get_or x (i + 2 * k + 1) 0))) w = cc in
+    let told : fault_of (step (on (write (get_or x (i + 2 * k) 0) (get_or x (i + 2 * k + 1) 0))) w).said ≡ 0 =
+    ap (λ (d : Did). fault_of d.said) (sym there) ∙ answer_faultless o.answer in
+    let next : world o.state rx' tx' ≡ (step (on (write (get_or x (i + 2 * k) 0) (get_or x (i + 2 * k + 1) 0))) w).world = ap (λ (d : Did). d.world) there in
+    let place : i + 2 * (k + 1) ≡ i + 2 * k + 2 = omega arith in
+    ap₂ (λ (j : ℕ) (v : World). set_registers (n - (k + 1)) x j v) place next ∙ sym (registers_turn x i n k w h ∙ rw (eq-eqb _ 0 told)) ∙ inv
+
+pub set_stops : (x : List ℕ) (i n k a b : ℕ) (w : World) (t : State) (rx' tx' : List ℕ) (r : Refusal) {total : Set} → k < n → a ≡ get_or x (i + (2 * k + 0)) 0 →
+    b ≡ get_or x (i + (2 * k + 1)) 0 → did t (Err r) rx' tx' ≡ step (on (write a b)) w →
+    set_registers (n - k) x (i + 2 * k) w ≡ total → total.refusal ≡ Some (number_of r)
+set_stops x i n k a b w t rx' tx' r {total} h p q e inv =
+    let first : a ≡ get_or x (i + 2 * k) 0 = p ∙ ap (λ (j : ℕ). get_or x j 0) (omega arith) in
+    let second : b ≡ get_or x (i + 2 * k + 1) 0 = q ∙ ap (λ (j : ℕ). get_or x j 0) (omega arith) in
+    let there : did t (Err r) rx' tx' ≡ step (on (write (get_or x (i + 2 * k) 0) (get_or x (i + 2 * k + 1) 0))) w = cc in
+    let told : fault_of (step (on (write (get_or x (i + 2 * k) 0) (get_or x (i + 2 * k + 1) 0))) w).said ≡ number_of r =
+    ap (λ (d : Did). fault_of d.said) (sym there) ∙ refusal_numbered r in
+    let ends : total ≡ record { state = w.state; refusal = Some (number_of r) } =
+    sym inv ∙ registers_turn x i n k w h ∙ rw (told, ne_eqb (number_of r) 0 (some_number r)) in
+    ap (λ (g : Set). g.refusal) ends
+
+-- the refusal goes out as it came
+pub refused_sets : (o : Result State Refusal) (r : Refusal) (total : Set) → IsErrAnd o (λ f. f ≡ r) → total.refusal ≡ Some (number_of r) → Sets o total
+refused_sets (Ok s) r total h i = absurd h
+refused_sets (Err f) r total h i = i ∙ ap (λ (g : Refusal). Some (number_of g)) (sym h)
 
 pub set_ends : (x : List ℕ) (i n k : ℕ) (w : World) {total : Set} → n ≤ k → set_registers (n - k) x (i + 2 * k) w ≡ total →
-    ◌≡◌ {A = Set} (record { state = w.state; fault = 0 }) total
+    total ≡ record { state = w.state; refusal = None }
 unfolding set_registers
-set_ends x i n k w h inv = ap (λ (m : ℕ). set_registers m x (i + 2 * k) w) (none_left n k h) ∙ inv
+set_ends x i n k w h inv = sym inv ∙ ap (λ (m : ℕ). set_registers m x (i + 2 * k) w) (sym (none_left n k h))
 
 pub line_in_again : (x : List ℕ) (i n k b : ℕ) (w w' : World) {total : World} → k < n → b ≡ get_or x (i + k) 0 → w' ≡ (step (on (line_byte b)) w).world →
     line_bytes_in (n - k) x (i + k) w ≡ total → line_bytes_in (n - (k + 1)) x (i + (k + 1)) w' ≡ total
@@ -146,28 +176,28 @@ text_ends x i n k w {out} h inv = sym (append-nil out) ∙ ap (λ (m : ℕ). out
 
 -- ---- the line bytes that go out
 
--- an answer that is no line byte
-pub not_byte : (a : Answer) → ((x : ℕ) → a ≡ Byte x → ⊥) → is_byte (said a) ≡ false
-unfolding is_byte said
-not_byte Done h = refl
-not_byte Nothing h = refl
-not_byte (Byte x) h = absurd (h x refl)
-not_byte (Frame f) h = refl
-not_byte (Refused n) h = refl
-not_byte (Cell n) h = refl
-not_byte (Lines n) h = refl
+-- a byte that was asked for is taken by its name, and that is not refused
+named : (w : World) (b : ℕ) → byte b ≡ ask_answer w → then_takes w ≡ step (on (take_line_byte b)) w
+unfolding byte_in
+named w b e = λ j. step (on (take_line_byte (byte_in (sym e j)))) (ask_leaves w j)
 
-pub line_stops : (n k : ℕ) (w : World) (a : Said) {out total : List ℕ} → k < n → a ≡ ask_answer w → is_byte a ≡ false → out ++ line_out (n - k) w ≡ total → out ≡ total
-line_stops n k w a {out} h e f inv =
-    let none : line_out (n - k) w ≡ [] = line_turn n k w h ∙ rw (← e, f) in
+pub taken : (w : World) (b : ℕ) (t : State) (rx' tx' : List ℕ) (o : Result Outcome Refusal) → byte b ≡ ask_answer w → did t o rx' tx' ≡ step (on (take_line_byte b)) w → IsOk o
+unfolding is_byte
+taken w b t rx' tx' (Ok o) e f = search rules
+taken w b t rx' tx' (Err r) e f =
+    let given : refused (number_of r) ≡ done = ap (λ (d : Did). d.said) (f ∙ sym (named w b e)) ∙ take_done w (ap is_byte (sym e)) in
+    cc
+
+pub line_stops : (n k : ℕ) (w : World) {out total : List ℕ} → k < n → is_byte (ask_answer w) ≡ false → out ++ line_out (n - k) w ≡ total → out ≡ total
+line_stops n k w {out} h f inv =
+    let none : line_out (n - k) w ≡ [] = line_turn n k w h ∙ rw f in
     sym (append-nil out) ∙ ap (λ (bs : List ℕ). out ++ bs) (sym none) ∙ inv
 
 pub line_goes : (n k b : ℕ) (w w' : World) (out : List ℕ) {out' total : List ℕ} → k < n → byte b ≡ ask_answer w → w' ≡ (step (on (take_line_byte b)) w).world →
     out' ≡ out ++ (b ∷ []) → out ++ line_out (n - k) w ≡ total → out' ++ line_out (n - (k + 1)) w' ≡ total
 unfolding is_byte byte_in
 line_goes n k b w w' out h e f o inv =
-    let next : next_taken w ≡ w' =
-    (λ j. (step (on (take_line_byte (byte_in (sym e j)))) (ask_leaves w j)).world) ∙ sym f in
+    let next : next_taken w ≡ w' = ap (λ (d : Did). d.world) (named w b e) ∙ sym f in
     let t : line_out (n - k) w ≡ b ∷ line_out (n - (k + 1)) w' = line_turn n k w h ∙ rw (← e) (ap (λ (v : World). b ∷ line_out (n - (k + 1)) v) next) in
     let s = append_assoc out (b ∷ []) (line_out (n - (k + 1)) w') in
     cc

@@ -13,10 +13,9 @@ use Rattle.laws.specs.Fitting.{Fits}
 use Rattle.laws.proofs.States.{start_fits}
 use Rattle.laws.proofs.Fitting.{keeps_fit, stores_stay}
 use Rattle.transcript.specs.declared.Sections.{Sections}
-use Rattle.transcript.specs.declared.Set.{Set}
 use Rattle.transcript.specs.Input.{high}
 use Rattle.answers.specs.Answers.{fault_of}
-use Rattle.transcript.specs.Transcript.{set_registers, line_bytes_in, frames_world, store}
+use Rattle.transcript.specs.Transcript.{Set, set_registers, line_bytes_in, frames_world, store}
 use Rattle.transcript.specs.UntilNone.{run_world, UntilNone}
 use Rattle.transcript.proofs.Asks.{asks_enough}
 

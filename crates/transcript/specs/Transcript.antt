@@ -1,21 +1,32 @@
 -- Proved examples, the program onepass: what it prints, by the calls of the bridge.
-use Rattle.std.specs.Prelude.{ℕ, zero, suc, ◌+◌, ◌*◌, cond, List, [], ◌∷◌, ◌++◌, length, get_or, replicate, eqb}
+use Rattle.std.specs.Prelude.{ℕ, zero, suc, ◌+◌, ◌*◌, ◌≡◌, cond, List, [], ◌∷◌, ◌++◌, length, get_or, replicate, eqb, Option, Some, None, Result, Ok, Err}
 use Rattle.std.specs.Option.{option_map_or}
-use Rattle.answers.specs.Answers.{Said, fault_of, is_byte, byte_in}
+use Rattle.answers.specs.declared.Refusal.{Refusal}
+use Rattle.answers.specs.Answers.{Said, number_of, fault_of, is_byte, byte_in}
+use Rattle.state.specs.declared.State.{State}
 use Rattle.state.specs.Sizes.{start_state}
 use Rattle.bridge.specs.Calls.{on, write, line_byte, ask_line_byte, take_line_byte, loop_frame, World, world, Did, step, ask_answer}
 use Rattle.transcript.specs.declared.Sections.{Sections}
-use Rattle.transcript.specs.declared.Set.{Set}
 use Rattle.transcript.specs.Input.{high, sections_of}
 use Rattle.transcript.specs.Text.{decimal, newline, first_line, line_word, refused_text, answer_text, bytes_text}
 
+-- the state that register pairs leave, and the number of the refusal that ends them, where one does
+pub record Set : Type 0 where
+  pub state : State
+  pub refusal : Option ℕ
+
+-- writing them answered so
+abbrev pub Sets : Result State Refusal → Set → Type 0
+Sets (Ok s) g = g ≡ record { state = s; refusal = None }
+Sets (Err r) g = g.refusal ≡ Some (number_of r)
+
 -- the program, registers: n pairs from place i are written, up to one that is refused
 unfoldable pub set_registers : ℕ → List ℕ → ℕ → World → Set
-set_registers zero x i w = record { state = w.state; fault = 0 }
+set_registers zero x i w = record { state = w.state; refusal = None }
 set_registers (suc n) x i w =
     cond (eqb (fault_of (step (on (write (get_or x i 0) (get_or x (i + 1) 0))) w).said) 0)
     (set_registers n x (i + 2) (step (on (write (get_or x i 0) (get_or x (i + 1) 0))) w).world)
-    (record { state = w.state; fault = fault_of (step (on (write (get_or x i 0) (get_or x (i + 1) 0))) w).said })
+    (record { state = w.state; refusal = Some (fault_of (step (on (write (get_or x i 0) (get_or x (i + 1) 0))) w).said) })
 
 -- the program, then: n line bytes from place i come in
 unfoldable pub line_bytes_in : ℕ → List ℕ → ℕ → World → World
@@ -66,7 +77,7 @@ rest_text x p w = frames_text p.frames x (6 + 2 * p.regs + p.bytes) (after_line_
 
 -- the program, registers: where one is refused its number is printed and nothing more
 unfoldable pub set_text : List ℕ → Sections → Set → List ℕ → List ℕ → List ℕ
-set_text x p g rx tx = cond (eqb g.fault 0) (rest_text x p (world g.state rx tx)) (refused_text g.fault)
+set_text x p g rx tx = option_map_or refused_text g.refusal (rest_text x p (world g.state rx tx))
 
 -- the registers set on these stores, from the state that create gives them with margin 8
 abbrev pub registers_set : List ℕ → Sections → List ℕ → List ℕ → Set

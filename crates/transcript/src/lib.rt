@@ -4,8 +4,9 @@
 ghost use Rattle.std.specs.Prelude.{◌≡◌, ◌+◌, ◌≤◌, ◌++◌, [], length};
 ghost use Rattle.bridge.specs.Calls.{world};
 ghost use Rattle.transcript.specs.Input.{Whole};
-ghost use Rattle.transcript.specs.Transcript.{line_text, rest_text, run_text, printed};
+ghost use Rattle.transcript.specs.Transcript.{Sets, registers_set, store, line_text, rest_text, run_text, printed};
 
+use answers::Refusal;
 use state::State;
 
 mod input;
@@ -20,13 +21,6 @@ pub struct Sections {
     pub regs: usize,
     pub bytes: usize,
     pub frames: usize,
-}
-
-// The state after the register pairs, or before the one that is refused, and the number of that refusal, 0 where there is none.
-#[derive(Clone, Copy)]
-pub struct Set {
-    pub state: State,
-    pub fault: u8,
 }
 
 // Writes the line of the line bytes.
@@ -55,21 +49,30 @@ fn put_rest(x: &[u8], p: Sections, s: State, rx: &mut [u16], tx: &mut [u8], page
     put_last(u, rx, tx, page);
 }
 
+// The state that create gives with margin 8 and the registers of the input leave, or the refusal of one.
+fn set_up(x: &[u8], p: Sections, rx: &[u16], tx: &[u8]) -> Result<State, Refusal>
+    requires whole { Whole x.now p }
+    requires stores { (length rx.now ≡ 64) × (length tx.now ≡ 64) }
+    ensures { Sets result (registers_set x.now p rx.now tx.now) }
+{
+    let made = bridge::create(rx, tx, 8)?;
+    passing::set_registers(made.state, rx, tx, x, 2, p.regs)
+}
+
 // Sets the registers, and goes on where none is refused.
-#[tactic(auto, using(laws::proofs::OneResult::create_state), unfolding(crate::specs::Transcript::run_text, crate::specs::Transcript::set_text))]
-fn put_run(x: &[u8], p: Sections, rx: &mut [u16], tx: &mut [u8], page: &mut Page)
+#[tactic(auto, unfolding(crate::specs::Transcript::run_text, crate::specs::Transcript::set_text))]
+fn put_run(x: &[u8], p: Sections, page: &mut Page)
     requires whole { Whole x.now p }
     requires empty { page.old.bytes ≡ [] }
-    ensures { page.new.bytes ≡ run_text x.now p rx.old tx.old }
+    ensures { page.new.bytes ≡ run_text x.now p store store }
 {
-    let s = bridge::create(rx, tx, 8).state;
+    let mut rx = [0u16; 64];
+    let mut tx = [0u8; 64];
     page.push_str("onepass 1\n");
-    let g = passing::set_registers(s, rx, tx, x, 2, p.regs);
-    if g.fault != 0 {
-        text::put_refused(page, g.fault);
-        return;
+    match set_up(x, p, &rx, &tx) {
+        Ok(s) => put_rest(x, p, s, &mut rx, &mut tx, page),
+        Err(refusal) => text::put_refused(page, refusal),
     }
-    put_rest(x, p, g.state, rx, tx, page);
 }
 
 // What the program prints for an input.
@@ -79,11 +82,9 @@ pub fn run(input: &[u8]) -> Page
 {
     let mut page = Page::new();
     let Some(p) = input::sections_of(input) else {
-        text::put_refused(&mut page, 9);
+        text::put_refused(&mut page, Refusal::Malformed);
         return page;
     };
-    let mut rx = [0u16; 64];
-    let mut tx = [0u8; 64];
-    put_run(input, p, &mut rx, &mut tx, &mut page);
+    put_run(input, p, &mut page);
     page
 }

@@ -1,10 +1,10 @@
 // What is written: numbers, refusals, frames and line bytes.
 ghost use Rattle.std.specs.Prelude.{◌≡◌, ◌+◌, ◌*◌, ◌≤◌, ◌<◌, ◌++◌, length};
 ghost use Rattle.frame.specs.Frame.{control_of, data_of};
-ghost use Rattle.answers.specs.Answers.{said};
+ghost use Rattle.answers.specs.Answers.{said, number_of};
 ghost use Rattle.transcript.specs.Text.{decimal, refused_text, frame_text, answer_text, bytes_text};
 
-use answers::Answer;
+use answers::{Answer, Refusal};
 use arrayvec::ArrayString;
 use itoa::Buffer;
 
@@ -24,13 +24,13 @@ pub fn put_number(page: &mut Page, n: u16)
 
 // Writes a refusal.
 #[tactic(auto, unfolding(crate::specs::Text::refused_text))]
-pub fn put_refused(page: &mut Page, n: u8)
+pub fn put_refused(page: &mut Page, r: Refusal)
     requires { length page.old.bytes + 12 ≤ 1200 }
-    ensures text { page.new.bytes ≡ page.old.bytes ++ refused_text n }
+    ensures text { page.new.bytes ≡ page.old.bytes ++ refused_text (number_of r) }
     ensures short { length page.new.bytes ≤ length page.old.bytes + 12 }
 {
     page.push_str("refused ");
-    put_number(page, u16::from(n));
+    put_number(page, u16::from(u8::from(r)));
     page.push_str("\n");
 }
 
@@ -69,7 +69,6 @@ pub fn put_answer(page: &mut Page, a: Answer)
 {
     match a {
         Answer::Frame(f) => put_frame(page, f),
-        Answer::Refused(n) => put_refused(page, n),
         Answer::Done | Answer::Nothing | Answer::Byte(_) | Answer::Cell(_) | Answer::Lines(_) => {}
     }
 }

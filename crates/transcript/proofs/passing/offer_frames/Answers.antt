@@ -1,5 +1,4 @@
-use Rattle.std.proofs.Common.{arith, ap, ◌≡◌, ◌+◌, ◌*◌, ◌<◌, ◌∙◌}
-use Rattle.bridge.specs.Calls.{Did}
+use Rattle.std.proofs.Common.{arith, refl, ◌≡◌, ◌+◌, ◌*◌, ◌<◌, ◌∙◌}
 use Rattle.transcript.specs.Input.{high}
 use Rattle.transcript.proofs.Turns.{part_length, high_pair, frames_again, frames_end, text_again, text_ends}
 use Rattle.transcript.proofs.passing.offer_frames.Goals as goal
@@ -10,12 +9,12 @@ loop-frame-preserved c =
     let more : c.loop-frame.frame-index < c.args.n = omega (arith, part_length c.args.x.now c.args.i (2 * c.args.n) all) in
     let frame : c.from.result ≡ high c.args.x.now (c.args.i + 2 * c.loop-frame.frame-index) =
     high_pair _ _ _ _ all more c.as_chunks.ensures.front (c.from.ensures ∙ c.from_be_bytes.ensures) in
-    let world = ap (λ (d : Did). d.world) c.loop_frame.ensures in
+    let done = c.offer-t.ensures in
+    let so_far = c.loop-frame.invariant in
     record {
-      reached = frames_again _ _ _ _ _ _ _ more frame world c.loop-frame.invariant.reached;
-      text =
-          text_again _ _ _ _ _ _ _ _ _ more frame (ap (λ (d : Did). d.said) c.loop_frame.ensures) world c.put_answer.ensures.text c.loop-frame.invariant.text;
-      short = omega (arith, c.put_answer.ensures.short, c.loop-frame.invariant.short);
+      reached = frames_again _ _ _ _ _ _ _ more frame done.world so_far.reached;
+      text = text_again _ _ _ _ _ _ _ _ _ more frame refl done.world done.text so_far.text;
+      short = omega (arith, done.short, so_far.short);
     }
 
 pub returns-clause-world : goal.returns-clause-world

@@ -1,0 +1,19 @@
+use Rattle.std.proofs.Common.{◌≡◌, ◌∙◌, ap, subst}
+use Rattle.answers.specs.Answers.{refused, number_of, done}
+use Rattle.state.specs.declared.State.{State}
+use Rattle.bridge.specs.Calls.{world, Did}
+use Rattle.laws.proofs.OneResult.{create_state}
+use Rattle.transcript.specs.Transcript.{Sets, set_registers}
+use Rattle.transcript.proofs.Start.{made}
+use Rattle.transcript.proofs.set_up.Goals as goal
+
+pub returns-in_err-made : goal.returns-in_err-made
+returns-in_err-made c =
+    let given : refused (number_of c.in_err-made.field-0.0) ≡ done =
+    ap (λ (d : Did). d.said) c.in_err-made.ensures ∙ made _ _ c.requires.stores.0 c.requires.stores.1 in
+    cc
+
+pub returns : goal.returns
+returns c =
+    subst (λ (s : State). Sets c.set_registers.result (set_registers c.args.p.regs c.args.x.now 2 (world s c.args.rx.now c.args.tx.now)))
+    (create_state 8 _ _ _ c.in_ok-made.ensures) c.set_registers.ensures
