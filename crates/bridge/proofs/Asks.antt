@@ -5,8 +5,9 @@ use mathlib.Core.Bool.{Bool, true, false, cond, not, false≢true}
 use lib.Dec.{eqb}
 use lib.ListN.{length}
 use borrow.Author.Tests.{eq-eqb, eqb-true}
-use Rattle.state.specs.declared.Out.{Out}
-use Rattle.state.specs.declared.Out.TheVariants.{Own, Held, Nothing}
+use Rattle.std.specs.Prelude.{Option, Some, None}
+use Rattle.state.specs.declared.Next.{Next}
+use Rattle.state.specs.declared.Next.TheVariants.{Own, Held}
 use Rattle.answers.specs.Answers.{said, byte, refused, is_byte, byte_in}
 use Rattle.state.specs.Sizes.{fits}
 use Rattle.line.specs.HoldingOff.{is_next, out_answer}
@@ -48,17 +49,17 @@ take_fits b w F n = take_is b w ∙ rw (F, n)
 
 -- ---- the byte named is the one that is answered
 
-pub named : (o : Out) (b : ℕ) → is_next o b ≡ true → said (out_answer o) ≡ byte b
+pub named : (o : Option Next) (b : ℕ) → is_next o b ≡ true → said (out_answer o) ≡ byte b
 unfolding is_next out_answer said
-named (Own x) b e = ap byte (eqb-true x b e)
-named (Held x) b e = ap byte (eqb-true x b e)
-named Nothing b e = absurd (false≢true e)
+named (Some (Own x)) b e = ap byte (eqb-true x b e)
+named (Some (Held x)) b e = ap byte (eqb-true x b e)
+named None b e = absurd (false≢true e)
 
-pub not_named : (o : Out) (b : ℕ) → is_next o b ≡ false → said (out_answer o) ≡ byte b → ⊥
+pub not_named : (o : Option Next) (b : ℕ) → is_next o b ≡ false → said (out_answer o) ≡ byte b → ⊥
 unfolding is_next out_answer said is_byte byte_in
-not_named (Own x) b e q = false≢true (sym e ∙ eq-eqb x b (ap byte_in q))
-not_named (Held x) b e q = false≢true (sym e ∙ eq-eqb x b (ap byte_in q))
-not_named Nothing b e q = false≢true (ap is_byte q)
+not_named (Some (Own x)) b e q = false≢true (sym e ∙ eq-eqb x b (ap byte_in q))
+not_named (Some (Held x)) b e q = false≢true (sym e ∙ eq-eqb x b (ap byte_in q))
+not_named None b e q = false≢true (ap is_byte q)
 
 -- ---- what an ask leaves, and what it finds
 

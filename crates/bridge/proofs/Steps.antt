@@ -12,7 +12,8 @@ use Rattle.store.specs.Ring.{room, run}
 use Rattle.state.specs.declared.State.{State}
 use Rattle.state.specs.Outcome.{Outcome}
 use Rattle.answers.specs.declared.Answer.{Answer}
-use Rattle.state.specs.declared.Out.{Out}
+use Rattle.std.specs.Prelude.{Option}
+use Rattle.state.specs.declared.Next.{Next}
 use Rattle.answers.specs.declared.Refusal.{Refusal}
 use Rattle.answers.specs.declared.Refusal.TheVariants as refusal
 use Rattle.answers.specs.Answers.{said, said_by, refused, number_of}
@@ -150,18 +151,18 @@ module _ (s : State) (rx tx : List ℕ) (e : fits s (length rx) (length tx) ≡ 
   line_done b t k rx' p o r = fit_met (line_byte b) (told s (Ok t) rx' tx) refl (rw (o, r, p.room, p.state, p.bytes))
 
   -- the next line byte is asked for
-  pub ask_done : (x : Out) (a : Answer) → x ≡ next_out s tx → a ≡ out_answer x → looked (said a) (world s rx tx) ≡ step (on ask_line_byte) (world s rx tx)
+  pub ask_done : (x : Option Next) (a : Answer) → x ≡ next_out s tx → a ≡ out_answer x → looked (said a) (world s rx tx) ≡ step (on ask_line_byte) (world s rx tx)
   unfolding checks_on not_refused outcome settled_by rx_after tx_after room_of
   ask_done x a p q = fit_met ask_line_byte (looked (said a) (world s rx tx)) refl (rw (q, p, settled_same s))
 
   -- a line byte is named that is not next
-  pub take_refused : (b : ℕ) (x : Out) (t : Bool) → x ≡ next_out s tx → t ≡ is_next x b → not t ≡ true →
+  pub take_refused : (b : ℕ) (x : Option Next) (t : Bool) → x ≡ next_out s tx → t ≡ is_next x b → not t ≡ true →
       looked (refused 12) (world s rx tx) ≡ step (on (take_line_byte b)) (world s rx tx)
   unfolding checks_on
   take_refused b x t p q r = later_met (take_line_byte b) refusal.NotNext (sym (rw (← p, ← q, r)))
 
   -- one that is
-  pub take_done : (b : ℕ) (o : Outcome) (x : Out) (t : Bool) (u : State) → x ≡ next_out s tx → t ≡ is_next x b → not t ≡ false → u ≡ gone s x →
+  pub take_done : (b : ℕ) (o : Outcome) (x : Option Next) (t : Bool) (u : State) → x ≡ next_out s tx → t ≡ is_next x b → not t ≡ false → u ≡ gone s x →
       o ≡ settled_outcome s (done_with u) → did s (Ok o) rx tx ≡ step (on (take_line_byte b)) (world s rx tx)
   unfolding checks_on outcome settled_by rx_after tx_after room_of
   take_done b o x t u p q r v z =

@@ -6,7 +6,8 @@ use Rattle.store.specs.declared.Ring.{Ring}
 use Rattle.store.specs.Ring.{room, run}
 use Rattle.state.specs.declared.State.{State}
 use Rattle.state.specs.Outcome.{Outcome}
-use Rattle.state.specs.declared.Out.{Out}
+use Rattle.std.specs.Prelude.{Option}
+use Rattle.state.specs.declared.Next.{Next}
 use Rattle.bridge.specs.declared.Told.{Told}
 use Rattle.answers.specs.declared.Answer.TheVariants as answer
 use Rattle.answers.specs.declared.Refusal.{Refusal}
@@ -151,7 +152,7 @@ unfoldable pub held_line : State → ℕ → Bool
 held_line s n = ltb 0 s.rx.len && of_reading_rule n
 
 -- what goes out next on the line
-abbrev pub next_of : World → Out
+abbrev pub next_of : World → Option Next
 next_of w = next_out w.state w.tx
 
 -- the table after that, in the order of its numbers: a register write has 5 to 8, which look at the registers alone, and 10, which looks at

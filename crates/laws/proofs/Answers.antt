@@ -8,8 +8,9 @@ use Rattle.machine.specs.Machine.{Obeys}
 use Rattle.std.specs.Prelude.{Option, Some, None}
 use Rattle.state.specs.declared.State.{State}
 use Rattle.state.specs.Outcome.{Outcome}
-use Rattle.state.specs.declared.Out.{Out}
-use Rattle.state.specs.declared.Out.TheVariants as out
+use Rattle.std.specs.Prelude.{Option, Some, None}
+use Rattle.state.specs.declared.Next.{Next}
+use Rattle.state.specs.declared.Next.TheVariants as out
 use Rattle.answers.specs.Answers.{Said, frame, refused, said, is_refusal, byte_or_refused, frame_or_refused}
 use Rattle.line.specs.HoldingOff.{next_out, out_answer}
 use Rattle.loopside.specs.Sends.{ended, send_state, send_from, send_status}
@@ -68,17 +69,17 @@ frame_not_refused s rx f = (frame_framed s rx f).taken
 
 -- ---- every call that is accepted
 
-out_said : (o : Out) → byte_or_refused (said (out_answer o)) ≡ true
+out_said : (o : Option Next) → byte_or_refused (said (out_answer o)) ≡ true
 unfolding out_answer said
-out_said (out.Own b) = refl
-out_said (out.Held b) = refl
-out_said out.Nothing = refl
+out_said (Some (out.Own b)) = refl
+out_said (Some (out.Held b)) = refl
+out_said None = refl
 
-out_taken : (o : Out) → is_refusal (said (out_answer o)) ≡ false
+out_taken : (o : Option Next) → is_refusal (said (out_answer o)) ≡ false
 unfolding out_answer said
-out_taken (out.Own b) = refl
-out_taken (out.Held b) = refl
-out_taken out.Nothing = refl
+out_taken (Some (out.Own b)) = refl
+out_taken (Some (out.Held b)) = refl
+out_taken None = refl
 
 -- what a call answers when it is not refused is no refusal
 pub record Accepted (c : Call) (x : Said) : Type 0 where

@@ -19,8 +19,9 @@ use Rattle.store.specs.Ring.{held, full, empty_ring, put_bytes, puts_ring, puts_
 use Rattle.store.specs.Ring as store-ring
 use Rattle.store.proofs.Laws.{held_length, put_full}
 use Rattle.state.specs.declared.State.{State}
-use Rattle.state.specs.declared.Out.{Out}
-use Rattle.state.specs.declared.Out.TheVariants as out
+use Rattle.std.specs.Prelude.{Option, Some, None}
+use Rattle.state.specs.declared.Next.{Next}
+use Rattle.state.specs.declared.Next.TheVariants as out
 use Rattle.state.specs.Sizes.{start_state, RxFits, TxFits}
 use Rattle.state.specs.Conditions.{settled, break_state, key_state}
 use Rattle.state.proofs.Fits.{tests, rx_fits, tx_fits}
@@ -107,17 +108,17 @@ module _ (w : World) (e : Fits w) where
 
   -- ---- a byte to the line
 
-  gone_rx : (o : Out) → (gone w.state o).rx ≡ w.state.rx
+  gone_rx : (o : Option Next) → (gone w.state o).rx ≡ w.state.rx
   unfolding gone
-  gone_rx (out.Own b) = refl
-  gone_rx (out.Held b) = refl
-  gone_rx out.Nothing = refl
+  gone_rx (Some (out.Own b)) = refl
+  gone_rx (Some (out.Held b)) = refl
+  gone_rx None = refl
 
-  gone_tx : (o : Out) → o ≡ next_out w.state w.tx → next_place (length w.tx) (gone w.state o).tx ≡ next_place (length w.tx) w.state.tx
+  gone_tx : (o : Option Next) → o ≡ next_out w.state w.tx → next_place (length w.tx) (gone w.state o).tx ≡ next_place (length w.tx) w.state.tx
   unfolding gone
-  gone_tx (out.Own b) h = refl
-  gone_tx (out.Held b) h = places_go_on.removed w.tx w.state.tx 1 g.ring (gone_some w.state w.tx b h)
-  gone_tx out.Nothing h = refl
+  gone_tx (Some (out.Own b)) h = refl
+  gone_tx (Some (out.Held b)) h = places_go_on.removed w.tx w.state.tx 1 g.ring (gone_some w.state w.tx b h)
+  gone_tx None h = refl
 
   -- ---- a frame
 
@@ -214,7 +215,7 @@ done_places (on key) w h = none w (quiet w _ refl refl)
 done_places (on ask_line_byte) w h = none w (quiet w _ refl refl)
 done_places (on (take_line_byte b)) w h =
     let e : Fits w = (fitting (take_line_byte b) w h).0 in
-    let o : Out = next_out w.state w.tx in
+    let o : Option Next = next_out w.state w.tx in
     none w
     (record {
       rx = placed_same marked_cell w.rx w.state.rx _ (gone_rx w e o);

@@ -22,8 +22,9 @@ use Rattle.sending.specs.Sending.{given_of, send_held, sent_ring}
 use Rattle.talker.specs.UnderWay.{talking}
 use Rattle.state.specs.declared.State.{State}
 use Rattle.state.specs.Outcome.{Outcome}
-use Rattle.state.specs.declared.Out.{Out}
-use Rattle.state.specs.declared.Out.TheVariants as out
+use Rattle.std.specs.Prelude.{Option, Some, None}
+use Rattle.state.specs.declared.Next.{Next}
+use Rattle.state.specs.declared.Next.TheVariants as out
 use Rattle.answers.specs.Answers.{done}
 use Rattle.state.specs.State.{with_registers, with_talker, with_rx, with_tx}
 use Rattle.state.specs.Sizes.{sizes_obeyed, fits}
@@ -148,13 +149,13 @@ module _ (rx tx : List ℕ) where
         changed : G (with_registers s (written s.regs n v))
         changed = good _ (with_registers_lem s (length rx) (length tx) t (written s.regs n v) (fit_written s.regs n v t.regs h))
 
-    gone_good : (o : Out) → o ≡ next_out s tx → G (gone s o)
+    gone_good : (o : Option Next) → o ≡ next_out s tx → G (gone s o)
     unfolding gone
-    gone_good (out.Own x) h = unfold fits in e
-    gone_good (out.Held x) h =
+    gone_good (Some (out.Own x)) h = unfold fits in e
+    gone_good (Some (out.Held x)) h =
         fits_with_tx (store-ring.drop_ring s.tx 1)
         (store-laws.drop_fit tx s.tx 1 (tx_fits s rx tx e).ring (gone_some s tx x h))
-    gone_good out.Nothing h = e
+    gone_good None h = e
 
     left_good : (f : ℕ) → G (added_state s f)
     unfolding added_state

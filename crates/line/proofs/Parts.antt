@@ -11,13 +11,13 @@ use Rattle.std.specs.Prelude.{Some, None}
 use Rattle.store.specs.Ring.{Within, held, room}
 use Rattle.store.specs.Promises.{Put, Dropped}
 use Rattle.state.specs.declared.State.{State}
-use Rattle.state.specs.declared.Out.{Out}
-use Rattle.state.specs.declared.Out.TheVariants.{Own, Held, Nothing}
-use Rattle.answers.specs.declared.Answer.TheVariants as answer
+use Rattle.std.specs.Prelude.{Option, Some, None}
+use Rattle.state.specs.declared.Next.{Next}
+use Rattle.state.specs.declared.Next.TheVariants.{Own, Held}
 use Rattle.state.specs.State.{with_registers, with_line, with_rx, with_tx, with_notes, with_counts}
 use Rattle.state.specs.Counts.{counted}
 use Rattle.line.specs.HoldingOff.{is_go_or_stop, flowed, stored_with, lost_state, line_state, line_bytes, Taken, resumed, set_afresh, after_write}
-use Rattle.line.specs.HoldingOff.{owed, next_out, is_next, gone, out_answer}
+use Rattle.line.specs.HoldingOff.{owed, next_out, gone}
 
 -- ---- a line byte
 
@@ -75,19 +75,19 @@ module _ (s : State) (n : ℕ) (g : Registers) where
 -- ---- a line byte out
 
 module _ (s : State) (tx : List ℕ) where
-  pub next_stop : owed s.line ≡ true → s.line.holding ≡ true → Own s.regs.c05 ≡ next_out s tx
+  pub next_stop : owed s.line ≡ true → s.line.holding ≡ true → Some (Own s.regs.c05) ≡ next_out s tx
   unfolding next_out
   next_stop e h = rw (e, h)
 
-  pub next_go : owed s.line ≡ true → s.line.holding ≡ false → Own s.regs.c04 ≡ next_out s tx
+  pub next_go : owed s.line ≡ true → s.line.holding ≡ false → Some (Own s.regs.c04) ≡ next_out s tx
   unfolding next_out
   next_go e h = rw (e, h)
 
-  pub next_none : owed s.line ≡ false → (s.line.forbidden || eqb s.tx.len 0) ≡ true → Nothing ≡ next_out s tx
+  pub next_none : owed s.line ≡ false → (s.line.forbidden || eqb s.tx.len 0) ≡ true → None ≡ next_out s tx
   unfolding next_out
   next_none e h = rw (e, h)
 
-  pub next_held : (b : ℕ) → owed s.line ≡ false → (s.line.forbidden || eqb s.tx.len 0) ≡ false → b ≡ get_or (held tx s.tx) 0 0 → Held b ≡ next_out s tx
+  pub next_held : (b : ℕ) → owed s.line ≡ false → (s.line.forbidden || eqb s.tx.len 0) ≡ false → b ≡ get_or (held tx s.tx) 0 0 → Some (Held b) ≡ next_out s tx
   unfolding next_out
   next_held b e h q = rw (e, h, q)
 
@@ -100,31 +100,22 @@ module _ (s : State) (tx : List ℕ) where
       go false true e h = absurd (false≢true (sym h))
       go false false e h = omega (arith, eqb-false s.tx.len 0 e)
 
-  pub gone_some : (b : ℕ) → Held b ≡ next_out s tx → 1 ≤ s.tx.len
+  pub gone_some : (b : ℕ) → Some (Held b) ≡ next_out s tx → 1 ≤ s.tx.len
   unfolding next_out
   gone_some b e = go (owed s.line) (s.line.forbidden || eqb s.tx.len 0) refl e
     where
       go : (w t : Bool) → (s.line.forbidden || eqb s.tx.len 0) ≡ t →
-          Held b ≡ cond w (Own (cond s.line.holding (stop s.regs) s.regs.c04)) (cond t Nothing (Held (get_or (held tx s.tx) 0 0))) → 1 ≤ s.tx.len
+          Some (Held b) ≡ cond w (Some (Own (cond s.line.holding (stop s.regs) s.regs.c04))) (cond t None (Some (Held (get_or (held tx s.tx) 0 0)))) → 1 ≤ s.tx.len
       go true t h e = let z : ◌≡◌ {A = ℕ} 0 1 = cc in absurd (omega arith)
       go false true h e = let z : ◌≡◌ {A = ℕ} 0 1 = cc in absurd (omega arith)
       go false false h e = some_held h
 
 -- ---- a line byte that is gone
 
-module _ (s : State) (o : Out) where
-  pub gone_own : (b : ℕ) → o ≡ Own b →
-      with_line s (record { holding = s.line.holding; forbidden = s.line.forbidden; stopped = s.line.holding }) ≡ gone s o
-  unfolding gone
-  gone_own b e = rw e
-
-  pub gone_held : (b : ℕ) (r : Ring) → o ≡ Held b → Dropped s.tx 1 r → with_tx s r ≡ gone s o
+module _ (s : State) (o : Option Next) where
+  pub gone_held : (b : ℕ) (r : Ring) → o ≡ Some (Held b) → Dropped s.tx 1 r → with_tx s r ≡ gone s o
   unfolding gone
   gone_held b r e d = rw e (ap (with_tx s) d.ring)
-
-  pub gone_none : o ≡ Nothing → s ≡ gone s o
-  unfolding gone
-  gone_none e = rw e
 
 -- ---- the smaller parts
 
@@ -151,28 +142,3 @@ pub lost_met : (s : State) (n : ℕ) → n ≡ counted s.counts.lost →
     })) (record { stored = s.counts.stored; lost = n; sent = s.counts.sent }) ≡ lost_state s
 unfolding lost_state
 lost_met s n a = rw a
-
-module _ (o : Out) where
-  pub own_met : (b : ℕ) → o ≡ Own b → answer.Byte b ≡ out_answer o
-  unfolding out_answer
-  own_met b e = rw e
-
-  pub held_met : (b : ℕ) → o ≡ Held b → answer.Byte b ≡ out_answer o
-  unfolding out_answer
-  held_met b e = rw e
-
-  pub none_met : o ≡ Nothing → answer.Nothing ≡ out_answer o
-  unfolding out_answer
-  none_met e = rw e
-
-  pub own_named : (x b : ℕ) → o ≡ Own x → eqb x b ≡ is_next o b
-  unfolding is_next
-  own_named x b e = rw e
-
-  pub held_named : (x b : ℕ) → o ≡ Held x → eqb x b ≡ is_next o b
-  unfolding is_next
-  held_named x b e = rw e
-
-  pub none_named : (b : ℕ) → o ≡ Nothing → false ≡ is_next o b
-  unfolding is_next
-  none_named b e = rw e

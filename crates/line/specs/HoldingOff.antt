@@ -6,8 +6,9 @@ use Rattle.store.specs.declared.Ring.{Ring}
 use Rattle.store.specs.Ring.{Within, held, full, room, put_ring, put_bytes, drop_ring}
 use Rattle.state.specs.declared.State.{State}
 use Rattle.state.specs.declared.Line.{Line}
-use Rattle.state.specs.declared.Out.{Out}
-use Rattle.state.specs.declared.Out.TheVariants.{Own, Held, Nothing}
+use Rattle.std.specs.Prelude.{Option, Some, None}
+use Rattle.state.specs.declared.Next.{Next}
+use Rattle.state.specs.declared.Next.TheVariants.{Own, Held}
 use Rattle.answers.specs.declared.Answer.{Answer}
 use Rattle.answers.specs.declared.Answer.TheVariants as answer
 use Rattle.line.specs.declared.Took.{Took}
@@ -77,26 +78,26 @@ abbrev pub owed : Line → Bool
 owed l = (l.holding && not l.stopped) || (l.stopped && not l.holding)
 
 -- Holding the line off, last: a character that is owed goes before all else; then what is held, unless the other end forbids it
-unfoldable pub next_out : State → List ℕ → Out
+unfoldable pub next_out : State → List ℕ → Option Next
 next_out s tx =
-    cond (owed s.line) (Own (cond s.line.holding (stop s.regs) (go s.regs)))
-    (cond (s.line.forbidden || s.tx.len == 0) Nothing
-    (Held (slice_index (held tx s.tx) 0)))
+    cond (owed s.line) (Some (Own (cond s.line.holding (stop s.regs) (go s.regs))))
+    (cond (s.line.forbidden || s.tx.len == 0) None
+    (Some (Held (slice_index (held tx s.tx) 0))))
 
 -- Ask, then take: the byte named is the one that is next
-unfoldable pub is_next : Out → ℕ → Bool
-is_next (Own x) b = x == b
-is_next (Held x) b = x == b
-is_next Nothing b = false
+unfoldable pub is_next : Option Next → ℕ → Bool
+is_next (Some (Own x)) b = x == b
+is_next (Some (Held x)) b = x == b
+is_next None b = false
 
 -- the state when that byte is gone
-unfoldable pub gone : State → Out → State
-gone s (Own b) = with_line s (record { holding = s.line.holding; forbidden = s.line.forbidden; stopped = s.line.holding })
-gone s (Held b) = with_tx s (drop_ring s.tx 1)
-gone s Nothing = s
+unfoldable pub gone : State → Option Next → State
+gone s (Some (Own b)) = with_line s (record { holding = s.line.holding; forbidden = s.line.forbidden; stopped = s.line.holding })
+gone s (Some (Held b)) = with_tx s (drop_ring s.tx 1)
+gone s None = s
 
 -- the answer for that byte
-unfoldable pub out_answer : Out → Answer
-out_answer (Own b) = answer.Byte b
-out_answer (Held b) = answer.Byte b
-out_answer Nothing = answer.Nothing
+unfoldable pub out_answer : Option Next → Answer
+out_answer (Some (Own b)) = answer.Byte b
+out_answer (Some (Held b)) = answer.Byte b
+out_answer None = answer.Nothing

@@ -9,7 +9,7 @@ ghost use Rattle.line.specs.Breaks.{Marked};
 
 use answers::Answer;
 use registers::Registers;
-use state::{Out, State};
+use state::{Next, State};
 use store::Ring;
 
 // The state after a line byte, and the room that is left in the receive store.
@@ -129,8 +129,8 @@ pub fn after_write(s: State, n: u32, g: Registers) -> State
     t
 }
 
-// Which line byte is next; nothing changes.
-pub fn next_out(s: State, tx: &[u8]) -> Out
+// Which line byte is next, if any; nothing changes.
+pub fn next_out(s: State, tx: &[u8]) -> Option<Next>
     requires { TxFits s tx.now }
     ensures { result ≡ next_out s tx.now }
 {
@@ -138,55 +138,58 @@ pub fn next_out(s: State, tx: &[u8]) -> Out
     let stopped = s.line.stopped;
     if (holding & !stopped) | (stopped & !holding) {
         if holding {
-            return Out::Own(s.regs.c05);
+            return Some(Next::Own(s.regs.c05));
         } else {
-            return Out::Own(s.regs.c04);
+            return Some(Next::Own(s.regs.c04));
         }
     }
     if s.line.forbidden | (s.tx.len == 0) {
-        return Out::Nothing;
+        return None;
     }
-    Out::Held(store::look(tx, s.tx, 0))
+    Some(Next::Held(store::look(tx, s.tx, 0)))
 }
 
 // The answer for that byte.
-pub fn out_answer(o: Out) -> Answer
+#[tactic(auto, unfolding(crate::specs::HoldingOff::out_answer))]
+pub fn out_answer(o: Option<Next>) -> Answer
     ensures { result ≡ out_answer o }
 {
     match o {
-        Out::Own(b) => Answer::Byte(b),
-        Out::Held(b) => Answer::Byte(b),
-        Out::Nothing => Answer::Nothing,
+        Some(Next::Own(b)) => Answer::Byte(b),
+        Some(Next::Held(b)) => Answer::Byte(b),
+        None => Answer::Nothing,
     }
 }
 
 // Whether this byte is the next one.
-pub fn is_next(o: Out, b: u8) -> bool
+#[tactic(auto, unfolding(crate::specs::HoldingOff::is_next))]
+pub fn is_next(o: Option<Next>, b: u8) -> bool
     ensures { result ≡ is_next o b }
 {
     match o {
-        Out::Own(x) => x == b,
-        Out::Held(x) => x == b,
-        Out::Nothing => false,
+        Some(Next::Own(x)) => x == b,
+        Some(Next::Held(x)) => x == b,
+        None => false,
     }
 }
 
 // The state when that byte is gone.
-pub fn gone(s: State, tx: &[u8], o: Out) -> State
+#[tactic(auto, unfolding(crate::specs::HoldingOff::gone), using(crate::proofs::Parts::gone_some, crate::proofs::Parts::gone_held))]
+pub fn gone(s: State, tx: &[u8], o: Option<Next>) -> State
     requires tx_fits { TxFits s tx.now }
     requires o_value { o ≡ next_out s tx.now }
     ensures { result ≡ gone s o }
 {
     let mut t = s;
     match o {
-        Out::Own(b) => {
+        Some(Next::Own(b)) => {
             t.line.stopped = s.line.holding;
         }
-        Out::Held(b) => {
+        Some(Next::Held(b)) => {
             let left = store::drop_oldest(s.tx, 1);
             t.tx = left;
         }
-        Out::Nothing => {}
+        None => {}
     }
     t
 }

@@ -17,8 +17,9 @@ use Rattle.sending.specs.Sending.{given_of, send_held}
 use Rattle.store.specs.Ring.{full, put_bytes, puts_bytes}
 use Rattle.state.specs.declared.State.{State}
 use Rattle.state.specs.Outcome.{Outcome}
-use Rattle.state.specs.declared.Out.{Out}
-use Rattle.state.specs.declared.Out.TheVariants as out
+use Rattle.std.specs.Prelude.{Option, Some, None}
+use Rattle.state.specs.declared.Next.{Next}
+use Rattle.state.specs.declared.Next.TheVariants as out
 use Rattle.state.specs.Counts.{counted}
 use Rattle.state.specs.Sizes.{sizes_obeyed, start_state, fits}
 use Rattle.state.specs.Conditions.{settled, after_status_back, after_status, break_state, key_state}
@@ -73,11 +74,11 @@ line_counts s b k =
     (λ e. record { stored = k.stored; lost = counted_ranged s.counts.lost; sent = k.sent })
     (λ e. record { stored = counted_ranged s.counts.stored; lost = k.lost; sent = k.sent }))
 
-gone_counts : (s : State) (o : Out) → Counted s → Counted (gone s o)
+gone_counts : (s : State) (o : Option Next) → Counted s → Counted (gone s o)
 unfolding gone
-gone_counts s (out.Own b) k = k
-gone_counts s (out.Held b) k = k
-gone_counts s out.Nothing k = k
+gone_counts s (Some (out.Own b)) k = k
+gone_counts s (Some (out.Held b)) k = k
+gone_counts s None k = k
 
 removed_counts : (s : State) (rx : List ℕ) → Counted s → Counted (removed_state s rx)
 unfolding removed_state resumed

@@ -11,8 +11,9 @@ use Rattle.registers.specs.Meanings.{go, stop}
 use Rattle.store.specs.declared.Ring.{Ring}
 use Rattle.store.specs.Ring.{Within, held, wrap, drop_ring}
 use Rattle.store.proofs.Laws.{wrap_low, wrap_high}
-use Rattle.state.specs.declared.Out.{Out}
-use Rattle.state.specs.declared.Out.TheVariants.{Own, Held, Nothing}
+use Rattle.std.specs.Prelude.{Option, Some, None}
+use Rattle.state.specs.declared.Next.{Next}
+use Rattle.state.specs.declared.Next.TheVariants.{Own, Held}
 use Rattle.state.specs.State.{with_tx}
 use Rattle.state.specs.Conditions.{with_request, settled}
 use Rattle.answers.specs.Answers.{Said, said, done, byte, refused, is_byte, fault_of}
@@ -136,9 +137,9 @@ module _ (w : World) (F : Fits w) (b : ℕ) where
   unfolding next_out is_next gone given_state
   gone_given n = by_tests (owed w.state.line) (w.state.line.forbidden || eqb w.state.tx.len 0) n
     where
-      out : Bool → Bool → Out
-      out t u = cond t (Own (cond w.state.line.holding (stop w.state.regs) (go w.state.regs)))
-          (cond u Nothing (Held (get_or (held w.tx w.state.tx) 0 0)))
+      out : Bool → Bool → Option Next
+      out t u = cond t (Some (Own (cond w.state.line.holding (stop w.state.regs) (go w.state.regs))))
+          (cond u None (Some (Held (get_or (held w.tx w.state.tx) 0 0))))
 
       by_tests : (t u : Bool) → is_next (out t u) b ≡ true →
           gone w.state (out t u) ≡ cond t (own_gone w.state) (with_tx w.state (one_fewer w.state.tx))

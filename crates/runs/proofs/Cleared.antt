@@ -18,8 +18,9 @@ use Rattle.status.specs.Status.{showed, stays, acknowledged}
 use Rattle.state.specs.declared.State.{State}
 use Rattle.state.specs.declared.Notes.{Notes}
 use Rattle.state.specs.Outcome.{Outcome}
-use Rattle.state.specs.declared.Out.{Out}
-use Rattle.state.specs.declared.Out.TheVariants as out
+use Rattle.std.specs.Prelude.{Option, Some, None}
+use Rattle.state.specs.declared.Next.{Next}
+use Rattle.state.specs.declared.Next.TheVariants as out
 use Rattle.answers.specs.declared.Answer.TheVariants.{Frame}
 use Rattle.answers.specs.Answers.{Said, said, done, refused}
 use Rattle.state.specs.Sizes.{start_state}
@@ -173,11 +174,11 @@ asked_noted : (e : Event) (w : World) (a : Said) → Noted e (on ask_line_byte) 
 unfolding settled restarts clears
 asked_noted e w a = kept e (on ask_line_byte) w a _ refl (record { talker = refl; frame = refl; seen = refl; again = refl })
 
-gone_noted : (e : Event) (b : ℕ) (w : World) (a : Said) (o : Out) → Noted e (on (take_line_byte b)) w a (settled w.state (gone w.state o))
+gone_noted : (e : Event) (b : ℕ) (w : World) (a : Said) (o : Option Next) → Noted e (on (take_line_byte b)) w a (settled w.state (gone w.state o))
 unfolding gone settled restarts clears
-gone_noted e b w a (out.Own x) = kept e (on (take_line_byte b)) w a _ refl (record { talker = refl; frame = refl; seen = refl; again = refl })
-gone_noted e b w a (out.Held x) = kept e (on (take_line_byte b)) w a _ refl (record { talker = refl; frame = refl; seen = refl; again = refl })
-gone_noted e b w a out.Nothing = kept e (on (take_line_byte b)) w a _ refl (record { talker = refl; frame = refl; seen = refl; again = refl })
+gone_noted e b w a (Some (out.Own x)) = kept e (on (take_line_byte b)) w a _ refl (record { talker = refl; frame = refl; seen = refl; again = refl })
+gone_noted e b w a (Some (out.Held x)) = kept e (on (take_line_byte b)) w a _ refl (record { talker = refl; frame = refl; seen = refl; again = refl })
+gone_noted e b w a None = kept e (on (take_line_byte b)) w a _ refl (record { talker = refl; frame = refl; seen = refl; again = refl })
 
 line_noted : (e : Event) (w : World) (b : ℕ) (t u : Bool) → is_go_or_stop w.state.regs b ≡ t → full w.state.rx ≡ u →
     Noted e (on (line_byte b)) w done (settled w.state (cond t (flowed w.state b) (cond u (lost_state w.state) (stored_state w.state))))

@@ -14,8 +14,9 @@ use Rattle.std.specs.Prelude.{Option, Some, None}
 use Rattle.sending.specs.Sending.{given_of, send_held}
 use Rattle.state.specs.declared.State.{State}
 use Rattle.state.specs.Outcome.{Outcome}
-use Rattle.state.specs.declared.Out.{Out}
-use Rattle.state.specs.declared.Out.TheVariants as out
+use Rattle.std.specs.Prelude.{Option, Some, None}
+use Rattle.state.specs.declared.Next.{Next}
+use Rattle.state.specs.declared.Next.TheVariants as out
 use Rattle.answers.specs.declared.Answer.{Answer}
 use Rattle.answers.specs.declared.Answer.TheVariants as answer
 use Rattle.answers.specs.Answers.{said}
@@ -90,11 +91,11 @@ by_frame (answer.Byte b) h = absurd h
 by_frame (answer.Cell n) h = absurd h
 by_frame (answer.Lines n) h = absurd h
 
-out_told : (o : Out) → is_eleven (said (out_answer o)) ≡ true
+out_told : (o : Option Next) → is_eleven (said (out_answer o)) ≡ true
 unfolding out_answer said
-out_told (out.Own b) = refl
-out_told (out.Held b) = refl
-out_told out.Nothing = refl
+out_told (Some (out.Own b)) = refl
+out_told (Some (out.Held b)) = refl
+out_told None = refl
 
 done_small : (c : Call) (w : World) → first_refusal (checks c w) ≡ 0 → is_eleven (not_refused c w).said ≡ true
 unfolding not_refused outcome said

@@ -14,8 +14,9 @@ use Rattle.sending.specs.Sending.{given_of, send_held}
 use Rattle.state.specs.declared.State.{State}
 use Rattle.state.specs.declared.Line.{Line}
 use Rattle.state.specs.Outcome.{Outcome}
-use Rattle.state.specs.declared.Out.{Out}
-use Rattle.state.specs.declared.Out.TheVariants as out
+use Rattle.std.specs.Prelude.{Option, Some, None}
+use Rattle.state.specs.declared.Next.{Next}
+use Rattle.state.specs.declared.Next.TheVariants as out
 use Rattle.state.specs.State.{with_registers}
 use Rattle.answers.specs.Answers.{Said, said, done, refused}
 use Rattle.state.specs.Sizes.{start_state}
@@ -82,13 +83,13 @@ goes_or : (c : Call) (w : World) (n : ℕ) (d : Did) → (n ≡ 0 → Goes c w d
 goes_or c w n d = or_refused (Goes c w) n d w (same c w (refusal n w) (refused_unseen c w n) refl refl)
 
 -- a byte to the line
-gone_goes : (b : ℕ) (w : World) (o : Out) →
+gone_goes : (b : ℕ) (w : World) (o : Option Next) →
     Goes (on (take_line_byte b)) w
     (record { said = done; room = 0; world = record { state = settled w.state (gone w.state o); rx = w.rx; tx = w.tx } })
 unfolding gone settled arrived restarts clears sends after_byte
-gone_goes b w (out.Own x) = same (on (take_line_byte b)) w _ (record { empties = refl; arrived = refl; sends = refl; writes = refl; byte = refl }) refl refl
-gone_goes b w (out.Held x) = same (on (take_line_byte b)) w _ (record { empties = refl; arrived = refl; sends = refl; writes = refl; byte = refl }) refl refl
-gone_goes b w out.Nothing = same (on (take_line_byte b)) w _ (record { empties = refl; arrived = refl; sends = refl; writes = refl; byte = refl }) refl refl
+gone_goes b w (Some (out.Own x)) = same (on (take_line_byte b)) w _ (record { empties = refl; arrived = refl; sends = refl; writes = refl; byte = refl }) refl refl
+gone_goes b w (Some (out.Held x)) = same (on (take_line_byte b)) w _ (record { empties = refl; arrived = refl; sends = refl; writes = refl; byte = refl }) refl refl
+gone_goes b w None = same (on (take_line_byte b)) w _ (record { empties = refl; arrived = refl; sends = refl; writes = refl; byte = refl }) refl refl
 
 -- ---- line bytes
 

@@ -17,8 +17,9 @@ use Rattle.sending.specs.Sending.{given_of, send_held}
 use Rattle.state.specs.declared.State.{State}
 use Rattle.state.specs.declared.Line.{Line}
 use Rattle.state.specs.Outcome.{Outcome}
-use Rattle.state.specs.declared.Out.{Out}
-use Rattle.state.specs.declared.Out.TheVariants.{Own, Held, Nothing}
+use Rattle.std.specs.Prelude.{Option, Some, None}
+use Rattle.state.specs.declared.Next.{Next}
+use Rattle.state.specs.declared.Next.TheVariants.{Own, Held}
 use Rattle.answers.specs.Answers.{said, done}
 use Rattle.state.specs.Sizes.{start_state}
 use Rattle.state.specs.Conditions.{settled, break_state, key_state}
@@ -90,7 +91,7 @@ own_character true x y d = sym (eq-eqb y y refl)
 own_character false x y d = sym (ne_eqb x y d)
 
 module _ (w : World) (b : ℕ) where
-  abbrev GoneKept : Out → Type 0
+  abbrev GoneKept : Option Next → Type 0
   GoneKept o = (gone w.state o).line.stopped ≡ last_of (recorded w) (on (take_line_byte b)) w done
 
   -- where one is owed, the byte taken is our own character
@@ -108,9 +109,9 @@ module _ (w : World) (b : ℕ) where
       differ : go w.state.regs ≡ stop w.state.regs → ⊥
       differ = fit_differ w.state.regs (tests w.state (length w.rx) (length w.tx) F).regs
 
-      out : Bool → Bool → Out
-      out t u = cond t (Own (cond w.state.line.holding (stop w.state.regs) (go w.state.regs)))
-          (cond u Nothing (Held (get_or (held w.tx w.state.tx) 0 0)))
+      out : Bool → Bool → Option Next
+      out t u = cond t (Some (Own (cond w.state.line.holding (stop w.state.regs) (go w.state.regs))))
+          (cond u None (Some (Held (get_or (held w.tx w.state.tx) 0 0))))
 
       by_tests : (t u : Bool) → owed w.state.line ≡ t → is_next (out t u) b ≡ true → GoneKept (out t u)
       by_tests true u e n =

@@ -10,8 +10,9 @@ use Rattle.registers.specs.Meanings.{go, stop}
 use Rattle.registers.specs.Writing.{written}
 use Rattle.store.specs.Ring.{held, full, put_bytes}
 use Rattle.store.proofs.Laws.{put_full}
-use Rattle.state.specs.declared.Out.{Out}
-use Rattle.state.specs.declared.Out.TheVariants.{Own, Held, Nothing}
+use Rattle.std.specs.Prelude.{Option, Some, None}
+use Rattle.state.specs.declared.Next.{Next}
+use Rattle.state.specs.declared.Next.TheVariants.{Own, Held}
 use Rattle.state.specs.State.{with_registers}
 use Rattle.answers.specs.Answers.{done}
 use Rattle.line.specs.HoldingOff.{is_go_or_stop, flowed, lost_state, stored_state, line_state, line_bytes, set_afresh, after_write, owed, next_out, is_next, gone}
@@ -55,9 +56,9 @@ module _ (w : World) (F : Fits w) (b : ℕ) where
       first : ℕ
       first = get_or (held w.tx w.state.tx) 0 0
 
-      out : Bool → Bool → Out
-      out t u = cond t (Own (cond w.state.line.holding (stop w.state.regs) (go w.state.regs)))
-          (cond u Nothing (Held (get_or (held w.tx w.state.tx) 0 0)))
+      out : Bool → Bool → Option Next
+      out t u = cond t (Some (Own (cond w.state.line.holding (stop w.state.regs) (go w.state.regs))))
+          (cond u None (Some (Held (get_or (held w.tx w.state.tx) 0 0))))
 
       by_tests : (t u : Bool) → owed w.state.line ≡ t → (w.state.line.forbidden || eqb w.state.tx.len 0) ≡ u → is_next (out t u) b ≡ true →
           Shape w (quiet (on (take_line_byte b)) w done) (core (gone w.state (out t u))) w.rx w.tx

@@ -11,7 +11,8 @@ use Rattle.branches.proofs.Branches.{cond_true, and_right}
 use Rattle.registers.specs.Meanings.{go, stop}
 use Rattle.store.specs.Ring.{held}
 use Rattle.store.proofs.Laws.{held_length}
-use Rattle.state.specs.declared.Out.TheVariants.{Own, Held, Nothing}
+use Rattle.std.specs.Prelude.{Some, None}
+use Rattle.state.specs.declared.Next.TheVariants.{Own, Held}
 use Rattle.answers.specs.Answers.{said, done, none, byte, refused, byte_in}
 use Rattle.state.proofs.Fits.{tx_fits}
 use Rattle.line.specs.HoldingOff.{owed, next_out, is_next, out_answer}
@@ -41,7 +42,7 @@ module _ (w : World) (F : Fits w) where
       own = cond w.state.line.holding (stop w.state.regs) (go w.state.regs)
 
       by_tests : (t u : Bool) (l : List ℕ) → length l ≡ w.state.tx.len →
-          said (out_answer (cond t (Own own) (cond (u || eqb w.state.tx.len 0) Nothing (Held (get_or l 0 0))))) ≡
+          said (out_answer (cond t (Some (Own own)) (cond (u || eqb w.state.tx.len 0) None (Some (Held (get_or l 0 0)))))) ≡
           cond t (byte own) (cond u none (oldest_of l))
       by_tests true u l e = refl
       by_tests false true l e = refl

@@ -7,8 +7,9 @@ use Rattle.answers.specs.Refusals.{first_refusal}
 use Rattle.sending.specs.declared.Given.{Given}
 use Rattle.sending.specs.declared.Given.TheVariants as given
 use Rattle.state.specs.declared.State.{State}
-use Rattle.state.specs.declared.Out.{Out}
-use Rattle.state.specs.declared.Out.TheVariants as out
+use Rattle.std.specs.Prelude.{Option, Some, None}
+use Rattle.state.specs.declared.Next.{Next}
+use Rattle.state.specs.declared.Next.TheVariants as out
 use Rattle.state.specs.Outcome.{Outcome}
 use Rattle.answers.specs.Answers.{Said, said, done, none, byte, frame, refused, part, cell, lines}
 use Rattle.line.specs.HoldingOff.{next_out, out_answer}
@@ -65,11 +66,11 @@ frame_taken_lem (part l) e = refl
 frame_taken_lem (cell n) e = refl
 frame_taken_lem (lines n) e = refl
 
-pub out_taken : (o : Out) → taken (said (out_answer o)) ≡ true
+pub out_taken : (o : Option Next) → taken (said (out_answer o)) ≡ true
 unfolding out_answer said
-out_taken (out.Own b) = refl
-out_taken (out.Held b) = refl
-out_taken out.Nothing = refl
+out_taken (Some (out.Own b)) = refl
+out_taken (Some (out.Held b)) = refl
+out_taken None = refl
 
 module _ (w : World) where
   -- refused, and nothing is changed

@@ -16,8 +16,9 @@ use Rattle.reading.specs.Received.{a_byte, a_break, received_in, as_held}
 use Rattle.reading.proofs.Received.{bytes_held}
 use Rattle.state.specs.declared.State.{State}
 use Rattle.state.specs.Outcome.{Outcome}
-use Rattle.state.specs.declared.Out.{Out}
-use Rattle.state.specs.declared.Out.TheVariants as out
+use Rattle.std.specs.Prelude.{Option, Some, None}
+use Rattle.state.specs.declared.Next.{Next}
+use Rattle.state.specs.declared.Next.TheVariants as out
 use Rattle.answers.specs.Answers.{said}
 use Rattle.state.specs.Conditions.{settled, break_state, key_state, after_status, after_status_back}
 use Rattle.line.specs.HoldingOff.{is_go_or_stop, flowed, lost_state, stored_state, stored_with, line_state, line_bytes, set_afresh, after_write, next_out, gone}
@@ -59,11 +60,11 @@ frame_rx s rx f o (is_cleared m k) e c = absurd (true≢false (sym m.clear ∙ c
 frame_rx s rx f o (is_kept m d l) e c = refl
 frame_rx s rx f o (is_other t n p m x) e c = ap (λ (h : Core). h.rx) x.core
 
-gone_rx : (s : State) (o : Out) → (gone s o).rx ≡ s.rx
+gone_rx : (s : State) (o : Option Next) → (gone s o).rx ≡ s.rx
 unfolding gone
-gone_rx s (out.Own b) = refl
-gone_rx s (out.Held b) = refl
-gone_rx s out.Nothing = refl
+gone_rx s (Some (out.Own b)) = refl
+gone_rx s (Some (out.Held b)) = refl
+gone_rx s None = refl
 
 write_rx : (s : State) (n v : ℕ) → (after_write s n (written s.regs n v)).rx ≡ s.rx
 unfolding after_write set_afresh

@@ -15,8 +15,9 @@ use Rattle.status.specs.Status as status
 use Rattle.state.specs.declared.State.{State}
 use Rattle.state.specs.declared.Notes.{Notes}
 use Rattle.state.specs.Outcome.{Outcome}
-use Rattle.state.specs.declared.Out.{Out}
-use Rattle.state.specs.declared.Out.TheVariants as out
+use Rattle.std.specs.Prelude.{Option, Some, None}
+use Rattle.state.specs.declared.Next.{Next}
+use Rattle.state.specs.declared.Next.TheVariants as out
 use Rattle.answers.specs.Answers.{Said, said, done, refused}
 use Rattle.state.specs.Sizes.{start_state}
 use Rattle.state.specs.Conditions.{settled, asking, enabled_by, conditions, break_state, key_state}
@@ -68,11 +69,11 @@ goes_or : (c : Call) (w : World) (n : ℕ) (d : Did) → status_sent c w (refuse
     empties c w (refused_or n d w).said ≡ false → Goes c w (refused_or n d w)
 goes_or c w n d e = or_refused (λ (x : Did). empties c w x.said ≡ false → Goes c w x) n d w (λ _. still_goes c w (refused n) e)
 
-gone_kept : (s : State) (o : Out) → (gone s o).notes.request ≡ s.notes.request
+gone_kept : (s : State) (o : Option Next) → (gone s o).notes.request ≡ s.notes.request
 unfolding gone
-gone_kept s (out.Own b) = refl
-gone_kept s (out.Held b) = refl
-gone_kept s out.Nothing = refl
+gone_kept s (Some (out.Own b)) = refl
+gone_kept s (Some (out.Held b)) = refl
+gone_kept s None = refl
 
 line_kept : (s : State) (b : ℕ) → (line_state s b).notes.request ≡ s.notes.request
 unfolding line_state flowed lost_state stored_with

@@ -14,8 +14,9 @@ use Rattle.sending.specs.declared.Given.TheVariants.{Nothing, One}
 use Rattle.sending.specs.Sending.{given_of, send_held, sent_ring}
 use Rattle.state.specs.declared.State.{State}
 use Rattle.state.specs.Outcome.{Outcome}
-use Rattle.state.specs.declared.Out.{Out}
-use Rattle.state.specs.declared.Out.TheVariants as out
+use Rattle.std.specs.Prelude.{Option, Some, None}
+use Rattle.state.specs.declared.Next.{Next}
+use Rattle.state.specs.declared.Next.TheVariants as out
 use Rattle.answers.specs.Answers.{said}
 use Rattle.state.specs.Conditions.{settled, break_state, key_state, after_status, after_status_back}
 use Rattle.line.specs.HoldingOff.{is_go_or_stop, flowed, lost_state, stored_with, line_state, resumed, set_afresh, after_write, next_out, gone}
@@ -79,11 +80,11 @@ line_same s b =
     by_cond (Same s) (is_go_or_stop s.regs b) _ _ (λ _. record { regs = refl; sizes = refl })
     (λ _. by_cond (Same s) (full s.rx) _ _ (λ _. record { regs = refl; sizes = refl }) (λ _. record { regs = refl; sizes = refl }))
 
-gone_same : (s : State) (o : Out) → Same s (gone s o)
+gone_same : (s : State) (o : Option Next) → Same s (gone s o)
 unfolding gone drop_ring
-gone_same s (out.Own b) = record { regs = refl; sizes = refl }
-gone_same s (out.Held b) = record { regs = refl; sizes = refl }
-gone_same s out.Nothing = record { regs = refl; sizes = refl }
+gone_same s (Some (out.Own b)) = record { regs = refl; sizes = refl }
+gone_same s (Some (out.Held b)) = record { regs = refl; sizes = refl }
+gone_same s None = record { regs = refl; sizes = refl }
 
 write_values : (s : State) (n v : ℕ) →
     register_values (settled s (after_write s n (written s.regs n v))).regs ≡ written_to n v numbers (register_values s.regs)

@@ -23,8 +23,9 @@ use Rattle.reading.specs.Received.{Received}
 use Rattle.sending.specs.Sending.{given_of, send_held}
 use Rattle.state.specs.declared.State.{State}
 use Rattle.state.specs.Outcome.{Outcome}
-use Rattle.state.specs.declared.Out.{Out}
-use Rattle.state.specs.declared.Out.TheVariants as out
+use Rattle.std.specs.Prelude.{Option, Some, None}
+use Rattle.state.specs.declared.Next.{Next}
+use Rattle.state.specs.declared.Next.TheVariants as out
 use Rattle.answers.specs.declared.Answer.TheVariants.{Frame}
 use Rattle.answers.specs.Answers.{Said, said, refused}
 use Rattle.state.specs.Conditions.{settled, break_state, key_state}
@@ -224,11 +225,11 @@ line_left s b =
     (λ _. record { talker = refl; frame = refl; seen = noting overrun s.notes.seen; again = noting overrun s.notes.again })
     (λ _. same s _ refl))
 
-gone_left : (s : State) (o : Out) → Left s (part (gone s o))
+gone_left : (s : State) (o : Option Next) → Left s (part (gone s o))
 unfolding gone
-gone_left s (out.Own b) = same s _ refl
-gone_left s (out.Held b) = same s _ refl
-gone_left s out.Nothing = same s _ refl
+gone_left s (Some (out.Own b)) = same s _ refl
+gone_left s (Some (out.Held b)) = same s _ refl
+gone_left s None = same s _ refl
 
 write_left : (s : State) (n v : ℕ) → Left s (part (after_write s n (written s.regs n v)))
 unfolding after_write set_afresh

@@ -7,8 +7,9 @@ use Rattle.branches.proofs.Branches.{by_cond}
 use Rattle.registers.specs.Writing.{written}
 use Rattle.store.specs.Ring.{full}
 use Rattle.state.specs.declared.State.{State}
-use Rattle.state.specs.declared.Out.{Out}
-use Rattle.state.specs.declared.Out.TheVariants as out
+use Rattle.std.specs.Prelude.{Option, Some, None}
+use Rattle.state.specs.declared.Next.{Next}
+use Rattle.state.specs.declared.Next.TheVariants as out
 use Rattle.state.specs.Conditions.{settled, break_state, key_state}
 use Rattle.line.specs.HoldingOff.{is_go_or_stop, flowed, lost_state, stored_with, line_state, set_afresh, after_write, gone}
 
@@ -40,11 +41,11 @@ line_untouched s b =
     by_cond (Untouched s) (is_go_or_stop s.regs b) _ _ (λ _. record { talker = refl; remote = refl })
     (λ _. by_cond (Untouched s) (full s.rx) _ _ (λ _. record { talker = refl; remote = refl }) (λ _. record { talker = refl; remote = refl }))
 
-pub gone_untouched : (s : State) (o : Out) → Untouched s (gone s o)
+pub gone_untouched : (s : State) (o : Option Next) → Untouched s (gone s o)
 unfolding gone
-gone_untouched s (out.Own b) = record { talker = refl; remote = refl }
-gone_untouched s (out.Held b) = record { talker = refl; remote = refl }
-gone_untouched s out.Nothing = record { talker = refl; remote = refl }
+gone_untouched s (Some (out.Own b)) = record { talker = refl; remote = refl }
+gone_untouched s (Some (out.Held b)) = record { talker = refl; remote = refl }
+gone_untouched s None = record { talker = refl; remote = refl }
 
 pub write_untouched : (s : State) (n v : ℕ) → Untouched s (after_write s n (written s.regs n v))
 unfolding after_write set_afresh

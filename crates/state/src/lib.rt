@@ -48,12 +48,11 @@ pub struct State {
     pub remote: Remote,
 }
 
-// The next line byte: our own go or stop, one held in the transmit store, or none.
+// The next line byte: our own go or stop, or one held in the transmit store.
 #[derive(Clone, Copy)]
-pub enum Out {
+pub enum Next {
     Own(u8),
     Held(u8),
-    Nothing,
 }
 
 // What a call on such a state answers, and the state after it.

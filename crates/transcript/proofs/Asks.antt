@@ -11,8 +11,9 @@ use Rattle.branches.proofs.Branches.{by_cond}
 use Rattle.registers.specs.Meanings.{go, stop}
 use Rattle.store.specs.Ring.{held, drop_ring}
 use Rattle.state.specs.declared.State.{State}
-use Rattle.state.specs.declared.Out.{Out}
-use Rattle.state.specs.declared.Out.TheVariants.{Own, Held, Nothing}
+use Rattle.std.specs.Prelude.{Option, Some, None}
+use Rattle.state.specs.declared.Next.{Next}
+use Rattle.state.specs.declared.Next.TheVariants.{Own, Held}
 use Rattle.answers.specs.Answers.{Said, said, done, none, byte, frame, refused, part, cell, lines, is_byte, byte_in}
 use Rattle.state.specs.Sizes.{TxFits}
 use Rattle.state.specs.Conditions.{settled}
@@ -38,15 +39,15 @@ or_right false b e = e
 or_right true b e = absurd (false≢true (sym e))
 
 module _ (b : ℕ) where
-  abbrev Falls : State → Out → Type 0
+  abbrev Falls : State → Option Next → Type 0
   Falls s o = is_next o b ≡ true → weight (gone s o) < weight s
 
   falls : (s : State) (tx : List ℕ) → Falls s (next_out s tx)
   unfolding next_out is_next gone drop_ring
   falls s tx =
-      by_cond (Falls s) (owed s.line) (Own (cond s.line.holding (stop s.regs) (go s.regs))) _
+      by_cond (Falls s) (owed s.line) (Some (Own (cond s.line.holding (stop s.regs) (go s.regs)))) _
       (λ e h. rw (e, paid s.line.holding s.line.forbidden) (omega arith))
-      (λ e. by_cond (Falls s) (s.line.forbidden || eqb s.tx.len 0) Nothing (Held (get_or (held tx s.tx) 0 0))
+      (λ e. by_cond (Falls s) (s.line.forbidden || eqb s.tx.len 0) None (Some (Held (get_or (held tx s.tx) 0 0)))
       (λ q h. absurd (false≢true h))
       (λ q h. let some = eqb-false s.tx.len 0 (or_right s.line.forbidden (eqb s.tx.len 0) q) in rw e (fewer s.tx.len some)))
     where
@@ -90,10 +91,10 @@ unfolding is_byte said out_answer
 no_byte w e =
     subst (λ (d : Did). is_byte d.said ≡ false → d.said ≡ none) (sym (ask_fits w e)) (go (next_of w))
   where
-    go : (o : Out) → is_byte (said (out_answer o)) ≡ false → said (out_answer o) ≡ none
-    go (Own b) h = absurd (false≢true (sym h))
-    go (Held b) h = absurd (false≢true (sym h))
-    go Nothing h = refl
+    go : (o : Option Next) → is_byte (said (out_answer o)) ≡ false → said (out_answer o) ≡ none
+    go (Some (Own b)) h = absurd (false≢true (sym h))
+    go (Some (Held b)) h = absurd (false≢true (sym h))
+    go None h = refl
 
 taken_fits : (w : World) → Fits w → Fits (next_taken w)
 taken_fits w e = keeps_fit (on (take_line_byte (byte_in (ask_answer w)))) (step (on ask_line_byte) w).world tt (keeps_fit (on ask_line_byte) w tt e)
