@@ -60,7 +60,6 @@ fn set_up(x: &[u8], p: Sections, rx: &[u16], tx: &[u8]) -> Result<State, Refusal
 }
 
 // Sets the registers, and goes on where none is refused.
-#[tactic(auto, unfolding(crate::specs::Transcript::run_text, crate::specs::Transcript::set_text))]
 fn put_run(x: &[u8], p: Sections, page: &mut Page)
     requires whole { Whole x.now p }
     requires empty { page.old.bytes ≡ [] }
