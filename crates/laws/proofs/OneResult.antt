@@ -65,23 +65,23 @@ module _ (s : State) (rx₁ rx₂ tx₁ tx₂ : List ℕ) where
   same : (o₁ o₂ : Result Outcome Refusal) → did s o₁ rx₁ tx₁ ≡ did s o₂ rx₂ tx₂ → Same o₁ o₂ rx₁ rx₂ tx₁ tx₂
   same (Ok o) (Ok p) e =
       let r = one_outcome o p (ap (λ (d : Did). d.said) e) (ap (λ (d : Did). d.world.state) e) in
-      record { result = ap Ok r; rx = ap (λ (d : Did). d.world.rx) e; tx = ap (λ (d : Did). d.world.tx) e }
+      record { reply = ap Ok r; rx = ap (λ (d : Did). d.world.rx) e; tx = ap (λ (d : Did). d.world.tx) e }
   same (Ok o) (Err r) e = absurd (not_refused_said o.answer r (ap (λ (d : Did). d.said) e))
   same (Err r) (Ok o) e = absurd (not_refused_said o.answer r (ap (λ (d : Did). d.said) (sym e)))
   same (Err r) (Err q) e =
       let k = one_refusal r q (ap (λ (d : Did). d.said) e) in
-      record { result = ap Err k; rx = ap (λ (d : Did). d.world.rx) e; tx = ap (λ (d : Did). d.world.tx) e }
+      record { reply = ap Err k; rx = ap (λ (d : Did). d.world.rx) e; tx = ap (λ (d : Did). d.world.tx) e }
 
   same_told : (t₁ t₂ : Result Told Refusal) → told s t₁ rx₁ tx₁ ≡ told s t₂ rx₂ tx₂ → Same t₁ t₂ rx₁ rx₂ tx₁ tx₂
   same_told (Ok t) (Ok u) e =
       let r = one_outcome t.outcome u.outcome (ap (λ (d : Did). d.said) e) (ap (λ (d : Did). d.world.state) e) in
       let k : t ≡ u = rw (r, ap (λ (d : Did). d.room) e) in
-      record { result = ap Ok k; rx = ap (λ (d : Did). d.world.rx) e; tx = ap (λ (d : Did). d.world.tx) e }
+      record { reply = ap Ok k; rx = ap (λ (d : Did). d.world.rx) e; tx = ap (λ (d : Did). d.world.tx) e }
   same_told (Ok t) (Err r) e = absurd (not_refused_said t.outcome.answer r (ap (λ (d : Did). d.said) e))
   same_told (Err r) (Ok t) e = absurd (not_refused_said t.outcome.answer r (ap (λ (d : Did). d.said) (sym e)))
   same_told (Err r) (Err q) e =
       let k = one_refusal r q (ap (λ (d : Did). d.said) e) in
-      record { result = ap Err k; rx = ap (λ (d : Did). d.world.rx) e; tx = ap (λ (d : Did). d.world.tx) e }
+      record { reply = ap Err k; rx = ap (λ (d : Did). d.world.rx) e; tx = ap (λ (d : Did). d.world.tx) e }
 
 pub one_result : OneResult
 one_result =

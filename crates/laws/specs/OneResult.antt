@@ -11,7 +11,7 @@ use Rattle.bridge.specs.Calls.{Store, ask_line_byte, Call, create, show, on, Wor
 
 -- two results are the same: the outcome, its answer and its state, or the refusal, and every byte of both stores
 pub record Same {X : Type 0} (o₁ o₂ : Result X Refusal) (rx₁ rx₂ tx₁ tx₂ : List ℕ) : Type 0 where
-  pub result : o₁ ≡ o₂
+  pub reply : o₁ ≡ o₂
   pub rx : rx₁ ≡ rx₂
   pub tx : tx₁ ≡ tx₂
 

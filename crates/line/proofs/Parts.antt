@@ -1,17 +1,15 @@
 -- Line bytes in and out, and register writes. Assumes nothing.
-use Rattle.std.proofs.Common.{◌≡◌, ℕ, ◌*◌, ◌<◌, ◌≤◌, Bool, true, false, cond, not, ◌&&◌, ◌||◌, eqb, leb, List, get_or, sym, refl, ap, subst, arith, eq-eqb, ne_eqb}
+use Rattle.std.proofs.Common.{◌≡◌, ℕ, ◌*◌, ◌<◌, ◌≤◌, Bool, true, false, cond, not, ◌&&◌, ◌||◌, eqb, leb, List, get_or, sym, refl, ap, subst, ◌∙◌, arith, eq-eqb, ne_eqb}
 use mathlib.Core.Bool.{false≢true}
 use borrow.Author.Tests.{eqb-false, le-leb, lt-leb}
 use Rattle.registers.specs.declared.Registers.{Registers}
 use Rattle.registers.specs.Meanings.{protocol_on, stop}
 use Rattle.store.specs.declared.Ring.{Ring}
 use Rattle.store.specs.declared.Offered.{Offered}
-use Rattle.store.proofs.Laws.{stored_after, full_after, stored_room, full_room}
-use Rattle.std.specs.Prelude.{Some, None}
-use Rattle.store.specs.Ring.{Within, held, room}
+use Rattle.std.specs.Prelude.{Option, MatchOption, unwrap_or, Some, None}
+use Rattle.store.specs.Ring.{Within, held, room, put_ring}
 use Rattle.store.specs.Promises.{Put, Dropped}
 use Rattle.state.specs.declared.State.{State}
-use Rattle.std.specs.Prelude.{Option, Some, None}
 use Rattle.state.specs.declared.Next.{Next}
 use Rattle.state.specs.declared.Next.TheVariants.{Own, Held}
 use Rattle.state.specs.State.{with_registers, with_line, with_rx, with_tx, with_notes, with_counts}
@@ -37,13 +35,20 @@ module _ (s : State) (rx : List ℕ) (b : ℕ) where
 
   module _ (rx' : List ℕ) (t : State) (e : is_go_or_stop s.regs b ≡ false) where
     module _ (o : Offered) (p : Put rx s.rx b rx' o) where
+      abbrev Found : Option Ring → Type 0
+      Found x = MatchOption x (s.rx.cap ≤ s.rx.len) (λ q. (s.rx.len < s.rx.cap) × (q ≡ put_ring s.rx))
+
+      -- the ring that is left where none is answered is the one that was there
+      kept : o.after ≡ None → put_ring s.rx ≡ s.rx
+      kept i = sym p.ring ∙ ap (λ x. unwrap_or x s.rx) i
+
       pub taken_stored : (q : Ring) → o.after ≡ Some q → t ≡ stored_with s q → Taken s rx b rx' (record { state = t; room = o.room })
       unfolding line_state line_bytes stored_with
       taken_stored q i h =
-          let a = stored_after s.rx o p.offering q i in
+          let a : Found (Some q) = subst Found i p.offering.after in
           record {
             state = rw (e, lt-leb s.rx.cap s.rx.len a.0, ← a.1) h;
-            room = ring_told t (stored_with s q) o.room h (stored_room s.rx o p.offering q i);
+            room = ring_told t (stored_with s q) o.room h (p.offering.room ∙ ap room (sym a.1));
             within = ring_within t (stored_with s q) h (subst Within (sym a.1) p.fit.within);
             bytes = rw e p.bytes;
             size = p.size;
@@ -53,8 +58,8 @@ module _ (s : State) (rx : List ℕ) (b : ℕ) where
       unfolding line_state line_bytes lost_state
       taken_lost i h f =
           record {
-            state = rw (e, le-leb s.rx.cap s.rx.len (full_after s.rx o p.offering i)) h;
-            room = ring_told t (lost_state s) o.room h (full_room s.rx o p.offering i);
+            state = rw (e, le-leb s.rx.cap s.rx.len (subst Found i p.offering.after)) h;
+            room = ring_told t (lost_state s) o.room h (p.offering.room ∙ ap room (kept i));
             within = ring_within t (lost_state s) h f;
             bytes = rw e p.bytes;
             size = p.size;
