@@ -100,6 +100,7 @@ pub fn line_byte(s: State, rx: &mut [u16], tx: &[u8], b: u8) -> Result<Told, Ref
 {
     fitting(s, rx, tx)?;
     let t = line::taken(s, rx, b);
+    // Kept: a store has at most 32,768 places, so the cast loses no bit, here and below.
     let left = t.room as u16;
     Ok(Told {
         outcome: done(s, t.state),
@@ -170,6 +171,7 @@ pub fn loop_frame(s: State, rx: &[u16], tx: &mut [u8], frame: u32) -> Result<Tol
 }
 
 // Shows the longest unbroken run of cells from the oldest one in the receive store.
+// Kept beside its twin below: the two stores hold items of two types, and what both calls share is in `store::show`.
 pub fn show_receive<'a>(s: State, rx: &'a [u16], tx: &[u8]) -> &'a [u16]
     ensures { Promised (show receive) (world s rx.now tx.now) (handed result.now (world s rx.now tx.now)) }
 {

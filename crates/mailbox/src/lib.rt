@@ -243,6 +243,7 @@ pub fn bus_lines(s: State, tobus: &[u16], toloop: &[u16]) -> Result<Outcome, Ref
 }
 
 // Shows the longest unbroken run of cells from the oldest one: side 0 of the way to the bus, side 1 of the way to the loop.
+// Kept: the side is a number and no enum, since C gives the number, and any other number shows nothing.
 pub fn show<'a>(s: State, tobus: &'a [u16], toloop: &'a [u16], side: u32) -> &'a [u16]
     ensures { Promised (show side) (world s tobus.now toloop.now)
         (handed result.now (world s tobus.now toloop.now)) }

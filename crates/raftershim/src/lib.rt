@@ -15,6 +15,7 @@ use state::Outcome;
 
 // Writes the state over the block, unless the call was refused, and gives the number of its answer, which tells this room, 0 where none is told; a
 // refusal is its number alone.
+// Kept beside its twin in cmailbox: the two pack states of two types, and only this one tells a room.
 fn finished(block: &mut [u8], o: Result<Outcome, Refusal>, room: u16) -> u64
     requires { OnOk o (length block.old ≡ block_len) }
     ensures { MatchResult o

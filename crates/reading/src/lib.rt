@@ -42,6 +42,7 @@ pub fn item_of(cell: u16) -> Item
 }
 
 // The cell with the mark of a break behind its byte, and nothing above it.
+// Kept: a function for the same reason.
 pub fn marked(cell: u16) -> u16
     ensures { result ≡ marked_cell cell }
 {
@@ -49,6 +50,7 @@ pub fn marked(cell: u16) -> u16
 }
 
 // The decision where the n oldest bytes are a, b, c: only the first n count, and more than three are as three.
+// Kept: three items and a count, and no slice of items, since the cells of a ring go round and no three of them need stand together.
 pub fn decide(rule: Rule, n: usize, a: Item, b: Item, c: Item) -> Decision
     ensures { result ≡ decision rule (received (firsts n a b c)) }
 {

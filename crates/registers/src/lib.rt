@@ -56,6 +56,7 @@ pub fn start() -> Registers
 }
 
 // What the register of this number carries; none where there is no such register, or the bridge doesn't carry it.
+// Kept: a register is its number and no enum, since C and the app can give any number, and one that is not carried is refused.
 pub fn carried(n: u32) -> Option<Contents>
     ensures { result ≡ carries (carried_of n) }
 {

@@ -1,4 +1,5 @@
 // What the carried bits of the registers mean, by the manual's appendix D.
+// Kept: a function for each bit, since each has its name in the appendix, and a shared one with the bit's number would only hide the weight that is read.
 ghost use Rattle.std.specs.Prelude.{◌≡◌};
 ghost use Rattle.registers.specs.Meanings.{requests_show, overrun_enabled, break_enabled, key_enabled, end_detected, end_inserted, protocol_on};
 ghost use Rattle.registers.specs.Meanings.{transmit_empty_enabled, transmit_not_full_enabled, receive_not_empty_enabled, receive_full_enabled};

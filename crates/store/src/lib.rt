@@ -9,6 +9,8 @@ ghost use Rattle.store.specs.Promises.{Offering, Put, Dropped, Spanned, Shown};
 use std::ops::Range;
 
 // The capacity, the place of the oldest byte, and how many bytes are held.
+// Kept: that oldest and len are within cap is asked by each call and is no invariant of the type, since a caller can hand in any ring, and a call
+// of a product must refuse it.
 #[derive(Clone, Copy)]
 pub struct Ring {
     pub cap: usize,
