@@ -4,8 +4,6 @@ use mathlib.Core.Path.{◌≡◌, refl, sym, ◌∙◌}
 use mathlib.Core.Bool.{true, false, false≢true}
 use mathlib.Core.List.{List}
 use Rattle.answers.specs.Refusals.{first_refusal}
-use Rattle.sending.specs.declared.Given.{Given}
-use Rattle.sending.specs.declared.Given.TheVariants as given
 use Rattle.state.specs.declared.State.{State}
 use Rattle.std.specs.Prelude.{Option, Some, None}
 use Rattle.state.specs.declared.Next.{Next}
@@ -30,10 +28,10 @@ use Rattle.machine.specs.Machine.{Obeys}
 abbrev Answers : Outcome → Type 0
 Answers o = is_frame (said o.answer) ≡ true
 
-send_answers : (before after : State) (g : Given) → Answers (send_state before after g)
+send_answers : (before after : State) (g : Option ℕ) → Answers (send_state before after g)
 unfolding send_state ended said
-send_answers before after given.Nothing = refl
-send_answers before after (given.One f) = refl
+send_answers before after None = refl
+send_answers before after (Some f) = refl
 
 way_answers : (s : State) (rx : List ℕ) (f : ℕ) (o : Outcome) → Way s rx f o → Answers o
 unfolding send_from send_status ended said

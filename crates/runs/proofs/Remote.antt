@@ -7,8 +7,7 @@ use lib.Dec.{eqb}
 use borrow.Author.Tests.{ne_eqb, ltb-true}
 use Rattle.frame.specs.Frame.{control_of, data_of, is_data}
 use Rattle.role.specs.declared.remote.Remote.{Remote}
-use Rattle.sending.specs.declared.Given.{Given}
-use Rattle.sending.specs.declared.Given.TheVariants.{Nothing, One}
+use Rattle.std.specs.Prelude.{Option, Some, None}
 use Rattle.sending.specs.Sending.{given_of, send_held}
 use Rattle.state.specs.Outcome.{Outcome}
 use Rattle.state.specs.Conditions.{after_status, after_status_back}
@@ -40,9 +39,9 @@ module _ (w : World) (F : Fits w) (f : ℕ) where
   unfolding send_from send_state ended removed_state resumed
   send_stays = go (given_of (send_held (rule_of w.state.regs) w.rx w.state.rx))
     where
-      go : (g : Given) → (send_state w.state (removed_state w.state w.rx) g).state.remote ≡ w.state.remote
-      go Nothing = refl
-      go (One g) = refl
+      go : (g : Option ℕ) → (send_state w.state (removed_state w.state w.rx) g).state.remote ≡ w.state.remote
+      go None = refl
+      go (Some g) = refl
 
   obeys : Commanding f → Right (obeyed w.state (order_in w.state f)).remote
   unfolding obeyed remote_by_frame

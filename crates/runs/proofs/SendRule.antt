@@ -28,8 +28,7 @@ use Rattle.runs.proofs.Steps.{answer, ours, at_call, after}
 use Rattle.machine.specs.Machine.{Obeys, seen}
 use Rattle.store.specs.declared.Ring.{Ring}
 use Rattle.store.specs.Ring.{held}
-use Rattle.sending.specs.declared.Given.{Given}
-use Rattle.sending.specs.declared.Given.TheVariants.{Nothing, One}
+use Rattle.std.specs.Prelude.{Option, Some, None}
 use Rattle.state.specs.declared.State.{State}
 use Rattle.state.specs.Conditions.{settled}
 use Rattle.state.proofs.Fits.{rx_fits}
@@ -74,11 +73,11 @@ send_left w F =
     ap received_in (go (given_of (send_held (rule_of w.state.regs) w.rx w.state.rx))) ∙
     held_sent (rule_of w.state.regs) w.rx w.state.rx (rx_fits w.state w.rx w.tx F).ring
   where
-    go : (g : Given) →
+    go : (g : Option ℕ) →
         held w.rx (send_state w.state (removed_state w.state w.rx) g).state.rx ≡
         held w.rx (sent_ring (rule_of w.state.regs) w.rx w.state.rx)
-    go Nothing = refl
-    go (One f) = refl
+    go None = refl
+    go (Some f) = refl
 
 pub send_rule : Obeys ours SendRule
 unfolding step calls.not_refused outcome settled_by rx_after sent

@@ -9,8 +9,6 @@ use Rattle.machine.specs.Machine.{Obeys}
 use Rattle.registers.specs.Writing.{written}
 use Rattle.store.specs.Ring.{full, put_ring, drop_ring}
 use Rattle.store.proofs.Several.{puts_cap}
-use Rattle.sending.specs.declared.Given.{Given}
-use Rattle.sending.specs.declared.Given.TheVariants.{Nothing, One}
 use Rattle.sending.specs.Sending.{given_of, send_held, sent_ring}
 use Rattle.state.specs.declared.State.{State}
 use Rattle.state.specs.Outcome.{Outcome}
@@ -53,9 +51,9 @@ send_same : (s : State) (rx : List ℕ) → Same s (send_from s rx).state
 unfolding send_from send_state ended talking removed_state resumed sent_ring drop_ring
 send_same s rx = go (given_of (send_held (rule_of s.regs) rx s.rx))
   where
-    go : (g : Given) → Same s (send_state s (removed_state s rx) g).state
-    go Nothing = record { regs = refl; sizes = refl }
-    go (One f) = record { regs = refl; sizes = refl }
+    go : (g : Option ℕ) → Same s (send_state s (removed_state s rx) g).state
+    go None = record { regs = refl; sizes = refl }
+    go (Some f) = record { regs = refl; sizes = refl }
 
 frame_same : (s : State) (rx : List ℕ) (f : ℕ) (o : Outcome) → Way s rx f o → Same s o.state
 unfolding send_status ended talking after_status after_status_back added_state cleared obeyed
