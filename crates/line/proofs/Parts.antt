@@ -1,9 +1,8 @@
--- Line bytes in and out, and register writes. Assumes nothing.
-use Rattle.std.proofs.Common.{◌≡◌, ℕ, ◌*◌, ◌<◌, ◌≤◌, Bool, true, false, cond, not, ◌&&◌, ◌||◌, eqb, leb, List, get_or, sym, refl, ap, subst, arith, eq-eqb, ne_eqb}
+-- Line bytes in and out. Assumes nothing.
+use Rattle.std.proofs.Common.{◌≡◌, ℕ, ◌<◌, ◌≤◌, Bool, true, false, cond, ◌||◌, eqb, List, get_or, sym, refl, ap, subst, arith}
 use mathlib.Core.Bool.{false≢true}
 use borrow.Author.Tests.{eqb-false, le-leb, lt-leb}
-use Rattle.registers.specs.declared.Registers.{Registers}
-use Rattle.registers.specs.Meanings.{protocol_on, stop}
+use Rattle.registers.specs.Meanings.{stop}
 use Rattle.store.specs.declared.Ring.{Ring}
 use Rattle.store.specs.declared.Offered.{Offered}
 use Rattle.store.proofs.Laws.{stored_after, full_after, stored_room, full_room}
@@ -14,9 +13,8 @@ use Rattle.state.specs.declared.State.{State}
 use Rattle.state.specs.declared.Out.{Out}
 use Rattle.state.specs.declared.Out.TheVariants.{Own, Held, Nothing}
 use Rattle.answers.specs.declared.Answer.TheVariants as answer
-use Rattle.state.specs.State.{with_registers, with_line, with_rx, with_tx, with_notes, with_counts}
-use Rattle.state.specs.Counts.{counted}
-use Rattle.line.specs.HoldingOff.{is_go_or_stop, flowed, stored_with, lost_state, line_state, line_bytes, Taken, resumed, set_afresh, after_write}
+use Rattle.state.specs.State.{with_line, with_tx}
+use Rattle.line.specs.HoldingOff.{is_go_or_stop, flowed, stored_with, lost_state, line_state, line_bytes, Taken}
 use Rattle.line.specs.HoldingOff.{owed, next_out, is_next, gone, out_answer}
 
 -- ---- a line byte
@@ -59,18 +57,6 @@ module _ (s : State) (rx : List ℕ) (b : ℕ) where
             bytes = rw e p.bytes;
             size = p.size;
           }
-
--- ---- a register written
-
-module _ (s : State) (n : ℕ) (g : Registers) where
-  pub write_flow : (left : ℕ) (on : Bool) → n ≡ 11 → left ≡ room s.rx → on ≡ protocol_on g →
-      with_line (with_registers s g) (record { holding = on && leb left s.margin; forbidden = false; stopped = s.line.stopped }) ≡ after_write s n g
-  unfolding after_write set_afresh
-  write_flow left on e p q = rw (eq-eqb n 11 e, p, q)
-
-  pub write_other : (n ≡ 11 → ⊥) → with_registers s g ≡ after_write s n g
-  unfolding after_write
-  write_other d = rw (ne_eqb n 11 d)
 
 -- ---- a line byte out
 
@@ -127,30 +113,6 @@ module _ (s : State) (o : Out) where
   gone_none e = rw e
 
 -- ---- the smaller parts
-
-pub flow_met : (g : Registers) (b : ℕ) (on : Bool) → on ≡ protocol_on g → (on && (eqb b g.c04 || eqb b g.c05)) ≡ is_go_or_stop g b
-unfolding is_go_or_stop
-flow_met g b on p = rw p
-
-pub stored_met : (s : State) (r : Ring) (n left : ℕ) (on : Bool) → n ≡ counted s.counts.stored → left ≡ room r → on ≡ protocol_on s.regs →
-    with_counts (with_line (with_rx s r) (record { holding = s.line.holding || (on && leb left s.margin); forbidden = s.line.forbidden; stopped = s.line.stopped }))
-    (record { stored = n; lost = s.counts.lost; sent = s.counts.sent }) ≡ stored_with s r
-unfolding stored_with
-stored_met s r n left on a b c = rw (a, b, c)
-
-pub resume_met : (s : State) (left : ℕ) → left ≡ room s.rx →
-    with_line s (record { holding = s.line.holding && not (leb (2 * s.margin) left); forbidden = s.line.forbidden; stopped = s.line.stopped }) ≡ resumed s
-unfolding resumed
-resume_met s left e = rw e
-
-pub lost_met : (s : State) (n : ℕ) → n ≡ counted s.counts.lost →
-    with_counts (with_notes s (record {
-      seen = record { brk = s.notes.seen.brk; overrun = true; key = s.notes.seen.key };
-      again = record { brk = s.notes.again.brk; overrun = true; key = s.notes.again.key };
-      request = s.notes.request;
-    })) (record { stored = s.counts.stored; lost = n; sent = s.counts.sent }) ≡ lost_state s
-unfolding lost_state
-lost_met s n a = rw a
 
 module _ (o : Out) where
   pub own_met : (b : ℕ) → o ≡ Own b → answer.Byte b ≡ out_answer o
