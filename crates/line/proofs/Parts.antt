@@ -2,8 +2,7 @@
 use Rattle.std.proofs.Common.{◌≡◌, ℕ, ◌*◌, ◌<◌, ◌≤◌, Bool, true, false, cond, not, ◌&&◌, ◌||◌, eqb, leb, List, get_or, sym, refl, ap, subst, ◌∙◌, arith, eq-eqb, ne_eqb}
 use mathlib.Core.Bool.{false≢true}
 use borrow.Author.Tests.{eqb-false, le-leb, lt-leb}
-use Rattle.registers.specs.declared.Registers.{Registers}
-use Rattle.registers.specs.Meanings.{protocol_on, stop}
+use Rattle.registers.specs.Meanings.{stop}
 use Rattle.store.specs.declared.Ring.{Ring}
 use Rattle.store.specs.declared.Offered.{Offered}
 use Rattle.std.specs.Prelude.{Option, MatchOption, unwrap_or, Some, None}
@@ -65,18 +64,6 @@ module _ (s : State) (rx : List ℕ) (b : ℕ) where
             size = p.size;
           }
 
--- ---- a register written
-
-module _ (s : State) (n : ℕ) (g : Registers) where
-  pub write_flow : (left : ℕ) (on : Bool) → n ≡ 11 → left ≡ room s.rx → on ≡ protocol_on g →
-      with_line (with_registers s g) (record { holding = on && leb left s.margin; forbidden = false; stopped = s.line.stopped }) ≡ after_write s n g
-  unfolding after_write set_afresh
-  write_flow left on e p q = rw (eq-eqb n 11 e, p, q)
-
-  pub write_other : (n ≡ 11 → ⊥) → with_registers s g ≡ after_write s n g
-  unfolding after_write
-  write_other d = rw (ne_eqb n 11 d)
-
 -- ---- a line byte out
 
 module _ (s : State) (tx : List ℕ) where
@@ -121,29 +108,3 @@ module _ (s : State) (o : Option Next) where
   pub gone_held : (b : ℕ) (r : Ring) → o ≡ Some (Held b) → Dropped s.tx 1 r → with_tx s r ≡ gone s o
   unfolding gone
   gone_held b r e d = rw e (ap (with_tx s) d.ring)
-
--- ---- the smaller parts
-
-pub flow_met : (g : Registers) (b : ℕ) (on : Bool) → on ≡ protocol_on g → (on && (eqb b g.c04 || eqb b g.c05)) ≡ is_go_or_stop g b
-unfolding is_go_or_stop
-flow_met g b on p = rw p
-
-pub stored_met : (s : State) (r : Ring) (n left : ℕ) (on : Bool) → n ≡ counted s.counts.stored → left ≡ room r → on ≡ protocol_on s.regs →
-    with_counts (with_line (with_rx s r) (record { holding = s.line.holding || (on && leb left s.margin); forbidden = s.line.forbidden; stopped = s.line.stopped }))
-    (record { stored = n; lost = s.counts.lost; sent = s.counts.sent }) ≡ stored_with s r
-unfolding stored_with
-stored_met s r n left on a b c = rw (a, b, c)
-
-pub resume_met : (s : State) (left : ℕ) → left ≡ room s.rx →
-    with_line s (record { holding = s.line.holding && not (leb (2 * s.margin) left); forbidden = s.line.forbidden; stopped = s.line.stopped }) ≡ resumed s
-unfolding resumed
-resume_met s left e = rw e
-
-pub lost_met : (s : State) (n : ℕ) → n ≡ counted s.counts.lost →
-    with_counts (with_notes s (record {
-      seen = record { brk = s.notes.seen.brk; overrun = true; key = s.notes.seen.key };
-      again = record { brk = s.notes.again.brk; overrun = true; key = s.notes.again.key };
-      request = s.notes.request;
-    })) (record { stored = s.counts.stored; lost = n; sent = s.counts.sent }) ≡ lost_state s
-unfolding lost_state
-lost_met s n a = rw a

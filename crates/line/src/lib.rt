@@ -9,7 +9,7 @@ ghost use Rattle.line.specs.Breaks.{Marked};
 
 use answers::Answer;
 use registers::Registers;
-use state::{Next, State};
+use state::{Counts, Line, Next, State};
 use store::Ring;
 
 // The state after a line byte, and the room that is left in the receive store.
@@ -20,6 +20,7 @@ pub struct Took {
 }
 
 // Whether a line byte is go or stop with the receiver protocol on.
+#[tactic(auto, unfolding(crate::specs::HoldingOff::is_go_or_stop))]
 fn is_go_or_stop(g: Registers, b: u8) -> bool
     ensures { result ≡ is_go_or_stop g b }
 {
@@ -27,43 +28,56 @@ fn is_go_or_stop(g: Registers, b: u8) -> bool
 }
 
 // Go permits our sending and stop forbids it.
+#[tactic(auto, unfolding(crate::specs::HoldingOff::flowed))]
 fn permitted(s: State, b: u8) -> State
     ensures { result ≡ flowed s b }
 {
-    let mut t = s;
-    let forbidden = b == s.regs.c05;
-    t.line.forbidden = forbidden;
-    t
+    State {
+        line: Line {
+            forbidden: b == s.regs.c05,
+            ..s.line
+        },
+        ..s
+    }
 }
 
 // The state after a byte stored, with the ring and the room that it left.
+#[tactic(auto, unfolding(crate::specs::HoldingOff::stored_with))]
 fn stored(s: State, ring: Ring, left: usize) -> State
     requires { left ≡ room ring }
     ensures { result ≡ stored_with s ring }
 {
-    let mut t = s;
-    t.rx = ring;
-    let count = std::num::wrapping_add_u32(s.counts.stored, 1);
-    t.counts.stored = count;
-    let near = left <= s.margin;
-    let holding = s.line.holding | (registers::meanings::protocol_on(s.regs) & near);
-    t.line.holding = holding;
-    t
+    State {
+        rx: ring,
+        line: Line {
+            holding: s.line.holding
+                | (registers::meanings::protocol_on(s.regs) & (left <= s.margin)),
+            ..s.line
+        },
+        counts: Counts {
+            stored: std::num::wrapping_add_u32(s.counts.stored, 1),
+            ..s.counts
+        },
+        ..s
+    }
 }
 
 // The state after a byte lost.
+// Kept: the notes are set in place, as those of a break and of the key are, since a struct update would write out each part on three levels.
+#[tactic(auto, unfolding(crate::specs::HoldingOff::lost_state))]
 fn lost(s: State) -> State
     ensures { result ≡ lost_state s }
 {
     let mut t = s;
     t.notes.seen.overrun = true;
     t.notes.again.overrun = true;
-    let count = std::num::wrapping_add_u32(s.counts.lost, 1);
-    t.counts.lost = count;
+    t.counts.lost = std::num::wrapping_add_u32(s.counts.lost, 1);
     t
 }
 
 // A byte that comes in from the line: go and stop are never stored, any other byte is stored or lost. The room told is what the store answered.
+// Kept: a state and the store that is lent with it stay two arguments, since each call of the bridge lends one store to be read and one to be written,
+// in turn, so that no one type holds them.
 pub fn taken(s: State, rx: &mut [u16], b: u8) -> Took
     requires { RxFits s rx.old }
     ensures { Taken s rx.old b rx.new result }
@@ -86,47 +100,51 @@ pub fn taken(s: State, rx: &mut [u16], b: u8) -> Took
 }
 
 // A break taken: the newest cell held is marked, and where nothing is held nothing is written.
+#[tactic(auto, unfolding(crate::specs::Breaks::break_cells))]
 pub fn mark_break(s: State, rx: &mut [u16])
     requires { RxFits s rx.old }
     ensures { Marked s rx.old rx.new }
 {
-    let ring = s.rx;
-    if 0 < ring.len {
-        let newest = store::look(rx, ring, ring.len - 1);
-        let mark = reading::marked(newest);
-        cells::replace_newest(rx, ring, mark);
+    if 0 < s.rx.len {
+        let newest = store::look(rx, s.rx, s.rx.len - 1);
+        cells::replace_newest(rx, s.rx, reading::marked(newest));
     }
 }
 
 // A send that leaves twice the margin free or more ends holding off.
+#[tactic(auto, unfolding(crate::specs::HoldingOff::resumed))]
 pub fn resume(s: State) -> State
     requires within { Within s.rx }
     requires margin_bound { s.margin ≤ 1024 }
     ensures { result ≡ resumed s }
 {
-    let mut t = s;
-    let left = store::room(s.rx);
-    let enough = 2 * s.margin;
-    let holding = s.line.holding & !(enough <= left);
-    t.line.holding = holding;
-    t
+    State {
+        line: Line {
+            holding: s.line.holding & !(2 * s.margin <= store::room(s.rx)),
+            ..s.line
+        },
+        ..s
+    }
 }
 
 // The state after a register write; writing R11 sets holding off afresh and lifts the other end's stop.
+#[tactic(auto, unfolding(crate::specs::HoldingOff::after_write, crate::specs::HoldingOff::set_afresh))]
 pub fn after_write(s: State, n: u32, g: Registers) -> State
     requires { Within s.rx }
     ensures { result ≡ after_write s n g }
 {
-    let mut t = s;
-    t.regs = g;
     if n == 11 {
-        let near = store::room(s.rx) <= s.margin;
-        let holding = registers::meanings::protocol_on(g) & near;
-        t.line.holding = holding;
-        t.line.forbidden = false;
-        return t;
+        return State {
+            regs: g,
+            line: Line {
+                holding: registers::meanings::protocol_on(g) & (store::room(s.rx) <= s.margin),
+                forbidden: false,
+                ..s.line
+            },
+            ..s
+        };
     }
-    t
+    State { regs: g, ..s }
 }
 
 // Which line byte is next, if any; nothing changes.

@@ -1,7 +1,6 @@
--- Data frames that pass, and a frame taken by its kind. Assumes nothing.
-use Rattle.std.proofs.Common.{◌≡◌, ℕ, ◌<◌, ◌≤◌, true, false, cond, eqb, List, sym, refl, ap, ◌∙◌, arith, ltb-true, eq-eqb, ne_eqb, le-leb}
+-- What a listener stores, and a frame taken by its kind. Assumes nothing.
+use Rattle.std.proofs.Common.{◌≡◌, ℕ, ◌<◌, ◌≤◌, true, false, eqb, List, sym, refl, ap, ◌∙◌, arith, ltb-true, eq-eqb, ne_eqb, le-leb}
 use borrow.Author.Tests.{lt-leb}
-use Rattle.branches.proofs.Branches.{cond_true, cond_false}
 use Rattle.frame.specs.Frame.{control_of, data_of, is_data}
 use Rattle.store.specs.declared.Ring.{Ring}
 use Rattle.store.specs.Ring.{Within, puts_ring, puts_bytes}
@@ -13,7 +12,7 @@ use Rattle.state.specs.State.{with_tx}
 use Rattle.role.proofs.Clears.{clear_order}
 use Rattle.loopside.specs.LoopToLine.{adds, added_state, added_bytes, Added}
 use Rattle.state.specs.Conditions.{serviced, settled_outcome}
-use Rattle.loopside.specs.Frames.{ready, returned, data_passed, Passed, identify, command_settled, frame_taken, device_clear}
+use Rattle.loopside.specs.Frames.{ready, returned, Passed, identify, command_settled, frame_taken, device_clear}
 use Rattle.loopside.specs.Frames.{frame_settled, adds_bytes, frame_bytes, Framed}
 use Rattle.loopside.proofs.Within.{settled_in, returned_in, command_in, ready_in, identified_in}
 
@@ -27,29 +26,6 @@ left_met s tx f tx' o l e p h =
       bytes = p.bytes ∙ ap (puts_bytes tx s.tx) (sym e);
       size = p.size;
     }
-
-module _ (s : State) (tx : List ℕ) (f x : ℕ) (q : x ≡ serviced s f) where
-  pub passed_left : (tx' : List ℕ) (t : State) → s.talker.role.listener ≡ true → Added s tx f tx' t → Passed s tx f tx' (record { state = t; answer = Frame x })
-  unfolding data_passed
-  passed_left tx' t h l =
-      let e : t ≡ cond s.talker.role.listener (added_state s f) s = l.state ∙ sym (cond_true s.talker.role.listener (added_state s f) s h) in
-      record {
-        outcome = λ i. record { state = e i; answer = Frame (q i) };
-        within = l.within;
-        bytes = l.bytes ∙ sym (cond_true s.talker.role.listener (added_bytes s tx f) tx h);
-        size = l.size;
-      }
-
-  pub passed_by : s.talker.role.listener ≡ false → Within s.tx → Passed s tx f tx (record { state = s; answer = Frame x })
-  unfolding data_passed
-  passed_by h k =
-      let e : s ≡ cond s.talker.role.listener (added_state s f) s = sym (cond_false s.talker.role.listener (added_state s f) s h) in
-      record {
-        outcome = λ i. record { state = e i; answer = Frame (q i) };
-        within = k;
-        bytes = sym (cond_false s.talker.role.listener (added_bytes s tx f) tx h);
-        size = refl;
-      }
 
 -- a frame that is no command is no device clear
 no_clear : (s : State) (f : ℕ) → eqb (control_of f) 4 ≡ false → device_clear s f ≡ false

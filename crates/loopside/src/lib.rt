@@ -10,12 +10,13 @@ ghost use Rattle.loopside.specs.Frames.{cleared, obeyed, command_settled, ready,
 use answers::Answer;
 use registers::Registers;
 use role::{Order, Ready};
-use state::{Outcome, State};
+use state::{Line, Notes, Outcome, State};
 use talker::Return;
 
 pub mod talk;
 
 // How many bytes a data frame adds to the transmit store.
+#[tactic(auto, unfolding(crate::specs::LoopToLine::adds))]
 fn added(g: Registers, f: u16) -> usize
     ensures { result ≡ length (adds g f) }
 {
@@ -27,20 +28,24 @@ fn added(g: Registers, f: u16) -> usize
 }
 
 // Whether we are listener, the frame is data, and the transmit store lacks room for what it adds.
+#[tactic(auto, unfolding(crate::specs::LoopToLine::busy))]
 pub fn busy(s: State, f: u16) -> bool
     requires { Within s.tx }
     ensures { result ≡ busy s f }
 {
-    let room = store::room(s.tx);
-    (s.talker.role.listener & frame::is_data(f)) & (room < added(s.regs, f))
+    (s.talker.role.listener & frame::is_data(f)) & (store::room(s.tx) < added(s.regs, f))
 }
 
 // A listener stores the byte and, for an end byte, what ends a line.
+// Kept: a state and the store that is lent with it stay two arguments, since each call of the bridge lends one store to be read and one to be written,
+// in turn, so that no one type holds them.
 fn leave(s: State, tx: &mut [u8], f: u16) -> State
     requires { TxFits s tx.old }
     ensures { Added s tx.old f tx.new result }
 {
-    let one = store::put(tx, s.tx, frame::data_byte(f)).after.unwrap_or(s.tx);
+    let one = store::put(tx, s.tx, frame::data_byte(f))
+        .after
+        .unwrap_or(s.tx);
     if frame::is_end(f) & registers::meanings::end_inserted(s.regs) {
         let two = store::put(tx, one, s.regs.c02).after.unwrap_or(one);
         let three = store::put(tx, two, s.regs.c03).after.unwrap_or(two);
@@ -50,33 +55,37 @@ fn leave(s: State, tx: &mut [u8], f: u16) -> State
 }
 
 // The state after a device clear.
+#[tactic(auto, unfolding(crate::specs::Frames::cleared))]
 fn clear(s: State) -> State
     ensures { result ≡ cleared s }
 {
-    let mut t = s;
-    let receive = store::emptied(s.rx.cap);
-    let transmit = store::emptied(s.tx.cap);
-    let quiet = state::fitting::no_events();
-    t.rx = receive;
-    t.tx = transmit;
-    t.line.holding = false;
-    t.line.forbidden = false;
-    state::requests::with_notes(t, quiet, quiet, false)
+    State {
+        rx: store::emptied(s.rx.cap),
+        tx: store::emptied(s.tx.cap),
+        line: Line {
+            holding: false,
+            forbidden: false,
+            ..s.line
+        },
+        notes: Notes::default(),
+        ..s
+    }
 }
 
 // The talker and the remote flags after an order.
+#[tactic(auto, unfolding(crate::specs::Frames::obeyed))]
 fn obey(s: State, o: Order) -> State
     ensures { result ≡ obeyed s o }
 {
-    let mut t = s;
-    let heard = talker::obeyed(s.talker, o);
-    let flags = role::remote::obeyed(s.remote, o);
-    t.talker = heard;
-    t.remote = flags;
-    t
+    State {
+        talker: talker::obeyed(s.talker, o),
+        remote: role::remote::obeyed(s.remote, o),
+        ..s
+    }
 }
 
 // A command goes on unchanged; a device clear leaves no request, and any other command may begin one.
+#[tactic(auto, unfolding(crate::specs::Frames::command_settled, crate::specs::Frames::command, crate::specs::Frames::command_state))]
 fn command(s: State, f: u16) -> Outcome
     ensures { result ≡ command_settled s f }
 {
@@ -98,33 +107,29 @@ fn command(s: State, f: u16) -> Outcome
 }
 
 // A ready frame.
+#[tactic(auto, using(crate::proofs::Parts::address_next), unfolding(crate::specs::Frames::ready, crate::specs::Frames::readied))]
 fn readied(s: State, rx: &[u16], f: u16) -> Outcome
     requires { RxFits s rx.now }
     ensures { result ≡ ready s rx.now f }
 {
     let d = frame::data_byte(f);
-    let asked = role::ready_of(s.talker.role, d);
-    match asked {
-        Ready::Address => {
-            let mut t = s;
-            let named = talker::assigned(s.talker, d);
-            t.talker = named;
-            Outcome {
-                state: t,
-                answer: Answer::Frame(frame::make(5, d + 1)),
-            }
-        }
+    match role::ready_of(s.talker.role, d) {
+        Ready::Address => Outcome {
+            state: State {
+                talker: talker::assigned(s.talker, d),
+                ..s
+            },
+            answer: Answer::Frame(frame::make(5, d + 1)),
+        },
         Ready::Data => talk::send_from(s, rx),
         Ready::Status => talk::send_status(s),
-        Ready::Finish => {
-            let mut t = s;
-            let last = talker::finishing(s.talker);
-            t.talker = last;
-            Outcome {
-                state: t,
-                answer: Answer::Frame(f),
-            }
-        }
+        Ready::Finish => Outcome {
+            state: State {
+                talker: talker::finishing(s.talker),
+                ..s
+            },
+            answer: Answer::Frame(f),
+        },
         Ready::Pass => Outcome {
             state: s,
             answer: Answer::Frame(f),
@@ -133,12 +138,12 @@ fn readied(s: State, rx: &[u16], f: u16) -> Outcome
 }
 
 // The return of the frame under way.
+#[tactic(auto, unfolding(crate::specs::Frames::returned, crate::specs::Frames::judged))]
 fn back(s: State, rx: &[u16], f: u16) -> Outcome
     requires { RxFits s rx.now }
     ensures { result ≡ returned s rx.now f }
 {
-    let found = talker::return_of(s.talker, f);
-    match found {
+    match talker::return_of(s.talker, f) {
         Return::Damaged => talk::ended(s, 65),
         Return::StatusBack => {
             let told = state::requests::status_back(s, frame::data_byte(s.talker.under.frame));
@@ -150,21 +155,19 @@ fn back(s: State, rx: &[u16], f: u16) -> Outcome
 }
 
 // A data frame that is no return passes, with the service bit if a request shows; a listener stores it.
+#[tactic(auto, unfolding(crate::specs::Frames::data_passed))]
 fn pass_data(s: State, tx: &mut [u8], f: u16) -> Outcome
     requires { TxFits s tx.old }
     ensures { Passed s tx.old f tx.new result }
 {
-    let out = state::requests::serviced(s, f);
-    if s.talker.role.listener {
-        let t = leave(s, tx, f);
-        return Outcome {
-            state: t,
-            answer: Answer::Frame(out),
-        };
-    }
+    let state = if s.talker.role.listener {
+        leave(s, tx, f)
+    } else {
+        s
+    };
     Outcome {
-        state: s,
-        answer: Answer::Frame(out),
+        state,
+        answer: Answer::Frame(state::requests::serviced(s, f)),
     }
 }
 
@@ -187,12 +190,11 @@ pub fn frame_taken(s: State, rx: &[u16], tx: &mut [u8], f: u16) -> Outcome
     if control == 5 {
         return state::requests::settle(s, readied(s, rx, f));
     }
-    let out = state::requests::serviced(s, f);
     state::requests::settle(
         s,
         Outcome {
             state: s,
-            answer: Answer::Frame(out),
+            answer: Answer::Frame(state::requests::serviced(s, f)),
         },
     )
 }

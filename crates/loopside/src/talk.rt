@@ -6,22 +6,24 @@ ghost use Rattle.loopside.specs.Sends.{ended, rule_of, send_state, send_from, se
 use answers::Answer;
 use reading::Rule;
 use registers::Registers;
-use state::{Outcome, State};
+use state::{Counts, Outcome, State};
 
 // The ready frame 5,d ends our sending.
+#[tactic(auto, unfolding(crate::specs::Sends::ended))]
 pub fn ended(s: State, d: u8) -> Outcome
     ensures { result ≡ ended s d }
 {
-    let mut t = s;
-    let addressed = talker::ended(s.talker);
-    t.talker = addressed;
     Outcome {
-        state: t,
+        state: State {
+            talker: talker::ended(s.talker),
+            ..s
+        },
         answer: Answer::Frame(frame::make(5, d)),
     }
 }
 
 // The rule of the moment.
+#[tactic(auto, unfolding(crate::specs::Sends::rule_of))]
 fn rule_of(g: Registers) -> Rule
     ensures { result ≡ rule_of g }
 {
@@ -33,51 +35,47 @@ fn rule_of(g: Registers) -> Rule
 }
 
 // What is given is sent, or sending ends.
+#[tactic(auto, unfolding(crate::specs::Sends::send_state))]
 fn send_state(before: State, after: State, given: Option<u16>) -> Outcome
     ensures { result ≡ send_state before after given }
 {
     match given {
         None => ended(after, 64),
-        Some(f) => {
-            let mut t = after;
-            let active = talker::talking(after.talker, role::SENDING_DATA, f);
-            t.talker = active;
-            let count = std::num::wrapping_add_u32(after.counts.sent, 1);
-            t.counts.sent = count;
-            let out = state::requests::serviced(before, f);
-            Outcome {
-                state: t,
-                answer: Answer::Frame(out),
-            }
-        }
+        Some(f) => Outcome {
+            state: State {
+                talker: talker::talking(after.talker, role::SENDING_DATA, f),
+                counts: Counts {
+                    sent: std::num::wrapping_add_u32(after.counts.sent, 1),
+                    ..after.counts
+                },
+                ..after
+            },
+            answer: Answer::Frame(state::requests::serviced(before, f)),
+        },
     }
 }
 
 // A send from the receive store.
+#[tactic(auto, unfolding(crate::specs::Sends::send_from, crate::specs::Sends::removed_state))]
 pub fn send_from(s: State, rx: &[u16]) -> Outcome
     requires { RxFits s rx.now }
     ensures { result ≡ send_from s rx.now }
 {
     let o = sending::send_one(rule_of(s.regs), rx, s.rx);
-    let ring = o.ring;
-    let mut t = s;
-    t.rx = ring;
-    let after = line::resume(t);
-    let given = o.given;
-    send_state(s, after, given)
+    send_state(s, line::resume(State { rx: o.ring, ..s }), o.given)
 }
 
 // The status byte is sent.
+#[tactic(auto, unfolding(crate::specs::Sends::send_status))]
 pub fn send_status(s: State) -> Outcome
     ensures { result ≡ send_status s }
 {
     let f = frame::make(0, state::requests::status_of(s));
-    let out = state::requests::serviced(s, f);
-    let mut t = state::requests::status_sent(s);
-    let active = talker::talking(s.talker, role::SENDING_STATUS, f);
-    t.talker = active;
     Outcome {
-        state: t,
-        answer: Answer::Frame(out),
+        state: State {
+            talker: talker::talking(s.talker, role::SENDING_STATUS, f),
+            ..state::requests::status_sent(s)
+        },
+        answer: Answer::Frame(state::requests::serviced(s, f)),
     }
 }

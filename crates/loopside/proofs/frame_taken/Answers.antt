@@ -25,4 +25,4 @@ pub returns : goal.returns
 returns c =
     let q = c.control-control.ensures in
     taken_identify _ _ _ _ _ c.requires.tx_fits.ring.within (sym c.is_data.ensures ∙ c.if-is_data.false) (λ e. c.if-control-eq4.false (q ∙ e)) _ (λ e. c.if-control-eq5.false (q ∙ e))
-    (identify_met _ _ _ c.serviced-out.ensures) c.settle-2.ensures
+    (identify_met _ _ _ c.serviced.ensures) c.settle-2.ensures
