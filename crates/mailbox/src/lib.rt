@@ -1,5 +1,21 @@
 //! The mailbox: a software HP-IL/HP-IB interface. The state goes in by value and comes back; both stores of cells are lent at every call.
-#![tactic(auto)]
+#![tactic(auto, unfolding(
+// A call, and its refusals.
+crate::specs::Calls::step, crate::specs::Calls::checks, crate::specs::Calls::checks_on, crate::specs::Calls::refused_or,
+// What it does where it is not refused.
+crate::specs::Calls::not_refused, crate::specs::Calls::outcome, crate::specs::Calls::shown,
+// What it leaves in both stores.
+crate::specs::Calls::tobus_after, crate::specs::Calls::toloop_after,
+// What the bus does.
+crate::specs::BusSide::bus_command, crate::specs::BusSide::bus_clear, crate::specs::BusSide::bus_byte, crate::specs::BusSide::bus_cells,
+// What the bus is given.
+crate::specs::BusSide::bus_fetch, crate::specs::BusSide::given, crate::specs::BusSide::data_given,
+// Its status byte, and its lines.
+crate::specs::BusSide::status_given, crate::specs::BusSide::bus_lines), using(
+// What sizes that are obeyed give, and what a state that fits gives.
+mailstate::proofs::Fits::address_obeyed_lem, mailstate::proofs::Fits::tobus_fits, mailstate::proofs::Fits::toloop_fits,
+// Both polls are answered on one of eight lines.
+mailstate::proofs::Fits::loop_line, mailstate::proofs::Fits::bus_line))]
 
 ghost use Rattle.std.specs.Prelude.{◌≡◌, ◌<◌};
 ghost use Rattle.store.specs.Ring.{Fit};

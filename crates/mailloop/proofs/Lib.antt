@@ -1,3 +1,2 @@
--- `Sending` is of what is sent, `Parts` of all other frames.
-pub mod Sending
-pub mod Parts
+-- `Addresses` says that the address after one that was assigned fits in a byte.
+pub mod Addresses

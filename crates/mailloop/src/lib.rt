@@ -28,12 +28,12 @@ fn no_hold(enabled: bool) -> Hold
 {
     Hold {
         enabled,
-        held: false,
-        frame: 0,
+        ..Hold::default()
     }
 }
 
 // How polls are answered after the command with the data byte d.
+#[tactic(auto, unfolding(crate::specs::Messages::response_after))]
 fn response_after(s: State, d: u8) -> Response
     ensures { result ≡ response_after s d }
 {
@@ -47,6 +47,7 @@ fn response_after(s: State, d: u8) -> Response
 }
 
 // A command goes on unchanged.
+#[tactic(auto, unfolding(crate::specs::Messages::command, crate::specs::Messages::command_state))]
 fn command(s: State, f: u16) -> Outcome
     ensures { result ≡ command s f }
 {
@@ -80,6 +81,7 @@ fn passed(s: State, f: u16) -> Outcome
 }
 
 // Not ready for data has come round: the frame that was held back goes on.
+#[tactic(auto, unfolding(crate::specs::Messages::released))]
 fn released(s: State) -> Outcome
     ensures { result ≡ released s }
 {
@@ -89,6 +91,7 @@ fn released(s: State) -> Outcome
 }
 
 // The two IDs are sent by a talker that has nothing under way; any other ready frame passes.
+#[tactic(auto, unfolding(crate::specs::Messages::identities))]
 fn identities(s: State, f: u16) -> Outcome
     ensures { result ≡ identities s f }
 {
@@ -103,6 +106,7 @@ fn identities(s: State, f: u16) -> Outcome
 }
 
 // A ready frame.
+#[tactic(auto, unfolding(crate::specs::Messages::ready, crate::specs::Messages::readied), using(crate::proofs::Addresses::address_next))]
 fn readied(s: State, toloop: &[u16], f: u16) -> Outcome
     requires { Fit toloop.now s.toloop.ring }
     ensures { result ≡ ready s toloop.now f }
@@ -128,6 +132,7 @@ fn readied(s: State, toloop: &[u16], f: u16) -> Outcome
 }
 
 // An identify frame is answered with the poll's bit and the service bit.
+#[tactic(auto, unfolding(crate::specs::Messages::identify))]
 fn identify(s: State, f: u16) -> Outcome
     requires { s.response.line < 8 }
     ensures { result ≡ identify s f }
@@ -138,6 +143,7 @@ fn identify(s: State, f: u16) -> Outcome
 }
 
 // The return of the frame under way.
+#[tactic(auto, unfolding(crate::specs::Messages::judged))]
 fn back(s: State, toloop: &[u16], f: u16) -> Outcome
     requires { Fit toloop.now s.toloop.ring }
     ensures { result ≡ judged s toloop.now (return_of s.talker f) }
@@ -156,6 +162,7 @@ fn back(s: State, toloop: &[u16], f: u16) -> Outcome
 }
 
 // A listener keeps the byte. The frame goes on, or is held back while not ready is said.
+#[tactic(auto, unfolding(crate::specs::Messages::heard, way::specs::Way::left_in))]
 fn keep(s: State, tobus: &mut [u16], f: u16) -> Outcome
     requires { Fit tobus.old s.tobus.ring }
     ensures { Kept s tobus.old f tobus.new result }
@@ -177,6 +184,7 @@ fn keep(s: State, tobus: &mut [u16], f: u16) -> Outcome
 }
 
 // A frame that is not refused.
+#[tactic(auto, unfolding(crate::specs::Messages::frame_taken, crate::specs::Messages::data_taken, crate::specs::Messages::frame_cells))]
 pub fn frame_taken(s: State, tobus: &mut [u16], toloop: &[u16], f: u16) -> Outcome
     requires fit { Fit tobus.old s.tobus.ring }
     requires fit_2 { Fit toloop.now s.toloop.ring }

@@ -31,6 +31,7 @@ fn frame_of(c: u16) -> u16
 }
 
 // The frame with the service bit set where service was requested before the call.
+#[tactic(auto, unfolding(crate::specs::Sends::serviced))]
 pub fn serviced(s: State, f: u16) -> u16
     ensures { result ≡ serviced s f }
 {
@@ -42,6 +43,9 @@ pub fn serviced(s: State, f: u16) -> u16
 }
 
 // The ready frame 5,d ends our sending.
+// Kept: the bridge's loop side has the same over its own state, since a trait over both states, with its laws, would be longer than the
+// three lines that they share. So it is with serviced and send_status.
+#[tactic(auto, unfolding(crate::specs::Sends::ended))]
 pub fn ended(s: State, d: u8) -> Outcome
     ensures { result ≡ ended s d }
 {
@@ -53,6 +57,7 @@ pub fn ended(s: State, d: u8) -> Outcome
 }
 
 // The frame f of this source goes out.
+#[tactic(auto, unfolding(crate::specs::Sends::sends))]
 fn sends(before: State, after: State, f: u16, source: u8) -> Outcome
     ensures { result ≡ sends before after f source }
 {
@@ -69,6 +74,7 @@ fn sends(before: State, after: State, f: u16, source: u8) -> Outcome
 }
 
 // The oldest cell that waits for the loop goes out, or sending ends.
+#[tactic(auto, unfolding(crate::specs::Sends::send_waiting))]
 pub fn send_waiting(s: State, toloop: &[u16]) -> Outcome
     requires { Fit toloop.now s.toloop.ring }
     ensures { result ≡ send_waiting s toloop.now }
@@ -94,6 +100,7 @@ fn id_byte(n: u8) -> u8
 }
 
 // The device ID goes on after n of its bytes, or sending ends.
+#[tactic(auto, unfolding(crate::specs::Sends::send_id))]
 pub fn send_id(s: State, n: u8) -> Outcome
     ensures { result ≡ send_id s n }
 {
@@ -105,6 +112,7 @@ pub fn send_id(s: State, n: u8) -> Outcome
 }
 
 // The accessory ID goes out.
+#[tactic(auto, unfolding(crate::specs::Sends::send_accessory))]
 pub fn send_accessory(s: State) -> Outcome
     ensures { result ≡ send_accessory s }
 {
@@ -112,6 +120,7 @@ pub fn send_accessory(s: State) -> Outcome
 }
 
 // The status byte goes out.
+#[tactic(auto, unfolding(crate::specs::Sends::send_status))]
 pub fn send_status(s: State) -> Outcome
     ensures { result ≡ send_status s }
 {
@@ -131,6 +140,7 @@ pub fn send_status(s: State) -> Outcome
 }
 
 // The next frame of an active talker.
+#[tactic(auto, unfolding(crate::specs::Sends::send_next))]
 pub fn send_next(s: State, toloop: &[u16]) -> Outcome
     requires { Fit toloop.now s.toloop.ring }
     ensures { result ≡ send_next s toloop.now }

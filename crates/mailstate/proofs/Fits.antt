@@ -1,11 +1,11 @@
 -- What a state that fits gives to the functions of the mailbox. Assumes nothing.
 use Prim.Native.Nat.{ℕ, ◌<◌, ◌≤◌}
-use mathlib.Core.Path.{◌≡◌, sym, ◌∙◌}
+use mathlib.Core.Path.{◌≡◌}
 use mathlib.Core.List.{List}
-use mathlib.Core.Bool.{Bool, true, false, not, ◌&&◌}
+use mathlib.Core.Bool.{true, ◌&&◌}
 use lib.Dec.{leb, ltb}
 use lib.ListN.{length}
-use borrow.Author.Tests.{leb-true, ltb-true, not-true, not-false}
+use borrow.Author.Tests.{leb-true, ltb-true}
 use Rattle.branches.proofs.Branches.{and_left, and_right}
 use Rattle.store.specs.Ring.{Fit}
 use Rattle.store.proofs.Laws.{fit_true}
@@ -53,10 +53,3 @@ unfolding sizes_obeyed
 address_obeyed_lem a tobus toloop e =
     leb-true a 30
     (and_left (address_obeyed a) (store_obeyed tobus) (and_left (address_obeyed a && store_obeyed tobus) (store_obeyed toloop) e))
-
--- what the test of fit told
-pub is_misfit : {r t : Bool} → r ≡ t → not r ≡ true → t ≡ false
-is_misfit {r} e h = sym e ∙ not-true r h
-
-pub is_fit : {r t : Bool} → r ≡ t → not r ≡ false → t ≡ true
-is_fit {r} e h = sym e ∙ not-false r h

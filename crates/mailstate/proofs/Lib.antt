@@ -1,3 +1,2 @@
--- `Parts` composes the functions of this crate, `Fits` says what fitting gives.
-pub mod Parts
+-- `Fits` says what fitting gives.
 pub mod Fits

@@ -10,7 +10,8 @@ use talker::Talker;
 use way::Way;
 
 // Not ready for data: whether a listener says so, whether it holds a frame back meanwhile, and which.
-#[derive(Clone, Copy)]
+// Kept: held and frame are no Option, since a packed state keeps the frame while nothing is held, and a frame above 1023 is refused there too.
+#[derive(Clone, Copy, Default)]
 pub struct Hold {
     pub enabled: bool,
     pub held: bool,
@@ -19,6 +20,7 @@ pub struct Hold {
 
 // tobus: what the loop leaves for the bus. toloop: what the bus leaves for the loop. source: where the frames of an active talker come
 // from, 0 for the way to the loop, and n from 1 to 10 for the device ID after its n first bytes.
+// Kept: source is no enum, since the packed state has a byte for it, and calls must refuse a number above 10 as a misfit, with 2.
 #[derive(Clone, Copy)]
 pub struct State {
     pub tobus: Way,
@@ -34,6 +36,7 @@ pub struct State {
 pub type Outcome = answers::Outcome<State>;
 
 // Whether create takes stores of these lengths and this bus address.
+#[tactic(auto, unfolding(crate::specs::Sizes::sizes_obeyed))]
 pub fn sizes_obeyed(address: u32, tobus: usize, toloop: usize) -> bool
     ensures { result ≡ sizes_obeyed address tobus toloop }
 {
@@ -41,6 +44,7 @@ pub fn sizes_obeyed(address: u32, tobus: usize, toloop: usize) -> bool
 }
 
 // The state after create and reset.
+#[tactic(auto, unfolding(crate::specs::Sizes::start_state))]
 pub fn start(address: u8, tobus: usize, toloop: usize) -> State
     ensures { result ≡ start_state address tobus toloop }
 {
@@ -54,17 +58,14 @@ pub fn start(address: u8, tobus: usize, toloop: usize) -> State
         toloop: other,
         talker: loopside,
         source: 0,
-        hold: Hold {
-            enabled: false,
-            held: false,
-            frame: 0,
-        },
+        hold: Hold::default(),
         response: polled,
         bus: busside,
     }
 }
 
 // Whether a state fits stores of these lengths.
+#[tactic(auto, unfolding(crate::specs::Sizes::fits))]
 pub fn state_fits(s: State, tobus: usize, toloop: usize) -> bool
     ensures { result ≡ fits s tobus toloop }
 {
