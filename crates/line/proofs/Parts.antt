@@ -1,5 +1,5 @@
 -- Line bytes in and out, and register writes. Assumes nothing.
-use Rattle.std.proofs.Common.{◌≡◌, ℕ, ◌*◌, ◌<◌, ◌≤◌, Bool, true, false, cond, not, ◌&&◌, ◌||◌, eqb, leb, List, get_or, sym, refl, ap, subst, ◌∙◌, arith, eq-eqb, ne_eqb}
+use Rattle.std.proofs.Common.{◌≡◌, ℕ, ◌<◌, ◌≤◌, Bool, true, false, cond, ◌||◌, eqb, List, get_or, sym, refl, ap, subst, ◌∙◌, arith}
 use mathlib.Core.Bool.{false≢true}
 use borrow.Author.Tests.{eqb-false, le-leb, lt-leb}
 use Rattle.registers.specs.Meanings.{stop}
@@ -11,9 +11,8 @@ use Rattle.store.specs.Promises.{Put, Dropped}
 use Rattle.state.specs.declared.State.{State}
 use Rattle.state.specs.declared.Next.{Next}
 use Rattle.state.specs.declared.Next.TheVariants.{Own, Held}
-use Rattle.state.specs.State.{with_registers, with_line, with_rx, with_tx, with_notes, with_counts}
-use Rattle.state.specs.Counts.{counted}
-use Rattle.line.specs.HoldingOff.{is_go_or_stop, flowed, stored_with, lost_state, line_state, line_bytes, Taken, resumed, set_afresh, after_write}
+use Rattle.state.specs.State.{with_tx}
+use Rattle.line.specs.HoldingOff.{is_go_or_stop, flowed, stored_with, lost_state, line_state, line_bytes, Taken}
 use Rattle.line.specs.HoldingOff.{owed, next_out, gone}
 
 -- ---- a line byte
