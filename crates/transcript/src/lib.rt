@@ -43,9 +43,10 @@ fn put_rest(x: &[u8], p: Sections, s: State, rx: &mut [u16], tx: &mut [u8], page
     requires room { length page.old.bytes + 1100 ≤ 1200 }
     ensures { page.new.bytes ≡ page.old.bytes ++ rest_text x.now p (world s rx.old tx.old) }
 {
-    let t = passing::line_bytes_in(s, rx, tx, x, 4 + 2 * p.regs, p.bytes);
-    let second = 6 + 2 * p.regs + p.bytes;
-    let u = passing::offer_frames(t, rx, tx, x, second, p.frames, page);
+    let bytes_at = 4 + 2 * p.regs;
+    let frames_at = 6 + 2 * p.regs + p.bytes;
+    let t = passing::line_bytes_in(s, rx, tx, &x[bytes_at..bytes_at + p.bytes]);
+    let u = passing::offer_frames(t, rx, tx, &x[frames_at..frames_at + 2 * p.frames], page);
     put_last(u, rx, tx, page);
 }
 
@@ -56,7 +57,7 @@ fn set_up(x: &[u8], p: Sections, rx: &[u16], tx: &[u8]) -> Result<State, Refusal
     ensures { Sets result (registers_set x.now p rx.now tx.now) }
 {
     let made = bridge::create(rx, tx, 8)?;
-    passing::set_registers(made.state, rx, tx, x, 2, p.regs)
+    passing::set_registers(made.state, rx, tx, &x[2..2 + 2 * p.regs])
 }
 
 // Sets the registers, and goes on where none is refused.

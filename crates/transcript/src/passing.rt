@@ -1,5 +1,6 @@
-// The passing of registers, line bytes and frames to the bridge, and the asking for and taking of line bytes. The room that a call tells is not printed.
-ghost use Rattle.std.specs.Prelude.{◌≡◌, ◌+◌, ◌*◌, ◌≤◌, ◌++◌, length, false, IfSome, IfNone};
+// The passing of registers, line bytes and frames to the bridge, each from its section of the input, and the asking for and taking of line bytes.
+// The room that a call tells is not printed.
+ghost use Rattle.std.specs.Prelude.{◌≡◌, ◌+◌, ◌*◌, ◌/◌, ◌≤◌, ◌++◌, length, false, IfSome, IfNone};
 ghost use Rattle.bridge.specs.Calls.{on, line_byte, loop_frame, world, step, ask_answer};
 ghost use Rattle.answers.specs.Answers.{byte, is_byte};
 ghost use Rattle.transcript.specs.Text.{answer_text};
@@ -14,21 +15,12 @@ use state::State;
 // The line bytes of a full store, our own go or stop, and the none.
 pub const ASKS: usize = 66;
 
-// Writes n registers from place i of the input, until one is refused.
-pub fn set_registers(
-    s: State,
-    rx: &[u16],
-    tx: &[u8],
-    x: &[u8],
-    i: usize,
-    n: usize,
-) -> Result<State, Refusal>
-    requires { i + 2 * n ≤ length x.now }
-    ensures { Sets result (set_registers n x.now i (world s rx.now tx.now)) }
+// Writes the register of each pair, its number and its value, until one is refused.
+pub fn set_registers(s: State, rx: &[u16], tx: &[u8], pairs: &[u8]) -> Result<State, Refusal>
+    ensures { Sets result (set_registers (length pairs.now / 2) pairs.now 0 (world s rx.now tx.now)) }
 {
     let mut t = s;
-    let (pairs, _) = x[i..i + 2 * n].as_chunks::<2>();
-    for &[number, value] in pairs {
+    for &[number, value] in pairs.as_chunks::<2>().0 {
         t = bridge::write_register(t, rx, tx, u32::from(number), u32::from(value))?.state;
     }
     Ok(t)
@@ -44,13 +36,12 @@ fn one_byte_in(s: State, rx: &mut [u16], tx: &[u8], b: u8) -> State
     }
 }
 
-// Takes in n line bytes from place i of the input.
-pub fn line_bytes_in(s: State, rx: &mut [u16], tx: &[u8], x: &[u8], i: usize, n: usize) -> State
-    requires { i + n ≤ length x.now }
-    ensures { world result rx.new tx.now ≡ line_bytes_in n x.now i (world s rx.old tx.now) }
+// Takes the line bytes in.
+pub fn line_bytes_in(s: State, rx: &mut [u16], tx: &[u8], bytes: &[u8]) -> State
+    ensures { world result rx.new tx.now ≡ line_bytes_in (length bytes.now) bytes.now 0 (world s rx.old tx.now) }
 {
     let mut t = s;
-    for &b in &x[i..i + n] {
+    for &b in bytes {
         t = one_byte_in(t, rx, tx, b);
     }
     t
@@ -76,25 +67,15 @@ fn offer(s: State, rx: &[u16], tx: &mut [u8], frame: u32, page: &mut Page) -> St
     }
 }
 
-// Offers n frames from place i of the input, and writes the line of each answer.
-pub fn offer_frames(
-    s: State,
-    rx: &[u16],
-    tx: &mut [u8],
-    x: &[u8],
-    i: usize,
-    n: usize,
-    page: &mut Page,
-) -> State
-    requires items { i + 2 * n ≤ length x.now }
-    requires room { length page.old.bytes + 12 * n ≤ 1200 }
-    ensures world { world result rx.now tx.new ≡ frames_world n x.now i (world s rx.now tx.old) }
-    ensures text { page.new.bytes ≡ page.old.bytes ++ frames_text n x.now i (world s rx.now tx.old) }
-    ensures short { length page.new.bytes ≤ length page.old.bytes + 12 * n }
+// Offers the frames, of two bytes each, and writes the line of each answer.
+pub fn offer_frames(s: State, rx: &[u16], tx: &mut [u8], frames: &[u8], page: &mut Page) -> State
+    requires { length page.old.bytes + 6 * length frames.now ≤ 1200 }
+    ensures world { world result rx.now tx.new ≡ frames_world (length frames.now / 2) frames.now 0 (world s rx.now tx.old) }
+    ensures text { page.new.bytes ≡ page.old.bytes ++ frames_text (length frames.now / 2) frames.now 0 (world s rx.now tx.old) }
+    ensures short { length page.new.bytes ≤ length page.old.bytes + 6 * length frames.now }
 {
     let mut t = s;
-    let (frames, _) = x[i..i + 2 * n].as_chunks::<2>();
-    for &frame in frames {
+    for &frame in frames.as_chunks::<2>().0 {
         t = offer(t, rx, tx, u32::from(u16::from_be_bytes(frame)), page);
     }
     t

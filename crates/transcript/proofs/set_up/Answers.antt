@@ -1,10 +1,11 @@
-use Rattle.std.proofs.Common.{◌≡◌, ◌∙◌, ap, subst}
+use Rattle.std.proofs.Common.{arith, ◌≡◌, ◌∙◌, ap, subst}
 use Rattle.answers.specs.Answers.{refused, number_of, done}
 use Rattle.state.specs.declared.State.{State}
 use Rattle.bridge.specs.Calls.{world, Did}
 use Rattle.laws.proofs.OneResult.{create_state}
 use Rattle.transcript.specs.Transcript.{Sets, set_registers}
 use Rattle.transcript.proofs.Start.{made}
+use Rattle.transcript.proofs.Turns.{set_cut}
 use Rattle.transcript.proofs.set_up.Goals as goal
 
 pub returns-in_err-made : goal.returns-in_err-made
@@ -15,5 +16,8 @@ returns-in_err-made c =
 
 pub returns : goal.returns
 returns c =
-    subst (λ (s : State). Sets c.set_registers.result (set_registers c.args.p.regs c.args.x.now 2 (world s c.args.rx.now c.args.tx.now)))
-    (create_state 8 _ _ _ c.in_ok-made.ensures) c.set_registers.ensures
+    let x = c.args.x.now in
+    let n = c.args.p.regs in
+    let cut = set_cut x 2 n _ (omega (arith, c.requires.whole.all)) in
+    let made = ap (λ (s : State). set_registers n x 2 (world s c.args.rx.now c.args.tx.now)) (create_state 8 _ _ _ c.in_ok-made.ensures) in
+    subst (Sets c.set_registers.result) (cut ∙ made) c.set_registers.ensures

@@ -1,4 +1,4 @@
-use Rattle.std.proofs.Common.{◌≡◌, ◌+◌, ◌-◌, ◌*◌, ◌≤◌, ◌++◌, length}
+use Rattle.std.proofs.Common.{◌≡◌, ◌+◌, ◌-◌, ◌*◌, ◌/◌, ◌≤◌, ◌++◌, length}
 use Rattle.bridge.specs.Calls.{world}
 use Rattle.transcript.specs.Transcript.{frames_text, frames_world}
 use Rattle.transcript.proofs.passing.offer_frames.Given as goal
@@ -6,9 +6,10 @@ use Rattle.transcript.proofs.passing.offer_frames.Given as goal
 abbrev pub invariant-loop-frame : goal.invariant-loop-frame
 invariant-loop-frame l = record {
   reached :
-      frames_world (l.n - l.frame-index) l.x (l.i + 2 * l.frame-index) (world l.t l.rx l.tx) ≡ frames_world l.n l.x l.i (world l.initial.t l.rx l.initial.tx);
+      frames_world (length l.frames / 2 - l.frame-index) l.frames (2 * l.frame-index) (world l.t l.rx l.tx)
+      ≡ frames_world (length l.frames / 2) l.frames 0 (world l.initial.t l.rx l.initial.tx);
   text :
-      l.page.bytes ++ frames_text (l.n - l.frame-index) l.x (l.i + 2 * l.frame-index) (world l.t l.rx l.tx)
-      ≡ l.initial.page.bytes ++ frames_text l.n l.x l.i (world l.initial.t l.rx l.initial.tx);
+      l.page.bytes ++ frames_text (length l.frames / 2 - l.frame-index) l.frames (2 * l.frame-index) (world l.t l.rx l.tx)
+      ≡ l.initial.page.bytes ++ frames_text (length l.frames / 2) l.frames 0 (world l.initial.t l.rx l.initial.tx);
   short : length l.page.bytes ≤ length l.initial.page.bytes + 12 * l.frame-index;
 }
