@@ -7,10 +7,11 @@ use lib.ListN.{length}
 use Rattle.std.specs.Prelude.{Result, Ok, Err, OnOk}
 use Rattle.branches.proofs.Branches.{cond_false}
 use Rattle.answers.specs.declared.Refusal.{Refusal}
-use Rattle.answers.specs.Answers.{said}
+use Rattle.answers.specs.Answers.{said, refused}
+use Rattle.answers.specs.Word.{word}
 use Rattle.answers.proofs.Answers.{answer_told}
 use Rattle.boundary.specs.CCalls.{lent, c_did, c_step, state_in, block_after}
-use Rattle.boundary.proofs.Closing.{may_write, written, create_written}
+use Rattle.boundary.proofs.Closing.{may_write, written, wrong_length, create_written}
 use Rattle.mailstate.specs.declared.State.{State}
 use Rattle.mailstate.specs.Outcome.{Outcome}
 use Rattle.mailblock.specs.Packed.{packed, block_len}
@@ -33,7 +34,10 @@ module _ (c : OnState) (b xs ys xs' ys' : List ℕ) (s : State) (m : s ≡ state
   finished_met (Ok x) e n b' (p, q) = written mailboxes formed c b xs ys s m (did s (Ok x) xs' ys') e n b' (p, packed_after b x b' q) refl
   finished_met (Err r) e n b' t = written mailboxes formed c b xs ys s m (did s (Err r) xs' ys') e n b' t refl
 
--- create
+-- create, for a block of another length and for one of that length
+pub unmade_met : (a : ℕ) (b xs ys : List ℕ) (n : ℕ) → (length b ≡ block_len → ⊥) → n ≡ word (refused 1) → c_did n b xs ys ≡ c_step mailboxes (create a) (lent b xs ys)
+unmade_met = wrong_length mailboxes formed
+
 pub made_met : (a : ℕ) (b xs ys : List ℕ) → length b ≡ block_len → (o : Result Outcome Refusal) →
     did (unmade xs ys).state o xs ys ≡ step (create a) (unmade xs ys) → (n : ℕ) (b' : List ℕ) → Finished b o n b' →
     c_did n b' xs ys ≡ c_step mailboxes (create a) (lent b xs ys)

@@ -34,6 +34,7 @@ pub extern "C" fn raftershim_mailbox_block_len() -> usize
 
 // Makes a state for these stores in the block, at this bus address.
 #[unsafe(no_mangle)]
+#[tactic(auto, using(crate::proofs::Finishing::made_met, crate::proofs::Finishing::unmade_met))]
 pub extern "C" fn raftershim_mailbox_create(
     block: &mut [u8],
     tobus: &[u16],
@@ -53,6 +54,7 @@ pub extern "C" fn raftershim_mailbox_create(
 
 // Resets the state.
 #[unsafe(no_mangle)]
+#[tactic(auto, using(crate::proofs::Finishing::may_finish, crate::proofs::Finishing::finished_met))]
 pub extern "C" fn raftershim_mailbox_reset(block: &mut [u8], tobus: &[u16], toloop: &[u16]) -> u64
     ensures { CPromised (on reset)
         (lent block.old tobus.now toloop.now)
@@ -65,6 +67,7 @@ pub extern "C" fn raftershim_mailbox_reset(block: &mut [u8], tobus: &[u16], tolo
 
 // Takes a frame from the loop, and gives one.
 #[unsafe(no_mangle)]
+#[tactic(auto, using(crate::proofs::Finishing::may_finish, crate::proofs::Finishing::finished_met))]
 pub extern "C" fn raftershim_mailbox_loop_frame(
     block: &mut [u8],
     tobus: &mut [u16],
@@ -82,6 +85,7 @@ pub extern "C" fn raftershim_mailbox_loop_frame(
 
 // Takes a command from the bus.
 #[unsafe(no_mangle)]
+#[tactic(auto, using(crate::proofs::Finishing::may_finish, crate::proofs::Finishing::finished_met))]
 pub extern "C" fn raftershim_mailbox_bus_command(
     block: &mut [u8],
     tobus: &[u16],
@@ -99,6 +103,7 @@ pub extern "C" fn raftershim_mailbox_bus_command(
 
 // Takes a data byte from the bus; its end is marked unless `end` is 0.
 #[unsafe(no_mangle)]
+#[tactic(auto, using(crate::proofs::Finishing::may_finish, crate::proofs::Finishing::finished_met))]
 pub extern "C" fn raftershim_mailbox_bus_byte(
     block: &mut [u8],
     tobus: &[u16],
@@ -117,6 +122,7 @@ pub extern "C" fn raftershim_mailbox_bus_byte(
 
 // Gives the bus its next byte.
 #[unsafe(no_mangle)]
+#[tactic(auto, using(crate::proofs::Finishing::may_finish, crate::proofs::Finishing::finished_met))]
 pub extern "C" fn raftershim_mailbox_bus_fetch(
     block: &mut [u8],
     tobus: &[u16],
@@ -133,6 +139,7 @@ pub extern "C" fn raftershim_mailbox_bus_fetch(
 
 // Takes an interface clear of the bus.
 #[unsafe(no_mangle)]
+#[tactic(auto, using(crate::proofs::Finishing::may_finish, crate::proofs::Finishing::finished_met))]
 pub extern "C" fn raftershim_mailbox_bus_clear(
     block: &mut [u8],
     tobus: &[u16],
@@ -149,6 +156,7 @@ pub extern "C" fn raftershim_mailbox_bus_clear(
 
 // Shows the bus lines; the block is not written.
 #[unsafe(no_mangle)]
+#[tactic(auto, using(crate::proofs::Lines::lines_met))]
 pub extern "C" fn raftershim_mailbox_bus_lines(block: &[u8], tobus: &[u16], toloop: &[u16]) -> u64
     ensures { CPromised (on bus_lines)
         (lent block.now tobus.now toloop.now)

@@ -37,6 +37,7 @@ pub enum Contents {
 }
 
 // The registers after create and reset.
+#[tactic(auto, unfolding(crate::specs::Table::table, crate::specs::Table::row_in, crate::specs::Table::start_of, crate::specs::Table::start_registers))]
 pub fn start() -> Registers
     ensures { result ≡ start_registers }
 {
@@ -57,6 +58,9 @@ pub fn start() -> Registers
 
 // What the register of this number carries; none where there is no such register, or the bridge doesn't carry it.
 // Kept: a register is its number and no enum, since C and the app can give any number, and one that is not carried is refused.
+#[tactic(auto, unfolding(crate::specs::Table::table, crate::specs::Table::row_in, crate::specs::Table::carried_of, crate::specs::Table::carries),
+// A number from 16 to 21 is that of a character, and one without a row carries nothing.
+using(crate::proofs::Wording::character_carried, crate::proofs::Wording::nothing_carried))]
 pub fn carried(n: u32) -> Option<Contents>
     ensures { result ≡ carries (carried_of n) }
 {
@@ -72,6 +76,7 @@ pub fn carried(n: u32) -> Option<Contents>
 }
 
 // Whether a value is above what a register that carries this can hold.
+#[tactic(auto, unfolding(crate::specs::Bits::too_large), using(crate::proofs::Wording::character_is, crate::proofs::Wording::bits_are))]
 fn too_large(k: Contents, v: u32) -> bool
     ensures { (n : ℕ) → Some k ≡ carries n → result ≡ too_large n v }
 {
@@ -82,6 +87,7 @@ fn too_large(k: Contents, v: u32) -> bool
 }
 
 // Whether a control value has a bit that is not among those carried.
+#[tactic(auto, unfolding(crate::specs::Bits::bit_not_carried), using(crate::proofs::Wording::character_is))]
 fn bit_not_carried(k: Contents, v: u32) -> bool
     ensures { (n : ℕ) → Some k ≡ carries n → result ≡ bit_not_carried n v }
 {
@@ -97,6 +103,7 @@ fn bit_not_carried(k: Contents, v: u32) -> bool
 }
 
 // Whether the register of this number can hold the value.
+#[tactic(auto, unfolding(crate::specs::Bits::in_range), using(crate::proofs::Wording::none_is, crate::proofs::Wording::nothing_held))]
 fn in_range(n: u32, x: u8) -> bool
     ensures { result ≡ in_range (carried_of n) x }
 {
@@ -115,6 +122,7 @@ fn put(own: bool, v: u8, old: u8) -> u8
 }
 
 // The registers with this one written; no write that is accepted has a value above 255.
+#[tactic(auto, unfolding(crate::specs::Writing::written))]
 pub fn written(g: Registers, n: u32, v: u32) -> Registers
     ensures { result ≡ written g n (v % 256) }
 {
@@ -155,6 +163,7 @@ pub fn refused(g: Registers, n: u32, v: u32) -> Result<(), Refusal>
 }
 
 // Whether control registers have carried bits only, and go and stop differ.
+#[tactic(auto, using(crate::proofs::Flat::flat))]
 pub fn registers_fit(g: Registers) -> bool
     ensures { result ≡ registers_fit g }
 {

@@ -1,10 +1,6 @@
 use Rattle.registers.specs.Bits.{bit_not_carried}
-use Rattle.registers.proofs.Wording.{character_is, bits_are}
+use Rattle.registers.proofs.Wording.{bits_are}
 use Rattle.registers.proofs.bit_not_carried.Goals as goal
-
-pub returns-in-Character : goal.returns-in-Character
-unfolding bit_not_carried
-returns-in-Character c n e = let q = character_is n (cc) in rw q
 
 pub returns-in-Bits : goal.returns-in-Bits
 unfolding bit_not_carried

@@ -1,9 +1,0 @@
-use Rattle.mailbox.specs.Calls.{bus_fetch}
-use Rattle.cmailbox.proofs.Finishing.{may_finish, finished_met}
-use Rattle.cmailbox.proofs.raftershim_mailbox_bus_fetch.Goals as goal
-
-pub finished-requires : goal.finished-requires
-finished-requires c = may_finish bus_fetch _ _ _ _ _ _ c.meaning-s.ensures _ c.bus_fetch-o.ensures
-
-pub returns : goal.returns
-returns c = finished_met bus_fetch _ _ _ _ _ _ c.meaning-s.ensures _ c.bus_fetch-o.ensures _ _ c.finished.ensures
