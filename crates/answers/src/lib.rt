@@ -7,6 +7,7 @@ ghost use Rattle.answers.specs.Word.{word, word_with};
 
 // A call that is not refused answers no more than done, says that no byte is next, says a line byte, gives a frame, or, on the bus of a
 // mailbox, gives a cell or the lines.
+// Kept: one type for the answers of both products, so that their numbers are proved once; Nothing is an answer with a number of its own.
 #[derive(Clone, Copy)]
 pub enum Answer {
     Done,
@@ -41,7 +42,7 @@ pub struct Outcome<S> {
     pub answer: Answer,
 }
 
-// The number of a refusal.
+// The number of a refusal, as C and the paper have it; 11 is none.
 impl From<Refusal> for u8 {
     ghost from_gives = { λ r n. n ≡ number_of r };
 
@@ -63,8 +64,10 @@ impl From<Refusal> for u8 {
     }
 }
 
-// The number that an answer or a refusal is: its kind above 16 bits of value.
-#[tactic(auto, unfolding(crate::specs::Answers::said, crate::specs::Word::word, crate::specs::Word::kind_of, crate::specs::Word::value_of), using(crate::proofs::Word::whole_frame))]
+// The number that an answer or a refusal is: its kind above 16 bits of value. The kinds are C's, and a byte and a cell have the same one.
+#[tactic(auto, unfolding(crate::specs::Answers::said, crate::specs::Word::word, crate::specs::Word::kind_of, crate::specs::Word::value_of),
+// A frame is the number that its parts make.
+using(crate::proofs::Word::whole_frame))]
 fn number(a: Result<Answer, Refusal>) -> u64
     ensures { (result ≡ word (said_by a)) × (result < 16777216) }
 {

@@ -24,9 +24,9 @@ pub fn block_len() -> usize
     LENGTH
 }
 
-// Kept beside its twin in mailblock: a trait for both would need a type of its own here, as the state is another crate's, and is longer than they are.
-
 // Writes the bytes of a state over a block.
+// Kept beside its twin in mailblock, as are the other parts here: no trait of ours can be of another crate's state, and closures
+// for each part are no plainer.
 pub fn pack(block: &mut [u8], s: State)
     requires { length block.old ≡ block_len }
     ensures { block.new ≡ packed s }

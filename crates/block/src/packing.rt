@@ -6,6 +6,8 @@ use crate::VERSION;
 use state::State;
 
 // The bytes of the version, the margin, the rings and the counts.
+// Kept beside the twin in mailblock: each row is a place of the packed block. All bytes stand in one list, so that those which stand together
+// are packed at once.
 pub fn packed_head(s: State) -> [u8; 27]
     ensures { result ≡ packed_head s }
 {

@@ -30,6 +30,8 @@ fn registers_at(b: &[u8; LENGTH]) -> Registers
 }
 
 // The talker in a block: its role and the frame under way.
+// Kept beside the twin in mailblock: its numbers are the places of that block. A flag is read by its lowest bit, here and below, as the
+// definition reads it.
 fn talker_at(b: &[u8; LENGTH]) -> Talker
     ensures { result ≡ (state_at b.now).talker }
 {

@@ -5,6 +5,7 @@ ghost use Rattle.block.specs.Packed.{layout};
 use crate::{LENGTH, VERSION};
 
 // Whether the first byte of a block is the version, and every flag of it 1 or 0.
+// Kept beside the twin in mailblock: its numbers are the places of that block.
 pub fn right(b: &[u8; LENGTH]) -> bool
     ensures { result ≡ layout.right b.now 0 }
 {

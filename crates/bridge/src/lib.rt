@@ -14,6 +14,7 @@ use answers::{Answer, Refusal};
 use state::{Outcome, State};
 
 // What a call gives that tells a room: its outcome, and the room of a store after it.
+// Kept: a type of its own beside Took and Offered, which tell a room as well, since each stands for another step and here it has 16 bits.
 #[derive(Clone, Copy)]
 pub struct Told {
     pub outcome: Outcome,
@@ -21,6 +22,7 @@ pub struct Told {
 }
 
 // Refuses a state that does not fit the lent stores.
+// Kept beside its twin in mailbox, as `done` is: a trait over both states is longer than the lines that they share.
 fn fitting(s: State, rx: &[u16], tx: &[u8]) -> Result<(), Refusal>
     ensures { fault_in result ≡ first_refusal (misfit (world s rx.now tx.now) ∷ []) }
 {
@@ -128,6 +130,7 @@ pub fn take_key(s: State, rx: &[u16], tx: &[u8]) -> Result<Outcome, Refusal>
 }
 
 // Says which line byte is next, or none; nothing changes.
+// Kept: an Answer and no Option, since every call of the bridge promises an answer, and C is told its number.
 pub fn ask_line_byte(s: State, rx: &[u16], tx: &[u8]) -> Result<Answer, Refusal>
     ensures { Promised (on ask_line_byte) (world s rx.now tx.now)
         (looked (said_by result) (world s rx.now tx.now)) }

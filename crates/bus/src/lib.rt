@@ -21,6 +21,7 @@ pub struct Bus {
 }
 
 // What the bus is given when it asks for a byte.
+// Kept: silence is what the bus is given too, so it is a case and no None.
 #[derive(Clone, Copy)]
 pub enum Fetch {
     Silent,

@@ -1,4 +1,4 @@
-//! What a store of 16-bit cells does besides: its newest cell is written again. The store is the ring of crate store.
+//! What a store of cells does besides: its newest cell is written again. The store is the ring of crate store.
 #![tactic(auto)]
 
 ghost use Rattle.std.specs.Prelude.{◌<◌};

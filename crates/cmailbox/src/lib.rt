@@ -11,6 +11,7 @@ use answers::Refusal;
 use mailstate::{Outcome, State};
 
 // Writes the state over the block, unless the call was refused, and gives the answer's number.
+// Kept beside its twin in raftershim: it packs another state, and tells no room.
 fn finished(block: &mut [u8], o: Result<Outcome, Refusal>) -> u64
     requires { OnOk o (length block.old ≡ block_len) }
     ensures { Finished block.old o result block.new }
@@ -170,6 +171,7 @@ pub extern "C" fn raftershim_mailbox_bus_lines(block: &[u8], tobus: &[u16], tolo
 }
 
 // Where the oldest cell of a side's store is.
+// Kept: a side is C's number. Any other side shows nothing, so its start is never asked.
 fn start_of(s: State, side: u32) -> usize
     ensures { result ≡ place_of mailboxes side s }
 {

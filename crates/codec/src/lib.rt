@@ -16,6 +16,7 @@ pub fn read(b: &[u8], i: usize) -> usize
 }
 
 // The frame in two bytes of a block from i.
+// Kept: one for each size, since `from_le_bytes` is each type's own and no trait's.
 pub fn read16(b: &[u8], i: usize) -> u16
     requires { i + 1 < length b.now }
     ensures { result ≡ two.get b.now i }

@@ -2,7 +2,7 @@
 //! file stdin: the paper's examples that are run, and the slips that we have seen.
 #![tactic(auto)]
 
-ghost use Rattle.std.specs.Prelude.{◌≡◌, ◌<◌, [], length};
+ghost use Rattle.std.specs.Prelude.{◌<◌, length};
 
 use answers::{Answer, Refusal};
 use state::{Outcome, State};
@@ -52,7 +52,7 @@ fn replied(rt: &impl Print, s: State, reply: Result<Answer, Refusal>) -> io::Res
     Ok(s)
 }
 
-// The state after a call whose answer is printed; a refusal leaves the state that was there.
+// The state after a call whose answer is printed; a refusal leaves the one that is given here.
 fn answered(rt: &impl Print, was: State, call: Result<Outcome, Refusal>) -> io::Result<State> {
     match call {
         Ok(o) => replied(rt, o.state, Ok(o.answer)),
@@ -91,6 +91,7 @@ fn first_line(script: &[u8]) -> (&[u8], &[u8])
 }
 
 // The state after the call of a line, by the first letter of the line: c, r, l, b, n, t, f, a; any other line is a title.
+// Kept: a script names a call by its letter. Both stores are lent at every call.
 fn called(
     rt: &impl Print,
     s: State,

@@ -200,10 +200,10 @@ pub fn gone(s: State, tx: &[u8], o: Option<Next>) -> State
 {
     let mut t = s;
     match o {
-        Some(Next::Own(b)) => {
+        Some(Next::Own(_)) => {
             t.line.stopped = s.line.holding;
         }
-        Some(Next::Held(b)) => {
+        Some(Next::Held(_)) => {
             let left = store::drop_oldest(s.tx, 1);
             t.tx = left;
         }

@@ -172,6 +172,8 @@ fn pass_data(s: State, tx: &mut [u8], f: u16) -> Outcome
 }
 
 // A frame that is not refused.
+// Kept: the control bits are numbers, as the paper has them. What is done is written out beside the mailbox's, whose steps write another
+// state; and each kind settles by itself, since one settle behind the choice took more instructions.
 pub fn frame_taken(s: State, rx: &[u16], tx: &mut [u8], f: u16) -> Outcome
     requires rx_fits { RxFits s rx.now }
     requires tx_fits { TxFits s tx.old }

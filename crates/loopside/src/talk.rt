@@ -9,6 +9,8 @@ use registers::Registers;
 use state::{Counts, Outcome, State};
 
 // The ready frame 5,d ends our sending.
+// Kept beside its twin in mailloop: a trait over both states is longer than the lines that they share. 64 and 65 are the paper's frames
+// that end sending, 65 where a frame came back damaged.
 #[tactic(auto, unfolding(crate::specs::Sends::ended))]
 pub fn ended(s: State, d: u8) -> Outcome
     ensures { result ≡ ended s d }

@@ -6,6 +6,8 @@ use crate::VERSION;
 use mailstate::State;
 
 // The bytes of the version, the rings and the two frames.
+// Kept beside the twin in block: each row is a place of the packed block. All bytes stand in one list, so that those which stand together
+// are packed at once.
 pub fn packed_head(s: State) -> [u8; 17]
     ensures { result ≡ packed_head s }
 {

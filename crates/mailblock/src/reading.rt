@@ -27,6 +27,8 @@ fn way_at(b: &[u8; LENGTH], i: usize, j: usize) -> Way
 }
 
 // The talker on the loop in a block: its role and the frame under way.
+// Kept beside the twin in block: its numbers are the places of that block. A flag is read by its lowest bit, here and above, as the
+// definition reads it.
 fn talker_at(b: &[u8; LENGTH]) -> Talker
     ensures { result ≡ (state_at b.now).talker }
 {
@@ -88,20 +90,13 @@ fn bus_at(b: &[u8; LENGTH]) -> Bus
 pub fn unpack(b: &[u8; LENGTH]) -> State
     ensures { result ≡ unpacked b.now }
 {
-    let tobus = way_at(b, 1, 27);
-    let toloop = way_at(b, 7, 30);
-    let loopside = talker_at(b);
-    let source = b[21];
-    let hold = hold_at(b);
-    let response = response_at(b);
-    let busside = bus_at(b);
     State {
-        tobus,
-        toloop,
-        talker: loopside,
-        source,
-        hold,
-        response,
-        bus: busside,
+        tobus: way_at(b, 1, 27),
+        toloop: way_at(b, 7, 30),
+        talker: talker_at(b),
+        source: b[21],
+        hold: hold_at(b),
+        response: response_at(b),
+        bus: bus_at(b),
     }
 }

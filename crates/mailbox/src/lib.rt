@@ -97,6 +97,7 @@ fn left(s: State, toloop: &mut [u16], b: u8, mark: bool) -> Outcome
 }
 
 // The oldest cell that waits for the bus, or none.
+// Kept: state and store are two arguments, here and below, since both stores are lent at every call.
 fn data_given(s: State, tobus: &[u16]) -> Outcome
     requires { Fit tobus.now s.tobus.ring }
     ensures { result ≡ bus-side.data_given s tobus.now }

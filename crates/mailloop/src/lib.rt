@@ -143,6 +143,7 @@ fn identify(s: State, f: u16) -> Outcome
 }
 
 // The return of the frame under way.
+// Kept: state and store are two arguments, here and below, since both stores are lent at every call.
 #[tactic(auto, unfolding(crate::specs::Messages::judged))]
 fn back(s: State, toloop: &[u16], f: u16) -> Outcome
     requires { Fit toloop.now s.toloop.ring }

@@ -19,6 +19,7 @@ pub fn cell_of(f: u16) -> u16
 }
 
 // The frame of a cell: an end byte where it is marked.
+// Kept: here the mark is an end, and in crate reading it is a break.
 fn frame_of(c: u16) -> u16
     ensures { result ≡ frame_of c }
 {

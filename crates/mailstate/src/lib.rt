@@ -48,19 +48,14 @@ pub fn sizes_obeyed(address: u32, tobus: usize, toloop: usize) -> bool
 pub fn start(address: u8, tobus: usize, toloop: usize) -> State
     ensures { result ≡ start_state address tobus toloop }
 {
-    let one = way::empty(tobus);
-    let other = way::empty(toloop);
-    let loopside = talker::start();
-    let polled = polls::none();
-    let busside = bus::start(address);
     State {
-        tobus: one,
-        toloop: other,
-        talker: loopside,
+        tobus: way::empty(tobus),
+        toloop: way::empty(toloop),
+        talker: talker::start(),
         source: 0,
         hold: Hold::default(),
-        response: polled,
-        bus: busside,
+        response: polls::none(),
+        bus: bus::start(address),
     }
 }
 

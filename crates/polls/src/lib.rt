@@ -21,6 +21,7 @@ pub fn none() -> Response
 }
 
 // What the loop's enable message with the data byte d sets, d from 128 to 143.
+// Kept beside of_bus: the two codes differ in where the sense is.
 pub fn of_loop(d: u8) -> Response
     ensures { result ≡ loop_response d }
 {

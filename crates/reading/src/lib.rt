@@ -22,6 +22,7 @@ pub struct Item {
 }
 
 // What the oldest bytes decide: Removed takes two bytes and sends nothing, End three, Data one, Wait none.
+// Kept: to wait is one of the paper's decisions, so it is a case and no None.
 #[derive(Clone, Copy, PartialEq, Eq)]
 pub enum Decision {
     Removed,
@@ -31,7 +32,7 @@ pub enum Decision {
 }
 
 // What a cell stands for: its low eight bits are the byte, bit 8 says that a break follows, and the bits above do not count.
-// Kept: it is a function and no From, since the pages of what is promised name it beside its definition.
+// Kept: a function and no From, since a u16 is also a frame or a number, and the name says which is meant.
 pub fn item_of(cell: u16) -> Item
     ensures { result ≡ item_of cell }
 {
@@ -42,7 +43,6 @@ pub fn item_of(cell: u16) -> Item
 }
 
 // The cell with the mark of a break behind its byte, and nothing above it.
-// Kept: a function for the same reason.
 pub fn marked(cell: u16) -> u16
     ensures { result ≡ marked_cell cell }
 {
@@ -50,7 +50,7 @@ pub fn marked(cell: u16) -> u16
 }
 
 // The decision where the n oldest bytes are a, b, c: only the first n count, and more than three are as three.
-// Kept: three items and a count, and no slice of items, since the cells of a ring go round and no three of them need stand together.
+// Kept: three items and a count, no slice and no Options: the cells of a ring go round, and Options would be tested one by one at each step.
 pub fn decide(rule: Rule, n: usize, a: Item, b: Item, c: Item) -> Decision
     ensures { result ≡ decision rule (received (firsts n a b c)) }
 {

@@ -37,6 +37,7 @@ pub enum Contents {
 }
 
 // The registers after create and reset.
+// Kept: a function and no Default, here and in the other crates, since the start is promised by name, and most have sizes or numbers.
 #[tactic(auto, unfolding(crate::specs::Table::table, crate::specs::Table::row_in, crate::specs::Table::start_of, crate::specs::Table::start_registers))]
 pub fn start() -> Registers
     ensures { result ≡ start_registers }
@@ -87,6 +88,7 @@ fn too_large(k: Contents, v: u32) -> bool
 }
 
 // Whether a control value has a bit that is not among those carried.
+// Kept: bit by bit, as the paper says which bits are carried.
 #[tactic(auto, unfolding(crate::specs::Bits::bit_not_carried), using(crate::proofs::Wording::character_is))]
 fn bit_not_carried(k: Contents, v: u32) -> bool
     ensures { (n : ℕ) → Some k ≡ carries n → result ≡ bit_not_carried n v }
@@ -115,6 +117,7 @@ fn in_range(n: u32, x: u8) -> bool
 }
 
 // The new value for the register that is written, the old one for every other.
+// Kept: each field by itself, as the definition of a write has it.
 fn put(own: bool, v: u8, old: u8) -> u8
     ensures { result ≡ cond own v old }
 {

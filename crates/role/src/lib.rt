@@ -23,7 +23,7 @@ pub const SENDING_DATA: u8 = 2;
 pub const SENDING_STATUS: u8 = 3;
 
 // address: 0 to 30 as assigned, or UNASSIGNED. phase: one of the four above.
-// Kept: the phase is a number and no enum, since a caller can give a state with any number here, and a call must refuse it and not lose it.
+// Kept: both are numbers, no enum and no Option: a packed state may have any byte here, packs as it was read, and is refused if it does not fit.
 #[derive(Clone, Copy)]
 pub struct Role {
     pub address: u8,
@@ -32,6 +32,7 @@ pub struct Role {
 }
 
 // What a command asks of a device.
+// Kept: Nothing is an order too and no None, since every command makes an active talker merely addressed.
 #[derive(Clone, Copy, PartialEq, Eq)]
 pub enum Order {
     Unlisten,
@@ -48,6 +49,7 @@ pub enum Order {
 }
 
 // What a ready frame asks of a device.
+// Kept: Pass is what every device does with the frame, so it is a case and no None; what follows needs stores, which are not known here.
 #[derive(Clone, Copy)]
 pub enum Ready {
     Pass,
@@ -114,6 +116,7 @@ fn talk_order(a: u8, n: u8) -> Order
 }
 
 // The order in a command that has no address.
+// Kept: commands and ready frames are numbers, here and below, as the paper lists them.
 #[tactic(auto, unfolding(crate::specs::Orders::other_order))]
 fn other_order(listener: bool, d: u8) -> Order
     ensures { result ≡ other_order listener d }

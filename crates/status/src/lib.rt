@@ -5,6 +5,7 @@ ghost use Rattle.std.specs.Prelude.{◌≡◌, cond, ◌≤◌};
 ghost use Rattle.status.specs.Status.{status_byte, both, begins, acknowledged};
 
 // The seven conditions that can ask for service: which of them hold, or which are enabled.
+// Kept flat, in the order of the bits of the status byte, and with the paper's names: as bits of one byte they would lose them.
 #[derive(Clone, Copy)]
 pub struct Conditions {
     pub txempty: bool,
@@ -69,6 +70,7 @@ pub fn request_begins(b: Conditions, a: Conditions) -> bool
 }
 
 // What is still to be told when the status byte d has come back unchanged.
+// Kept beside what crate news does with its own bit: the two know nothing of each other.
 pub fn acknowledged(e: Events, again: Events, d: u8) -> Events
     ensures { result ≡ acknowledged e again d }
 {

@@ -8,7 +8,7 @@ ghost use Rattle.store.specs.Promises.{Offering, Put, Dropped, Spanned, Shown};
 
 use std::ops::Range;
 
-// The capacity, the place of the oldest byte, and how many bytes are held.
+// The capacity, the place of the oldest item, and how many are held.
 // Kept: that oldest and len are within cap is asked by each call and is no invariant of the type, since a caller can hand in any ring, and a call
 // of a product must refuse it.
 #[derive(Clone, Copy)]
@@ -18,7 +18,7 @@ pub struct Ring {
     pub len: usize,
 }
 
-// The answer to a byte offered: the ring after it, none where nothing went in, and the room that is left.
+// The answer to an item offered: the ring after it, none where nothing went in, and the room that is left.
 #[derive(Clone, Copy)]
 pub struct Offered {
     pub after: Option<Ring>,
@@ -42,7 +42,7 @@ pub fn ring_fits(cap: usize, r: Ring) -> bool
     (r.cap == cap) & (r.oldest < cap) & (r.len <= cap) & (cap <= 32768)
 }
 
-// A ring of this capacity that holds nothing and stores its first byte at place 0.
+// A ring of this capacity that holds nothing and stores its first item at place 0.
 pub fn emptied(cap: usize) -> Ring
     ensures { result ≡ empty_ring cap }
 {
@@ -53,7 +53,7 @@ pub fn emptied(cap: usize) -> Ring
     }
 }
 
-// How many bytes more a store takes.
+// How many items more a store takes.
 pub fn room(r: Ring) -> usize
     requires { Within r }
     ensures { result ≡ room r }
@@ -61,7 +61,7 @@ pub fn room(r: Ring) -> usize
     r.cap - r.len
 }
 
-// The place of the k-th oldest byte, from 0, and that of the next byte where k bytes are held.
+// The place of the k-th oldest item, from 0, and that of the next one where k are held.
 pub fn place_of(r: Ring, k: usize) -> usize
     requires within { Within r }
     requires k_le_len { k ≤ r.len }
@@ -70,7 +70,7 @@ pub fn place_of(r: Ring, k: usize) -> usize
     place(r.cap, r.oldest + k)
 }
 
-// What a byte offered finds: the ring after it, none where the store is full, and the room that is left.
+// What an item offered finds: the ring after it, none where the store is full, and the room that is left.
 pub fn offer(r: Ring) -> Offered
     requires { Within r }
     ensures { Offering r result }
@@ -91,7 +91,7 @@ pub fn offer(r: Ring) -> Offered
     }
 }
 
-// The ring without the n oldest bytes, which stay written where they are.
+// The ring without the n oldest items, which stay written where they are.
 #[tactic(auto, using(crate::proofs::Laws::drop_met))]
 pub fn drop_oldest(r: Ring, n: usize) -> Ring
     requires within { Within r }
@@ -105,7 +105,7 @@ pub fn drop_oldest(r: Ring, n: usize) -> Ring
     }
 }
 
-// The places of the longest unbroken run from the oldest byte.
+// The places of the longest unbroken run from the oldest item.
 pub fn unbroken(r: Ring) -> Range<usize>
     requires { Within r }
     ensures { Spanned r result }
@@ -114,6 +114,7 @@ pub fn unbroken(r: Ring) -> Range<usize>
 }
 
 // Stores b behind the newest item; a full store stays as it was.
+// Kept: functions and no methods, on a slice and a ring, as the pages of promises and the contracts of other crates name them.
 pub fn put<T: Copy>(s: &mut [T], r: Ring, b: T) -> Offered
     requires { Fit s.old r }
     ensures { Put s.old r b s.new result }

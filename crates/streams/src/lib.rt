@@ -9,6 +9,7 @@ use std::io::Read;
 
 // Fills the buffer from a stream, up to the buffer's end or the stream's, and says how many bytes were read: those stand first in the
 // buffer and are gone from the stream, and where there are fewer than there is room the stream is at its end.
+// Kept: it gives a count, so that the buffer stays the caller's.
 pub fn read_full<R: Read>(stream: &mut R, buffer: &mut [u8]) -> io::Result<usize>
     ensures bound { IfOk result (λ n. n ≤ length buffer.new) }
     ensures bytes { IfOk result (λ n. Consumes (R.remaining stream.old) (R.remaining stream.new) (take n buffer.new)) }

@@ -12,6 +12,7 @@ use itoa::Buffer;
 pub type Page = ArrayString<1200>;
 
 // Writes a number below 1,000 in decimal.
+// Kept: the room that each write needs is asked for, here and below, since a full page would cut the text off.
 #[tactic(auto, using(crate::proofs::Printing::short_number, crate::proofs::Printing::three_digits))]
 pub fn put_number(page: &mut Page, n: u16)
     requires { (n < 1000) × (length page.old.bytes + 3 ≤ 1200) }
