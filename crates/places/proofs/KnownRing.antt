@@ -12,7 +12,7 @@ use borrow.Author.Tests.{le-leb, lt-leb}
 use Rattle.branches.proofs.Branches.{split}
 use Rattle.store.specs.declared.Ring.{Ring}
 use Rattle.store.specs.declared.Offered.{Offered}
-use Rattle.std.specs.declared.ops.Range.{Range}
+use Rattle.store.specs.declared.Stretch.{Stretch}
 use Rattle.store.specs.Ring.{Within, Fit, wrap, held, run, full, put_bytes, drop_ring}
 use Rattle.store.specs.Promises.{Offering, Put, Dropped, Spanned, Shown}
 use Rattle.store.proofs.Laws.{wrap_low, wrap_high, held_at, held_length, run_part}
@@ -77,7 +77,7 @@ dropped r n o f h d = d.ring ∙ (λ i. record { cap = r.cap; oldest = place r n
 first_place : (r : Ring) → Within r → place_by by_remainder r 0 ≡ r.oldest
 first_place r f = let first : r.oldest + 0 ≡ r.oldest = omega arith in ap (λ (n : ℕ). n % r.cap) first ∙ mod-eq_of_lt f.oldest
 
-span : (r : Ring) (o : Range ℕ) → Within r → Spanned r o → (o.start ≡ place_by by_remainder r 0) × (o.end ≡ o.start + together r)
+span : (r : Ring) (o : Stretch) → Within r → Spanned r o → (o.start ≡ place_by by_remainder r 0) × (o.end ≡ o.start + together r)
 span r o f p = (p.start ∙ sym (first_place r f), omega (arith, p.size, p.order))
 
 -- a list that begins what is held

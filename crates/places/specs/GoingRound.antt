@@ -3,7 +3,7 @@
 use Rattle.std.specs.Prelude.{ℕ, zero, suc, ◌+◌, ◌-◌, ◌%◌, ◌≤◌, ◌<◌, min, ◌≡◌, Some, None, cond, List, [], ◌∷◌, leb, get_or, set}
 use Rattle.store.specs.declared.Ring.{Ring}
 use Rattle.store.specs.declared.Offered.{Offered}
-use Rattle.std.specs.declared.ops.Range.{Range}
+use Rattle.store.specs.declared.Stretch.{Stretch}
 use Rattle.store.specs.Ring.{Within, Fit, wrap, held}
 use Rattle.store.specs.Promises.{Put, Dropped, Spanned, Shown}
 use Rattle.cells.specs.Newest.{Replaced}
@@ -65,7 +65,7 @@ pub record Giving : Type 1 where
   pub Replaces : List ℕ → Ring → ℕ → List ℕ → Type 0
   pub Looks : List ℕ → Ring → ℕ → ℕ → Type 0
   pub Drops : Ring → ℕ → Ring → Type 0
-  pub Spans : Ring → Range ℕ → Type 0
+  pub Spans : Ring → Stretch → Type 0
   pub Shows : List ℕ → Ring → List ℕ → Type 0
 
 -- the law, wherever a call may be made: in a ring within its capacity, whose list has as many places, and of bytes that are held. Nothing is
@@ -76,7 +76,7 @@ pub record AsByRemainder (S : Giving) : Type 0 where
   pub replaced : (s : List ℕ) (r : Ring) (b : ℕ) (o : List ℕ) → Fit s r → 0 < r.len → S.Replaces s r b o → o ≡ replace_by by_remainder s r b
   pub look : (s : List ℕ) (r : Ring) (k o : ℕ) → Fit s r → k < r.len → S.Looks s r k o → o ≡ look_by by_remainder s r k
   pub dropped : (r : Ring) (n : ℕ) (o : Ring) → Within r → n ≤ r.len → S.Drops r n o → o ≡ drop_by by_remainder r n
-  pub span : (r : Ring) (o : Range ℕ) → Within r → S.Spans r o → (o.start ≡ place_by by_remainder r 0) × (o.end ≡ o.start + together r)
+  pub span : (r : Ring) (o : Stretch) → Within r → S.Spans r o → (o.start ≡ place_by by_remainder r 0) × (o.end ≡ o.start + together r)
   pub show : (s : List ℕ) (r : Ring) (o : List ℕ) → Fit s r → S.Shows s r o → o ≡ bytes_by by_remainder s r 0 (together r)
 
 -- and all that it gives is given, so that no call is left without an answer

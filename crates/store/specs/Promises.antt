@@ -1,7 +1,7 @@
 -- What each call of the store promises: first what fixes the result and every byte, then what callers use of it. Then what the store promises of
 -- the definitions that these name. The crates that carry frames know nothing else of it.
 use Rattle.std.specs.Prelude.{ℕ, ◌+◌, ◌-◌, ◌≤◌, ◌<◌, min, ◌≡◌, MatchOption, unwrap_or, List, [], ◌∷◌, ◌++◌, cond, length, take, drop}
-use Rattle.std.specs.declared.ops.Range.{Range}
+use Rattle.store.specs.declared.Stretch.{Stretch}
 use Rattle.store.specs.declared.Ring.{Ring}
 use Rattle.store.specs.declared.Offered.{Offered}
 use Rattle.store.specs.Ring.{Within, Fit, held, full, room, put_ring, put_bytes, puts_ring, puts_bytes, drop_ring, run}
@@ -28,7 +28,7 @@ pub record Dropped (r : Ring) (n : ℕ) (o : Ring) : Type 0 where
   pub holds : (s : List ℕ) → Fit s r → held s o ≡ drop n (held s r)
 
 -- the places of the part shown
-pub record Spanned (r : Ring) (o : Range ℕ) : Type 0 where
+pub record Spanned (r : Ring) (o : Stretch) : Type 0 where
   pub start : o.start ≡ r.oldest
   pub size : o.end - o.start ≡ min r.len (r.cap - r.oldest)
   pub order : o.start ≤ o.end

@@ -6,8 +6,6 @@ ghost use Rattle.std.specs.Prelude.{◌≡◌, ◌+◌, ◌≤◌, ◌<◌, get_
 ghost use Rattle.store.specs.Ring.{Within, Fit, fit_test, wrap, held, empty_ring, room};
 ghost use Rattle.store.specs.Promises.{Offering, Put, Dropped, Spanned, Shown};
 
-use std::ops::Range;
-
 // The capacity, the place of the oldest item, and how many are held.
 // Kept: that oldest and len are within cap is asked by each call and is no invariant of the type, since a caller can hand in any ring, and a call
 // of a product must refuse it.
@@ -23,6 +21,14 @@ pub struct Ring {
 pub struct Offered {
     pub after: Option<Ring>,
     pub room: usize,
+}
+
+// The places from start up to, and without, end.
+// Kept: no range of std's, and below no minimum of it, since a store names and calls nothing that could divide.
+#[derive(Clone, Copy)]
+pub struct Stretch {
+    pub start: usize,
+    pub end: usize,
 }
 
 // The place p, gone round by a comparison where it is past the last.
@@ -105,12 +111,22 @@ pub fn drop_oldest(r: Ring, n: usize) -> Ring
     }
 }
 
-// The places of the longest unbroken run from the oldest item.
-pub fn unbroken(r: Ring) -> Range<usize>
+// The longest unbroken run of places from that of the oldest item.
+pub fn unbroken(r: Ring) -> Stretch
     requires { Within r }
     ensures { Spanned r result }
 {
-    r.oldest..(r.oldest + r.len).min(r.cap)
+    if r.len <= r.cap - r.oldest {
+        Stretch {
+            start: r.oldest,
+            end: r.oldest + r.len,
+        }
+    } else {
+        Stretch {
+            start: r.oldest,
+            end: r.cap,
+        }
+    }
 }
 
 // Stores b behind the newest item; a full store stays as it was.
@@ -120,7 +136,7 @@ pub fn put<T: Copy>(s: &mut [T], r: Ring, b: T) -> Offered
     ensures { Put s.old r b s.new result }
 {
     let o = offer(r);
-    if o.after.is_some() {
+    if let Some(_) = o.after {
         s[place_of(r, r.len)] = b;
     }
     o
@@ -141,5 +157,6 @@ pub fn show<T>(s: &[T], r: Ring) -> &[T]
     requires { Fit s.now r }
     ensures { Shown s.now r result.now }
 {
-    &s[unbroken(r)]
+    let p = unbroken(r);
+    &s[p.start..p.end]
 }

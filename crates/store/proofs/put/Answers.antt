@@ -1,10 +1,10 @@
-use mathlib.Core.Path.{sym, ◌∙◌}
-use Rattle.store.proofs.Laws.{put_at, put_kept}
+use mathlib.Core.Path.{ap}
+use Rattle.std.specs.Prelude.{is_some}
+use Rattle.store.proofs.Laws.{put_at, put_kept, not_some}
 use Rattle.store.proofs.put.Goals as goal
 
-pub returns-then-is_some : goal.returns-then-is_some
-returns-then-is_some g c =
-    put_at _ _ _ _ _ c.requires c.offer-o.ensures (sym c.is_some.ensures ∙ c.if-is_some.true) c.place_of.ensures.0
+pub returns-in-Some : goal.returns-in-Some
+returns-in-Some g c = put_at _ _ _ _ _ c.requires c.offer-o.ensures (ap is_some c.in-Some.is) c.place_of.ensures.0
 
-pub returns-else-is_some : goal.returns-else-is_some
-returns-else-is_some g c = put_kept _ _ _ _ c.requires c.offer-o.ensures (sym c.is_some.ensures ∙ c.if-is_some.false)
+pub returns-in_default : goal.returns-in_default
+returns-in_default g c = put_kept _ _ _ _ c.requires c.offer-o.ensures (not_some _ c.in_default.not-Some)
