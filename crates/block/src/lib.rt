@@ -44,14 +44,15 @@ fn no_state() -> State
 }
 
 // The state that a block means: a block that is no state means one that fits no stores.
+// Kept: a slice and its length, and no array: a Result of a reference is laid out for 64 bits, and the module is compiled for chips of 32 too.
 pub fn meaning(b: &[u8]) -> State
     ensures { result ≡ meaning b.now }
 {
-    let Ok(block) = <&[u8; LENGTH]>::try_from(b) else {
-        return no_state();
-    };
-    if !testing::right(block) {
+    if b.len() != LENGTH {
         return no_state();
     }
-    reading::unpack(block)
+    if !testing::right(b) {
+        return no_state();
+    }
+    reading::unpack(b)
 }

@@ -1,8 +1,7 @@
 // The state that a block is read as.
-ghost use Rattle.std.specs.Prelude.{◌≡◌};
-ghost use Rattle.block.specs.Packed.{state_at, unpacked};
+ghost use Rattle.std.specs.Prelude.{◌≡◌, length};
+ghost use Rattle.block.specs.Packed.{block_len, state_at, unpacked};
 
-use crate::LENGTH;
 use registers::Registers;
 use role::Role;
 use role::remote::Remote;
@@ -11,7 +10,8 @@ use status::Events;
 use talker::{Talker, Under};
 
 // The registers in a block.
-fn registers_at(b: &[u8; LENGTH]) -> Registers
+fn registers_at(b: &[u8]) -> Registers
+    requires { length b.now ≡ block_len }
     ensures { result ≡ (state_at b.now).regs }
 {
     Registers {
@@ -32,7 +32,8 @@ fn registers_at(b: &[u8; LENGTH]) -> Registers
 // The talker in a block: its role and the frame under way.
 // Kept beside the twin in mailblock: its numbers are the places of that block. A flag is read by its lowest bit, here and below, as the
 // definition reads it.
-fn talker_at(b: &[u8; LENGTH]) -> Talker
+fn talker_at(b: &[u8]) -> Talker
+    requires { length b.now ≡ block_len }
     ensures { result ≡ (state_at b.now).talker }
 {
     Talker {
@@ -49,7 +50,8 @@ fn talker_at(b: &[u8; LENGTH]) -> Talker
 }
 
 // The remote flags in a block.
-fn remote_at(b: &[u8; LENGTH]) -> Remote
+fn remote_at(b: &[u8]) -> Remote
+    requires { length b.now ≡ block_len }
     ensures { result ≡ (state_at b.now).remote }
 {
     Remote {
@@ -59,7 +61,8 @@ fn remote_at(b: &[u8; LENGTH]) -> Remote
 }
 
 // The state of the line in a block.
-fn line_at(b: &[u8; LENGTH]) -> Line
+fn line_at(b: &[u8]) -> Line
+    requires { length b.now ≡ block_len }
     ensures { result ≡ (state_at b.now).line }
 {
     Line {
@@ -70,7 +73,8 @@ fn line_at(b: &[u8; LENGTH]) -> Line
 }
 
 // The notes in a block.
-fn notes_at(b: &[u8; LENGTH]) -> Notes
+fn notes_at(b: &[u8]) -> Notes
+    requires { length b.now ≡ block_len }
     ensures { result ≡ (state_at b.now).notes }
 {
     Notes {
@@ -89,7 +93,8 @@ fn notes_at(b: &[u8; LENGTH]) -> Notes
 }
 
 // The counts in a block.
-fn counts_at(b: &[u8; LENGTH]) -> Counts
+fn counts_at(b: &[u8]) -> Counts
+    requires { length b.now ≡ block_len }
     ensures { result ≡ (state_at b.now).counts }
 {
     Counts {
@@ -100,8 +105,8 @@ fn counts_at(b: &[u8; LENGTH]) -> Counts
 }
 
 // The state that the bytes of a block are read as.
-#[tactic(auto, unfolding(codec::specs::Blocks::unpacked))]
-pub fn unpack(b: &[u8; LENGTH]) -> State
+pub fn unpack(b: &[u8]) -> State
+    requires { length b.now ≡ block_len }
     ensures { result ≡ unpacked b.now }
 {
     let margin = codec::read(b, 1);

@@ -1,5 +1,4 @@
--- `Copied`, `Flags` and `Same` serve the proofs of the functions that pack and read blocks, `Laws` are the laws of blocks.
+-- `Copied` and `Same` serve the proofs of the functions that pack and read blocks, `Laws` are the laws of blocks.
 pub mod Copied
-pub mod Flags
 pub mod Same
 pub mod Laws

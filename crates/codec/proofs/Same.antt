@@ -6,7 +6,6 @@ use mathlib.Core.List.{List, [], ◌∷◌}
 use borrow.Author.Tests.{eq-eqb, ne_eqb, eqb-true}
 use lib.ListN.{length}
 use lib.Dec.{eqb}
-use Rattle.std.specs.Array.{IsWholeChunk}
 use Rattle.branches.proofs.Branches.{and_left, and_right, cond_true, cond_false}
 use Rattle.store.specs.Bytes.{Bytes}
 use Rattle.codec.specs.Standing.{At, at_self, at_all}
@@ -72,14 +71,3 @@ module _ {S : Type 0} (layout : Codec S) where
     pub means_none : t ≡ false → none ≡ meaning layout none b
     unfolding meaning
     means_none h = sym (cond_false (is_state layout b) (unpacked layout b) none (sym e ∙ h))
-
-  -- what a block means by its length and by the test of its bytes, where the tests saw it as an array
-  module _ (none : S) (b : List ℕ) where
-    pub right_means : (a : List ℕ) → IsWholeChunk b a layout.len → Bytes b → true ≡ layout.right a 0 → unpacked layout a ≡ meaning layout none b
-    right_means a k h r = rw k.same (means none b true (state_if_right b k.long h (subst (λ (xs : List ℕ). layout.right xs 0 ≡ true) k.same (sym r))) refl)
-
-    pub wrong_means : (a : List ℕ) → IsWholeChunk b a layout.len → false ≡ layout.right a 0 → none ≡ meaning layout none b
-    wrong_means a k r = means_none none b false (none_if_wrong b (subst (λ (xs : List ℕ). layout.right xs 0 ≡ false) k.same (sym r))) refl
-
-    pub other_means : (length b ≡ layout.len → ⊥) → none ≡ meaning layout none b
-    other_means h = means_none none b false (other_length b h) refl

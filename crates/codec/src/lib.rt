@@ -3,7 +3,7 @@
 
 ghost use Rattle.std.specs.Prelude.{◌≡◌, ◌++◌, ◌+◌, ◌<◌, length};
 ghost use Rattle.codec.specs.Codec.{two, four};
-ghost use Rattle.codec.specs.Parts.{ring_at, ring_bytes, flags_right};
+ghost use Rattle.codec.specs.Parts.{ring_at, ring_bytes, three_right};
 
 use store::Ring;
 
@@ -54,13 +54,13 @@ pub fn ring_bytes(r: Ring) -> [u8; 6]
     [cap[0], cap[1], oldest[0], oldest[1], len[0], len[1]]
 }
 
-// Whether these bytes are flags, each 1 or 0, and what stands before them is right. A fold tests them with no branch; `all` would have one at each.
-pub fn flags_right(flags: &[u8], before: bool) -> bool
-    ensures { result ≡ flags_right flags.now before }
+// Whether three flags of a block from i are each 1 or 0, and what stands before them is right.
+// Kept: no slice's iterator, which gives an Option of a reference: that is laid out for 64 bits, and the module is compiled for chips of 32 too.
+pub fn three_right(b: &[u8], i: usize, before: bool) -> bool
+    requires { i + 2 < length b.now }
+    ensures { result ≡ three_right b.now i before }
 {
-    flags
-        .iter()
-        .fold(before, |right, flag| (*flag <= 1) & right)
+    (b[i + 2] <= 1) & ((b[i + 1] <= 1) & ((b[i] <= 1) & before))
 }
 
 // Writes two parts over a block, one behind the other.

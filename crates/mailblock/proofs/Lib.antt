@@ -1,2 +1,3 @@
--- `Laws` are the laws of the block.
+-- `Tested` serves the proofs of the functions, `Laws` are the laws of the block.
+pub mod Tested
 pub mod Laws

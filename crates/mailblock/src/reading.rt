@@ -1,8 +1,7 @@
 // The state that a block is read as.
-ghost use Rattle.std.specs.Prelude.{◌≡◌, ◌+◌, ◌<◌};
-ghost use Rattle.mailblock.specs.Packed.{way_at, state_at, unpacked};
+ghost use Rattle.std.specs.Prelude.{◌≡◌, ◌+◌, ◌<◌, length};
+ghost use Rattle.mailblock.specs.Packed.{block_len, way_at, state_at, unpacked};
 
-use crate::LENGTH;
 use bus::Bus;
 use mailstate::{Hold, State};
 use news::News;
@@ -12,8 +11,8 @@ use talker::{Talker, Under};
 use way::Way;
 
 // A way in a block, its ring from i and its news from j.
-fn way_at(b: &[u8; LENGTH], i: usize, j: usize) -> Way
-    requires { (i + 5 < LENGTH) × (j + 2 < LENGTH) }
+fn way_at(b: &[u8], i: usize, j: usize) -> Way
+    requires { (i + 5 < length b.now) × (j + 2 < length b.now) }
     ensures { result ≡ way_at b.now i j }
 {
     Way {
@@ -29,7 +28,8 @@ fn way_at(b: &[u8; LENGTH], i: usize, j: usize) -> Way
 // The talker on the loop in a block: its role and the frame under way.
 // Kept beside the twin in block: its numbers are the places of that block. A flag is read by its lowest bit, here and above, as the
 // definition reads it.
-fn talker_at(b: &[u8; LENGTH]) -> Talker
+fn talker_at(b: &[u8]) -> Talker
+    requires { length b.now ≡ block_len }
     ensures { result ≡ (state_at b.now).talker }
 {
     Talker {
@@ -46,7 +46,8 @@ fn talker_at(b: &[u8; LENGTH]) -> Talker
 }
 
 // What is held back, in a block.
-fn hold_at(b: &[u8; LENGTH]) -> Hold
+fn hold_at(b: &[u8]) -> Hold
+    requires { length b.now ≡ block_len }
     ensures { result ≡ (state_at b.now).hold }
 {
     Hold {
@@ -57,7 +58,8 @@ fn hold_at(b: &[u8; LENGTH]) -> Hold
 }
 
 // The response to a poll of the loop, in a block.
-fn response_at(b: &[u8; LENGTH]) -> Response
+fn response_at(b: &[u8]) -> Response
+    requires { length b.now ≡ block_len }
     ensures { result ≡ (state_at b.now).response }
 {
     Response {
@@ -68,7 +70,8 @@ fn response_at(b: &[u8; LENGTH]) -> Response
 }
 
 // The device on the bus, in a block.
-fn bus_at(b: &[u8; LENGTH]) -> Bus
+fn bus_at(b: &[u8]) -> Bus
+    requires { length b.now ≡ block_len }
     ensures { result ≡ (state_at b.now).bus }
 {
     Bus {
@@ -86,17 +89,24 @@ fn bus_at(b: &[u8; LENGTH]) -> Bus
 }
 
 // The state that the bytes of a block are read as.
-#[tactic(auto, unfolding(codec::specs::Blocks::unpacked))]
-pub fn unpack(b: &[u8; LENGTH]) -> State
+pub fn unpack(b: &[u8]) -> State
+    requires { length b.now ≡ block_len }
     ensures { result ≡ unpacked b.now }
 {
+    let tobus = way_at(b, 1, 27);
+    let toloop = way_at(b, 7, 30);
+    let loopside = talker_at(b);
+    let source = b[21];
+    let hold = hold_at(b);
+    let response = response_at(b);
+    let busside = bus_at(b);
     State {
-        tobus: way_at(b, 1, 27),
-        toloop: way_at(b, 7, 30),
-        talker: talker_at(b),
-        source: b[21],
-        hold: hold_at(b),
-        response: response_at(b),
-        bus: bus_at(b),
+        tobus,
+        toloop,
+        talker: loopside,
+        source,
+        hold,
+        response,
+        bus: busside,
     }
 }

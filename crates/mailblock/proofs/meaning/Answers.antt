@@ -1,14 +1,22 @@
-use mathlib.Core.Path.{◌∙◌}
+use mathlib.Core.Path.{ap}
+use mathlib.Core.Bool.{not}
+use borrow.Author.Tests.{not-true, not-false}
 use native.Mathlib.Omega.{arith}
-use Rattle.codec.proofs.Same.{right_means, wrong_means, other_means}
+use mathlib.Core.Path.{refl, sym, ◌∙◌}
+use Rattle.codec.proofs.Same.{other_length, state_if_right, none_if_wrong, means, means_none}
 use Rattle.mailblock.specs.Packed.{layout}
 use Rattle.mailblock.proofs.meaning.Goals as goal
 
-pub returns-in_default : goal.returns-in_default
-returns-in_default c = c.no_state.ensures ∙ other_means layout _ _ c.in_default.ensures.1
+pub returns-then-b-ne-LENGTH : goal.returns-then-b-ne-LENGTH
+returns-then-b-ne-LENGTH c = c.no_state.ensures ∙ means_none layout _ _ _ (other_length layout _ c.if-b-ne-LENGTH.true) refl
 
 pub returns-then-not-right : goal.returns-then-not-right
-returns-then-not-right c = c.no_state-then-not-right.ensures ∙ wrong_means layout _ _ _ c.in-Ok.ensures.1 c.if-not-right.ensures
+returns-then-not-right c =
+    let b = c.args.b.now in
+    c.no_state-then-not-right.ensures ∙ means_none layout _ _ _ (none_if_wrong layout b (sym c.right.ensures ∙ not-true _ (ap not c.if-not-right.true))) refl
 
 pub returns : goal.returns
-returns c = c.unpack.ensures ∙ right_means layout _ _ _ c.in-Ok.ensures.1 (λ k. omega (arith, c.type_inv.b k)) c.if-not-right.ensures
+returns c =
+    let b = c.args.b.now in
+    let e = sym c.right.ensures ∙ not-false _ (ap not c.if-not-right.false) in
+    c.unpack.ensures ∙ means layout _ _ _ (state_if_right layout b c.if-b-ne-LENGTH.false (λ k. omega (arith, c.shared_slice_known-1.given k)) e) refl

@@ -1,7 +1,7 @@
-use mathlib.Core.Path.{◌∙◌}
-use native.Mathlib.Omega.{arith}
-use Rattle.codec.proofs.Flags.{flags_between}
+use Rattle.block.proofs.Tested.{right_met}
 use Rattle.block.proofs.testing.right.Goals as goal
 
 pub returns : goal.returns
-returns c = c.flags_right.ensures ∙ flags_between c.args.b.now 44 12 _ (omega arith)
+returns c =
+    right_met c.args.b.now c.three_right-line.ensures
+    c.three_right-seen.ensures c.three_right-again.ensures c.three_right.ensures

@@ -1,7 +1,7 @@
-use mathlib.Core.Path.{◌∙◌}
-use native.Mathlib.Omega.{arith}
-use Rattle.codec.proofs.Flags.{flags_between}
+use Rattle.mailblock.proofs.Tested.{right_met}
 use Rattle.mailblock.proofs.testing.right.Goals as goal
 
 pub returns : goal.returns
-returns c = c.flags_right.ensures ∙ flags_between c.args.b.now 26 15 _ (omega arith)
+returns c =
+    right_met c.args.b.now c.three_right-first.ensures c.three_right-second.ensures
+    c.three_right-third.ensures c.three_right-fourth.ensures c.three_right.ensures
