@@ -97,7 +97,7 @@ FINE = (
 
 def within(room, path, name, code):
     """A change that puts a line of code first into a function."""
-    head = re.search(rf"\bfn {name}\(.*?\n\{{\n", room.text(path), re.S).group(0)
+    head = re.search(rf"\bfn {name}(?:<[^>]*>)?\(.*?\n\{{\n", room.text(path), re.S).group(0)
     return path, head, head + f"    {code}\n"
 
 
