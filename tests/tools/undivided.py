@@ -113,8 +113,9 @@ def divided(room):
         (STORE, "place", "let q = (p + cap) / cap;", "place divides"),
         (STORE, "offer", "let mut q = r.len; q %= r.cap;", "offer takes a remainder"),
         (STORE, "drop_oldest", "let mut q = n; q /= 2;", "drop_oldest divides"),
-        (CELLS, "look", "let q = k / 2;", "look divides"),
-        (CELLS, "put", "let q = r.len % r.cap;", "put takes a remainder"),
+        (STORE, "look", "let q = k / 2;", "look divides"),
+        (STORE, "put", "let q = r.len % r.cap;", "put takes a remainder"),
+        (CELLS, "replace_newest", "let q = r.len % r.cap;", "replace_newest takes a remainder"),
     ):
         change = within(room, path, name, code)
         at = room.text(path).split(change[1])[0] + change[1]
@@ -140,7 +141,7 @@ def hidden(room):
 def away(room):
     """Calls and names that lead out of the stores, and functions that are elsewhere."""
     for code, said in AWAY:
-        room.finds(TOOL, f": put {said} is of no store\n", within(room, CELLS, "put", code))
+        room.finds(TOOL, f": put {said} is of no store\n", within(room, STORE, "put", code))
     for tree in BROUGHT:
         room.finds(TOOL, f"{CELLS}:1: {tree} is brought in, which is of no store\n", (CELLS, f"use {tree};\n" + room.text(CELLS)))
     room.finds(TOOL, "half names state::State, which", behind(room, CELLS, "\nfn half(s: state::State) -> u8 {\n    0\n}\n"))
