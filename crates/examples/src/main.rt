@@ -2,7 +2,7 @@
 //! file stdin: the paper's examples that are run, and the slips that we have seen.
 #![tactic(auto)]
 
-ghost use Rattle.std.specs.Prelude.{◌<◌, length};
+ghost use Rattle.std.specs.Prelude.{◌≤◌, ◌<◌, length, IfOk};
 
 use answers::{Answer, Refusal};
 use state::{Outcome, State};
@@ -168,7 +168,9 @@ fn play<'a>(
     script: &'a [u8],
     rx: &mut [u16],
     tx: &mut [u8],
-) -> io::Result<&'a [u8]> {
+) -> io::Result<&'a [u8]>
+    ensures { IfOk result (λ behind. length behind.now ≤ length script.now) }
+{
     let mut s = state::fitting::start(1, 4, 3);
     let mut rest = script;
     while !rest.is_empty() {
