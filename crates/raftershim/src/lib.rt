@@ -13,20 +13,25 @@ ghost use Rattle.raftershim.specs.CCalls.{lent, c_did, CPromised};
 use answers::Refusal;
 use state::Outcome;
 
-// Writes the state over the block, unless the call was refused, and gives the number of its answer, which tells this room, 0 where none is told; a
-// refusal is its number alone.
+// Writes the state over the block, and gives the number of the answer, which tells this room, 0 where none is told.
+fn written(block: &mut [u8], o: Outcome, room: u16) -> u64
+    requires { length block.old ≡ block_len }
+    ensures { (result ≡ word_with (said o.answer) room) × (block.new ≡ packed o.state) }
+{
+    block::pack(block, o.state);
+    answers::word_with(Ok(o.answer), room)
+}
+
+// The same of a call that tells no room, unless it was refused: a refusal is its number alone.
 // Kept beside its twin in cmailbox: the two pack states of two types, and only this one tells a room.
-fn finished(block: &mut [u8], o: Result<Outcome, Refusal>, room: u16) -> u64
+fn finished(block: &mut [u8], o: Result<Outcome, Refusal>) -> u64
     requires { OnOk o (length block.old ≡ block_len) }
     ensures { MatchResult o
-        (λ x. (result ≡ word_with (said x.answer) room) × (block.new ≡ packed x.state))
+        (λ x. (result ≡ word_with (said x.answer) 0) × (block.new ≡ packed x.state))
         (λ r. (result ≡ word (refused (number_of r))) × (block.new ≡ block.old)) }
 {
     match o {
-        Ok(given) => {
-            block::pack(block, given.state);
-            answers::word_with(Ok(given.answer), room)
-        }
+        Ok(given) => written(block, given, 0),
         Err(r) => answers::word_of(Err(r)),
     }
 }
@@ -50,7 +55,7 @@ pub extern "C" fn raftershim_create(block: &mut [u8], rx: &[u16], tx: &[u8], mar
         return answers::word_of(Err(Refusal::Sizes));
     }
     let o = bridge::create(rx, tx, margin as usize);
-    finished(block, o, 0)
+    finished(block, o)
 }
 
 // Resets the state.
@@ -62,7 +67,7 @@ pub extern "C" fn raftershim_reset(block: &mut [u8], rx: &[u16], tx: &[u8]) -> u
 {
     let s = block::meaning(block);
     let o = bridge::reset(s, rx, tx);
-    finished(block, o, 0)
+    finished(block, o)
 }
 
 // Writes a register.
@@ -80,7 +85,7 @@ pub extern "C" fn raftershim_write_register(
 {
     let s = block::meaning(block);
     let o = bridge::write_register(s, rx, tx, number, value);
-    finished(block, o, 0)
+    finished(block, o)
 }
 
 // Takes a byte that comes in from the line, and tells the room of the receive store.
@@ -92,8 +97,8 @@ pub extern "C" fn raftershim_line_byte(block: &mut [u8], rx: &mut [u16], tx: &[u
 {
     let s = block::meaning(block);
     match bridge::line_byte(s, rx, tx, byte) {
-        Ok(taken) => finished(block, Ok(taken.outcome), taken.room),
-        Err(r) => finished(block, Err(r), 0),
+        Ok(taken) => written(block, taken.outcome, taken.room),
+        Err(refusal) => answers::word_of(Err(refusal)),
     }
 }
 
@@ -106,7 +111,7 @@ pub extern "C" fn raftershim_break(block: &mut [u8], rx: &mut [u16], tx: &[u8]) 
 {
     let s = block::meaning(block);
     let o = bridge::take_break(s, rx, tx);
-    finished(block, o, 0)
+    finished(block, o)
 }
 
 // Takes a press of the MSRQ key.
@@ -118,7 +123,7 @@ pub extern "C" fn raftershim_key(block: &mut [u8], rx: &[u16], tx: &[u8]) -> u64
 {
     let s = block::meaning(block);
     let o = bridge::take_key(s, rx, tx);
-    finished(block, o, 0)
+    finished(block, o)
 }
 
 // Says which line byte is next, or none; nothing is written.
@@ -147,7 +152,7 @@ pub extern "C" fn raftershim_take_line_byte(
 {
     let s = block::meaning(block);
     let o = bridge::take_line_byte(s, rx, tx, byte);
-    finished(block, o, 0)
+    finished(block, o)
 }
 
 // Takes a loop frame, gives one, and tells the room of the transmit store.
@@ -164,8 +169,8 @@ pub extern "C" fn raftershim_loop_frame(
 {
     let s = block::meaning(block);
     match bridge::loop_frame(s, rx, tx, frame) {
-        Ok(given) => finished(block, Ok(given.outcome), given.room),
-        Err(r) => finished(block, Err(r), 0),
+        Ok(given) => written(block, given.outcome, given.room),
+        Err(refusal) => answers::word_of(Err(refusal)),
     }
 }
 
