@@ -43,10 +43,6 @@ module _ (r : Refusal) where
   unfolding is_byte
   refusal_no_byte = refl
 
-  pub refusal_unnamed : byte_in (said_by (Err r)) ≡ 0
-  unfolding byte_in
-  refusal_unnamed = refl
-
 -- a line byte is told, and which it is
 module _ (b : ℕ) where
   pub byte_told : is_byte (said_by (Ok (Byte b))) ≡ true

@@ -2,7 +2,7 @@
 #![tactic(auto)]
 
 ghost use Rattle.std.specs.Prelude.{◌≡◌, ◌<◌};
-ghost use Rattle.answers.specs.Answers.{refused, number_of, said_by};
+ghost use Rattle.answers.specs.Answers.{number_of, said_by};
 ghost use Rattle.answers.specs.Word.{word, word_with};
 
 // A call that is not refused answers no more than done, says that no byte is next, says a line byte, gives a frame, or, on the bus of a
@@ -64,18 +64,8 @@ impl From<Refusal> for u8 {
     }
 }
 
-// The number of a refusal that has this number, the paper's or any other, and tells this room.
-#[tactic(auto, unfolding(crate::specs::Word::word_with, crate::specs::Word::word, crate::specs::Word::kind_of, crate::specs::Word::value_of))]
-pub fn refusal_word(n: u8, room: u16) -> u64
-    ensures { result ≡ word_with (refused n) room }
-{
-    4294967296 * u64::from(room) + 262144 + u64::from(n)
-}
-
 // The number that an answer or a refusal is: its kind above 16 bits of value. The kinds are C's, and a byte and a cell have the same one.
-#[tactic(auto, unfolding(crate::specs::Answers::said,
-// A refusal is told with the room 0, which is none.
-crate::specs::Word::word_with, crate::specs::Word::word, crate::specs::Word::kind_of, crate::specs::Word::value_of),
+#[tactic(auto, unfolding(crate::specs::Answers::said, crate::specs::Word::word, crate::specs::Word::kind_of, crate::specs::Word::value_of),
 // A frame is the number that its parts make.
 using(crate::proofs::Word::whole_frame))]
 fn number(a: Result<Answer, Refusal>) -> u64
@@ -86,7 +76,7 @@ fn number(a: Result<Answer, Refusal>) -> u64
         Ok(Answer::Nothing) => 65536,
         Ok(Answer::Byte(b)) => 131072 + u64::from(b),
         Ok(Answer::Frame(f)) => 196608 + u64::from(f),
-        Err(r) => refusal_word(u8::from(r), 0),
+        Err(n) => 262144 + u64::from(u8::from(n)),
         Ok(Answer::Cell(c)) => 131072 + u64::from(c),
         Ok(Answer::Lines(n)) => 327680 + u64::from(n),
     }

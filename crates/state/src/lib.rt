@@ -34,8 +34,7 @@ pub struct Counts {
     pub sent: u32,
 }
 
-// The state goes into every call by value and comes back with the answer, and the caller keeps it; a refused call leaves the caller the one that
-// it gave. The rings record the stores' lengths.
+// The state goes into every call by value and comes back with the answer; the caller keeps it. The rings record the stores' lengths.
 #[derive(Clone, Copy)]
 pub struct State {
     pub margin: usize,
