@@ -23,7 +23,7 @@ fn written(block: &mut [u8], o: Outcome, room: u16) -> u64
 }
 
 // The same of a call that tells no room, unless it was refused: a refusal is its number alone.
-// Kept beside its twin in cmailbox: the two pack states of two types, and only this one tells a room.
+// Kept beside its twin in cmailbox: the two pack states of two types.
 fn finished(block: &mut [u8], o: Result<Outcome, Refusal>) -> u64
     requires { OnOk o (length block.old ≡ block_len) }
     ensures { MatchResult o
