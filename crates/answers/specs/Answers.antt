@@ -151,10 +151,14 @@ number_of refusal.HeldLine = 10
 number_of refusal.NotNext = 12
 number_of refusal.LargeCommand = 13
 
--- what a call says that answers or refuses
+-- what a call says that answers or refuses, where a refusal has this number
+abbrev pub said_as : {R : Type 0} → (R → ℕ) → Result Answer R → Said
+said_as number (Ok a) = said a
+said_as number (Err r) = refused (number r)
+
+-- the same where a refusal has the paper's number
 abbrev pub said_by : Result Answer Refusal → Said
-said_by (Ok a) = said a
-said_by (Err r) = refused (number_of r)
+said_by = said_as number_of
 
 -- the number of the refusal that a test finds, 0 where it finds none
 abbrev pub fault_in : {X : Type 0} → Result X Refusal → ℕ

@@ -1,5 +1,5 @@
-//! The bridge: a software HP-IL/RS-232 interface. The state goes in by value and comes back; both stores are lent at every call, the
-//! receive store as cells, each a byte and the mark of a break that follows it.
+//! The bridge: a software HP-IL/RS-232 interface. The state goes in by value, and comes back where the call is not refused; both stores are
+//! lent at every call, the receive store as cells, each a byte and the mark of a break that follows it.
 #![tactic(auto)]
 
 ghost use Rattle.std.specs.Prelude.{◌≡◌, [], ◌∷◌};

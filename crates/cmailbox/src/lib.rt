@@ -19,7 +19,7 @@ fn finished(block: &mut [u8], o: Result<Outcome, Refusal>) -> u64
     match o {
         Ok(done) => {
             mailblock::pack(block, done.state);
-            answers::word_of(Ok(done.answer))
+            answers::word_of::<Refusal>(Ok(done.answer))
         }
         Err(r) => answers::word_of(Err(r)),
     }
@@ -165,7 +165,7 @@ pub extern "C" fn raftershim_mailbox_bus_lines(block: &[u8], tobus: &[u16], tolo
 {
     let s = mailblock::meaning(block);
     match mailbox::bus_lines(s, tobus, toloop) {
-        Ok(shown) => answers::word_of(Ok(shown.answer)),
+        Ok(shown) => answers::word_of::<Refusal>(Ok(shown.answer)),
         Err(refusal) => answers::word_of(Err(refusal)),
     }
 }

@@ -62,6 +62,6 @@ ResetGivesStart =
     (λ s ss t. s.call ≡ on reset → taken s.answer ≡ true → ss ≡ [] →
     t.call ≡ create s.after.state.margin → taken t.answer ≡ true → t.after.state ≡ s.after.state)
 
--- what stands beside a refused create is no state: it fits no stores
+-- a refused create gives no state, and what the definition `unmade` has in the place of one fits no stores
 abbrev pub RefusedCreateFitsNothing : Type 0
 RefusedCreateFitsNothing = (m a b : ℕ) → sizes_obeyed m a b ≡ false → (x y : ℕ) → fits (start_state m a b) x y ≡ false

@@ -1,4 +1,5 @@
-//! The mailbox: a software HP-IL/HP-IB interface. The state goes in by value and comes back; both stores of cells are lent at every call.
+//! The mailbox: a software HP-IL/HP-IB interface. The state goes in by value, and comes back where the call is not refused; both stores of
+//! cells are lent at every call.
 #![tactic(auto, unfolding(
 // A call, and its refusals.
 crate::specs::Calls::step, crate::specs::Calls::checks, crate::specs::Calls::checks_on, crate::specs::Calls::refused_or,

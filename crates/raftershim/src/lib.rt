@@ -19,7 +19,7 @@ fn written(block: &mut [u8], o: Outcome, room: u16) -> u64
     ensures { (result ≡ word_with (said o.answer) room) × (block.new ≡ packed o.state) }
 {
     block::pack(block, o.state);
-    answers::word_with(Ok(o.answer), room)
+    answers::word_with::<Refusal>(Ok(o.answer), room)
 }
 
 // The same of a call that tells no room, unless it was refused: a refusal is its number alone.

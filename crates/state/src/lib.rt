@@ -34,7 +34,8 @@ pub struct Counts {
     pub sent: u32,
 }
 
-// The state goes into every call by value and comes back with the answer; the caller keeps it. The rings record the stores' lengths.
+// The state goes into every call by value, and comes back with the answer where the call is not refused; the caller keeps it. The rings
+// record the stores' lengths.
 #[derive(Clone, Copy)]
 pub struct State {
     pub margin: usize,
