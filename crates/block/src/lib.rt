@@ -26,13 +26,13 @@ pub fn block_len() -> usize
 
 // Writes the bytes of a state over a block.
 // Kept beside its twin in mailblock, as are the other parts here: no trait of ours can be of another crate's state, and closures
-// for each part are no plainer.
+// for each part are no plainer. The tail is packed first, by which the call takes less stack.
 pub fn pack(block: &mut [u8], s: State)
     requires { length block.old ≡ block_len }
     ensures { block.new ≡ packed s }
 {
-    let head = packing::packed_head(s);
     let tail = packing::packed_tail(s);
+    let head = packing::packed_head(s);
     codec::write_both(block, &head, &tail);
 }
 

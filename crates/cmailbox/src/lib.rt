@@ -3,24 +3,33 @@
 
 ghost use Rattle.std.specs.Prelude.{◌≡◌, not, length, eqb, OnOk};
 ghost use Rattle.boundary.specs.CCalls.{lent, c_did, place_of};
-ghost use Rattle.mailblock.specs.Packed.{block_len};
+ghost use Rattle.answers.specs.Answers.{said};
+ghost use Rattle.answers.specs.Word.{word};
+ghost use Rattle.mailblock.specs.Packed.{block_len, packed};
 ghost use Rattle.mailbox.specs.Calls.{create, show, on, reset, loop_frame, bus_command, bus_byte, bus_fetch, bus_clear, bus_lines};
 ghost use Rattle.cmailbox.specs.Mailbox.{mailboxes, CPromised, Finished};
 
 use answers::Refusal;
 use mailstate::{Outcome, State};
 
-// Writes the state over the block, unless the call was refused, and gives the answer's number.
-// Kept beside its twin in raftershim: it packs another state, and tells no room.
+// Writes the state over the block, and gives the answer's number, which is made first, by which the function takes less stack.
+// Kept beside its twin in raftershim, as the next is: it packs another state, and tells no room.
+fn written(block: &mut [u8], o: Outcome) -> u64
+    requires { length block.old ≡ block_len }
+    ensures { (result ≡ word (said o.answer)) × (block.new ≡ packed o.state) }
+{
+    let number = answers::word_of::<Refusal>(Ok(o.answer));
+    mailblock::pack(block, o.state);
+    number
+}
+
+// The same, unless the call was refused: a refusal is its number alone.
 fn finished(block: &mut [u8], o: Result<Outcome, Refusal>) -> u64
     requires { OnOk o (length block.old ≡ block_len) }
     ensures { Finished block.old o result block.new }
 {
     match o {
-        Ok(done) => {
-            mailblock::pack(block, done.state);
-            answers::word_of::<Refusal>(Ok(done.answer))
-        }
+        Ok(done) => written(block, done),
         Err(r) => answers::word_of(Err(r)),
     }
 }
@@ -67,8 +76,8 @@ pub extern "C" fn raftershim_mailbox_reset(block: &mut [u8], tobus: &[u16], tolo
 }
 
 // Takes a frame from the loop, and gives one.
+// Kept: what the call gave is written from here and not by `finished`, as in raftershim, by which this deepest call takes less stack.
 #[unsafe(no_mangle)]
-#[tactic(auto, using(crate::proofs::Finishing::may_finish, crate::proofs::Finishing::finished_met))]
 pub extern "C" fn raftershim_mailbox_loop_frame(
     block: &mut [u8],
     tobus: &mut [u16],
@@ -80,8 +89,10 @@ pub extern "C" fn raftershim_mailbox_loop_frame(
         (c_did result block.new tobus.new toloop.now) }
 {
     let s = mailblock::meaning(block);
-    let o = mailbox::loop_frame(s, tobus, toloop, frame);
-    finished(block, o)
+    match mailbox::loop_frame(s, tobus, toloop, frame) {
+        Ok(given) => written(block, given),
+        Err(refusal) => answers::word_of(Err(refusal)),
+    }
 }
 
 // Takes a command from the bus.

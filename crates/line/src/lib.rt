@@ -9,7 +9,7 @@ ghost use Rattle.line.specs.Breaks.{Marked};
 
 use answers::Answer;
 use registers::Registers;
-use state::{Counts, Line, Next, State};
+use state::{Line, Next, State};
 use store::Ring;
 
 // The state after a line byte, and the room that is left in the receive store.
@@ -28,17 +28,15 @@ fn is_go_or_stop(g: Registers, b: u8) -> bool
 }
 
 // Go permits our sending and stop forbids it.
+// Kept: the state is set in place, here, in `stored` and in `resume`: a struct update reads and writes each field by itself, by which a line byte
+// takes longer and a loop frame more stack.
 #[tactic(auto, unfolding(crate::specs::HoldingOff::flowed))]
 fn permitted(s: State, b: u8) -> State
     ensures { result ≡ flowed s b }
 {
-    State {
-        line: Line {
-            forbidden: b == s.regs.c05,
-            ..s.line
-        },
-        ..s
-    }
+    let mut t = s;
+    t.line.forbidden = b == s.regs.c05;
+    t
 }
 
 // The state after a byte stored, with the ring and the room that it left.
@@ -47,19 +45,12 @@ fn stored(s: State, ring: Ring, left: usize) -> State
     requires { left ≡ room ring }
     ensures { result ≡ stored_with s ring }
 {
-    State {
-        rx: ring,
-        line: Line {
-            holding: s.line.holding
-                | (registers::meanings::protocol_on(s.regs) & (left <= s.margin)),
-            ..s.line
-        },
-        counts: Counts {
-            stored: std::num::wrapping_add_u32(s.counts.stored, 1),
-            ..s.counts
-        },
-        ..s
-    }
+    let mut t = s;
+    t.rx = ring;
+    t.counts.stored = std::num::wrapping_add_u32(s.counts.stored, 1);
+    t.line.holding = s.line.holding
+        | (registers::meanings::protocol_on(s.regs) & (left <= s.margin));
+    t
 }
 
 // The state after a byte lost.
@@ -118,13 +109,9 @@ pub fn resume(s: State) -> State
     requires margin_bound { s.margin ≤ 1024 }
     ensures { result ≡ resumed s }
 {
-    State {
-        line: Line {
-            holding: s.line.holding & !(2 * s.margin <= store::room(s.rx)),
-            ..s.line
-        },
-        ..s
-    }
+    let mut t = s;
+    t.line.holding = s.line.holding & !(2 * s.margin <= store::room(s.rx));
+    t
 }
 
 // The state after a register write; writing R11 sets holding off afresh and lifts the other end's stop.

@@ -27,18 +27,19 @@ pub fn empty(cap: usize) -> Way
 }
 
 // Leaves the cell c; the first that waits is news. A full store stays as it was.
+// Kept: the way is set in place, here and in the next: one that is made of its parts is also copied by its parts, by which a loop frame takes
+// more stack.
 #[tactic(auto, using(crate::proofs::Parts::left_met))]
 pub fn leave(s: &mut [u16], w: Way, c: u16) -> Way
     requires { Fit s.old w.ring }
     ensures { Left s.old w c s.new result }
 {
-    let ring = store::put(s, w.ring, c).after.unwrap_or(w.ring);
-    let news = if w.ring.len == 0 {
-        news::came()
-    } else {
-        w.news
-    };
-    Way { ring, news }
+    let mut q = w;
+    q.ring = store::put(s, w.ring, c).after.unwrap_or(w.ring);
+    if w.ring.len == 0 {
+        q.news = news::came();
+    }
+    q
 }
 
 // The way without its oldest cell; where none is left nothing is told any more.
@@ -48,13 +49,12 @@ pub fn fetched(w: Way) -> Way
     requires le_len { 1 ≤ w.ring.len }
     ensures { result ≡ fetched w }
 {
-    let ring = store::drop_oldest(w.ring, 1);
-    let news = if w.ring.len == 1 {
-        news::none()
-    } else {
-        w.news
-    };
-    Way { ring, news }
+    let mut q = w;
+    q.ring = store::drop_oldest(w.ring, 1);
+    if w.ring.len == 1 {
+        q.news = news::none();
+    }
+    q
 }
 
 // The way with other news.
