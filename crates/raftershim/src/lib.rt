@@ -172,7 +172,7 @@ pub extern "C" fn raftershim_loop_frame(
     let s = block::meaning(block);
     match bridge::loop_frame(s, rx, tx, frame) {
         Ok(given) => written(block, given.outcome, given.room),
-        Err(reason) => answers::word_of(Err(reason)),
+        Err(refusal) => answers::word_of(Err(refusal)),
     }
 }
 
